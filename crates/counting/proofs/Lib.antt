@@ -1,0 +1,4 @@
+-- Laws of finite sums, tests, lists, searches and sorting, over any length.
+pub mod SumLaws
+pub mod TestLaws
+pub mod ListLaws

@@ -1,0 +1,1 @@
+// Mathematics only: sums, counts, sorting and searches over the numbers below n. No code.

@@ -1,0 +1,3 @@
+-- Why the promises hold.
+pub mod Computing
+pub mod LoadsHold

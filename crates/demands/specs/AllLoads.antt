@@ -1,0 +1,88 @@
+-- "Loads to try": those marked P, "gathered as a single statement over the whole list". To be read
+-- after LoadsToTry.
+use mathlib.Core.List.{List, [], _∷_, map}
+use mathlib.Core.Path.{_≡_}
+use Rattle.refusals.specs.declared.Checked.the-variants.{Good, Refused}
+use Rattle.refusals.specs.Refusals.{numberOf}
+use Rattle.load.specs.Check.{checkLoad}
+use Rattle.load_file.specs.Writing.{loadBytes}
+use Rattle.load_file.specs.Reading.{readLoad}
+use Rattle.schedule.specs.ScheduleFile.{scheduleBytes}
+use Rattle.lines.specs.Lines.{printed}
+use Rattle.demands.specs.Notation.{bytesOf, linesOf}
+use Rattle.demands.specs.LoadsToTry.{
+  answersFor,
+  glimpseAfter,
+  Sound,
+  Faulty,
+  accepted,
+  refused,
+}
+use Rattle.demands.specs.LoadA.{loadA}
+use Rattle.demands.specs.LoadB.{loadB, loadB9}
+use Rattle.demands.specs.LoadPhase.{loadPhase8, loadPhase7}
+use Rattle.demands.specs.SmallLoads.{loadUnequal, loadWaits0, loadEmpty}
+use Rattle.demands.specs.FaultyLoads.{loadB7, loadTwins, loadTwinsInOneBox}
+
+-- what is claimed of an acceptable load
+pub record SoundHolds (e : Sound) : Type 0 where
+  -- its file is read as that load
+  pub reads : readLoad (bytesOf (e .file)) ≡ accepted (e .load)
+  -- the load is written as that file
+  pub writes : loadBytes (e .load) ≡ bytesOf (e .file)
+  -- the check of the load in memory meets nothing
+  pub checks : checkLoad (e .load) ≡ Good
+  -- bound, row bounds, margins, verdict, starts, end and the check of the schedule are as stated
+  pub answered : answersFor (e .load) ≡ e .answers
+  -- and so are the moves looked at
+  pub seen : map (λ g. glimpseAfter (e .load) (g .moves)) (e .glimpses) ≡ e .glimpses
+  -- the schedule is written as that file
+  pub scheduled : scheduleBytes (e .answers .slots) ≡ bytesOf (e .schedule-file)
+  -- and the program prints those lines
+  pub prints : printed (bytesOf (e .file)) ≡ linesOf (e .lines)
+
+-- what is claimed of a load that is refused
+pub record FaultyHolds (e : Faulty) : Type 0 where
+  -- reading its file gives that refusal and the all-zero load
+  pub reads : readLoad (bytesOf (e .file)) ≡ refused (e .refusal)
+  -- the check of the load in memory gives it too
+  pub checks : checkLoad (e .load) ≡ Refused (e .refusal)
+  -- it has that number
+  pub numbered : numberOf (e .refusal) ≡ e .number
+  -- and the program prints it
+  pub prints : printed (bytesOf (e .file)) ≡ linesOf (e .lines)
+
+-- a load marked P
+pub data Entry : Type 0 where
+  sound : Sound → Entry
+  faulty : Faulty → Entry
+
+-- the loads marked P
+abbrev pub loadsToTry : List Entry
+loadsToTry =
+    sound loadA
+    ∷ sound loadB
+    ∷ sound loadB9
+    ∷ faulty loadB7
+    ∷ sound loadPhase8
+    ∷ sound loadPhase7
+    ∷ sound loadUnequal
+    ∷ sound loadWaits0
+    ∷ sound loadEmpty
+    ∷ faulty loadTwins
+    ∷ faulty loadTwinsInOneBox
+    ∷ []
+
+-- what is claimed of a load marked P
+abbrev pub Holds : Entry → Type 0
+Holds (sound e) = SoundHolds e
+Holds (faulty e) = FaultyHolds e
+
+-- every member of a list has P
+abbrev pub All : {A : Type 0} → (A → Type 0) → List A → Type 0
+All P [] = Unit {0}
+All P (a ∷ rest) = P a × All P rest
+
+-- what is claimed of all of them
+abbrev pub LoadsHold : Type 0
+LoadsHold = All Holds loadsToTry

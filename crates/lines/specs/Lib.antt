@@ -1,0 +1,2 @@
+-- What the program prints for a load file.
+pub mod Lines

@@ -1,0 +1,1 @@
+// What the program prints, as bytes. The call that makes it comes with its proof.

@@ -1,0 +1,65 @@
+-- What each public call's contract says: one relation a call, over what it takes and what it gives.
+-- To be read after Check.
+use Prim.Native.Nat.{ℕ, min}
+use mathlib.Core.Bool.{Bool, cond}
+use mathlib.Core.List.{List}
+use mathlib.Core.Path.{_≡_}
+use lib.Dec.{eqb, ltb}
+use lib.ListN.{getD}
+use Rattle.counting.specs.Sums.{anyTo}
+use Rattle.refusals.specs.declared.Checked.{Checked}
+use Rattle.load.specs.declared.Identifier.{Identifier}
+use Rattle.load.specs.declared.BoxNumber.{BoxNumber}
+use Rattle.load.specs.declared.Step.{Step}
+use Rattle.load.specs.declared.Window.{Window}
+use Rattle.load.specs.declared.Row.{Row}
+use Rattle.load.specs.declared.Load.{Load}
+use Rattle.load.specs.Load.{mostRows, rowAt, stepAt, windowAt, zeroRow, zeroLoad}
+use Rattle.load.specs.Check.{checkFields, checkStep, checkWindow, checkLoad}
+
+-- check_load(load): the first of 3 to 7, or Good
+abbrev pub CheckLoad : Load → Checked → Type 0
+CheckLoad load r = r ≡ checkLoad load
+
+-- check_fields(row): a row's own fields
+abbrev pub CheckFields : Row → Checked → Type 0
+CheckFields row r = r ≡ checkFields row
+
+-- check_step(row, j): the step at a place, past the last a step of zeros
+abbrev pub CheckStep : Row → ℕ → Checked → Type 0
+CheckStep row j r = r ≡ checkStep row j
+
+-- check_window(row, k): the window at a place, past the last a window of zeros
+abbrev pub CheckWindow : Row → ℕ → Checked → Type 0
+CheckWindow row k r = r ≡ checkWindow row k
+
+-- identifier_taken(identifiers, n, identifier): one of the first n, of at most 24, is that
+-- identifier
+abbrev pub IdentifierTaken : List Identifier → ℕ → Identifier → Bool → Type 0
+IdentifierTaken identifiers n identifier r =
+    r ≡ anyTo (λ k. eqb (getD identifiers k (record { 0 = 0 }) .0) (identifier .0)) (min n mostRows)
+
+-- box_taken(boxes, n, box_number): one of the first n, of at most 24, is that box number
+abbrev pub BoxTaken : List BoxNumber → ℕ → BoxNumber → Bool → Type 0
+BoxTaken boxes n box r =
+    r ≡ anyTo (λ k. eqb (getD boxes k (record { 0 = 0 }) .0) (box .0)) (min n mostRows)
+
+-- row_at(load, i): the row at a place, past the last the row of zeros
+abbrev pub RowAt : Load → ℕ → Row → Type 0
+RowAt load i r = r ≡ cond (ltb i mostRows) (rowAt load i) zeroRow
+
+-- step_at(row, j): the step at a place, past the last a step of zeros
+abbrev pub StepAt : Row → ℕ → Step → Type 0
+StepAt row j r = r ≡ stepAt row j
+
+-- window_at(row, k): the window at a place, past the last a window of zeros
+abbrev pub WindowAt : Row → ℕ → Window → Type 0
+WindowAt row k r = r ≡ windowAt row k
+
+-- zero_row(): the row of zeros
+abbrev pub ZeroRow : Row → Type 0
+ZeroRow r = r ≡ zeroRow
+
+-- zero_load(): the load of zeros
+abbrev pub ZeroLoad : Load → Type 0
+ZeroLoad r = r ≡ zeroLoad

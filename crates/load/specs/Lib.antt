@@ -1,0 +1,6 @@
+-- A load in memory: its parts, the view of it that the rules use, and the check with its numbers.
+pub mod Load
+pub mod View
+pub mod Faults
+pub mod Check
+pub mod Calls

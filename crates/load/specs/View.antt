@@ -1,0 +1,73 @@
+-- "A load": free and embedded steps and waits, and chains, over the view of a load that the rules
+-- use: functions of row and step, counted from 0. The view holds no identifier and no box number.
+-- To be read after Load.
+use Prim.Native.Nat.{ℕ, suc, _+_, _-_}
+use mathlib.Core.Bool.{Bool, _&&_, not}
+use mathlib.Core.List.{List}
+use lib.Dec.{eqb, leb, ltb}
+use lib.ListN.{take}
+use Rattle.counting.specs.Sums.{sumFrom, sumTo}
+use Rattle.counting.specs.Lists.{anyIn}
+use Rattle.load.specs.declared.Window.{Window}
+use Rattle.load.specs.declared.Load.{Load}
+use Rattle.load.specs.Load.{rowAt, stepAt, shown}
+
+-- a load, as functions of row and step
+pub record View : Type 0 where
+  -- how many rows there are
+  pub rows : ℕ
+  -- the phase and the deadline of a row
+  pub phase : ℕ → ℕ
+  pub deadline : ℕ → ℕ
+  -- how many steps a row has
+  pub steps : ℕ → ℕ
+  -- the cost of a row's step, and the wait that follows it
+  pub cost : ℕ → ℕ → ℕ
+  pub wait : ℕ → ℕ → ℕ
+  -- the windows of a row, whose steps are counted from 1
+  pub windows : ℕ → List Window
+
+-- the view of a load in memory
+unfoldable pub viewOf : Load → View
+viewOf load =
+    record {
+      rows = load .rows;
+      phase = λ i. rowAt load i .phase;
+      deadline = λ i. rowAt load i .deadline;
+      steps = λ i. rowAt load i .steps;
+      cost = λ i j. stepAt (rowAt load i) j .cost;
+      wait = λ i j. stepAt (rowAt load i) j .wait;
+      windows = λ i. take (rowAt load i .windows) (rowAt load i .window);
+    }
+
+-- costs, and the waits between them, of the steps from place a on and below place b
+unfoldable pub chain : (ℕ → ℕ) → (ℕ → ℕ) → ℕ → ℕ → ℕ
+chain cost wait a b = sumFrom cost a b + sumFrom wait a (b - 1)
+
+-- a step, counted from 1, is in a window
+abbrev pub inWindow : ℕ → Window → Bool
+inWindow step window = leb (window .first) step && leb step (window .last)
+
+-- a step is in a window, but not its first
+abbrev pub embeddedIn : ℕ → Window → Bool
+embeddedIn step window = inWindow step window && not (eqb step (window .first))
+
+-- step j of row i is embedded: in some window, but not its first
+unfoldable pub embedded : View → ℕ → ℕ → Bool
+embedded L i j = anyIn (embeddedIn (shown j)) (L .windows i)
+
+-- every other step is free
+abbrev pub isFree : View → ℕ → ℕ → Bool
+isFree L i j = ltb j (L .steps i) && not (embedded L i j)
+
+-- the wait after step j of row i is free as the step after it is
+abbrev pub freeWait : View → ℕ → ℕ → Bool
+freeWait L i j = isFree L i (suc j)
+
+-- the wait after step j of row i is embedded as the step after it is
+abbrev pub embeddedWait : View → ℕ → ℕ → Bool
+embeddedWait L i j = embedded L i (suc j)
+
+-- the steps in the whole load
+abbrev pub stepsInAll : View → ℕ
+stepsInAll L = sumTo (L .steps) (L .rows)

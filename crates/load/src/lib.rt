@@ -1,0 +1,40 @@
+// A load held in memory, by value. Identifiers and box numbers come from separate registers, so
+// each has a type of its own, and a row cannot be built with the two exchanged.
+
+// A logger's identifier, 1 to 4,294,967,295.
+pub struct Identifier(pub u32);
+
+// A box's number, 1 to 4,294,967,295.
+pub struct BoxNumber(pub u32);
+
+// A step: its cost, and the wait that follows it.
+pub struct Step {
+    pub cost: u16,
+    pub wait: u16,
+}
+
+// A window: its first and last step, counted from 1, and its limit.
+pub struct Window {
+    pub first: u8,
+    pub last: u8,
+    pub limit: u16,
+}
+
+// A row: `steps` of the places of `step` are used, and `windows` of those of `window`; the others
+// are zero.
+pub struct Row {
+    pub identifier: Identifier,
+    pub box_number: BoxNumber,
+    pub phase: u32,
+    pub deadline: u32,
+    pub steps: u8,
+    pub windows: u8,
+    pub step: [Step; 8],
+    pub window: [Window; 4],
+}
+
+// A load: `rows` of the places of `row` are used; the others are zero.
+pub struct Load {
+    pub rows: u8,
+    pub row: [Row; 24],
+}

@@ -1,0 +1,102 @@
+-- "Reading goes front to back and the first faulty record decides; inside a record 1, 2, 3 in field
+-- order, then 4, 5 for a row, 6, 7 for a window." To be read after Places. Rests on D1 to D8, D25
+-- and D29.
+use Prim.Native.Nat.{ℕ, _+_}
+use mathlib.Core.Bool.{Bool, not}
+use mathlib.Core.List.{List, [], _∷_, _++_}
+use lib.Dec.{eqb, ltb}
+use lib.ListN.{length}
+use Rattle.words.specs.LittleEndian.{byteAt, numberAt}
+use Rattle.refusals.specs.declared.Refusal.{Refusal}
+use Rattle.refusals.specs.declared.Refusal.the-variants.{FileShort, MarkDiffers}
+use Rattle.refusals.specs.declared.Refusal.the-variants.{OutOfRange, EndDiffers}
+use Rattle.refusals.specs.declared.Checked.{Checked}
+use Rattle.refusals.specs.declared.Checked.the-variants.{Good, Refused}
+use Rattle.refusals.specs.FirstMet.{firstMet, firstFault, firstFaultTo}
+use Rattle.load.specs.declared.Load.{Load}
+use Rattle.load.specs.Load.{mostRows, zeroLoad}
+use Rattle.load.specs.View.{viewOf, stepsInAll}
+use Rattle.load.specs.Faults.{rowTests, takenTests, stepTests, windowTests}
+use Rattle.load_file.specs.declared.Reading.{Reading}
+use Rattle.load_file.specs.Records.{
+  Kind,
+  headerKind,
+  rowKind,
+  stepKind,
+  windowKind,
+  endKind,
+  version,
+}
+use Rattle.load_file.specs.Places.{
+  stepsSaid,
+  windowsSaid,
+  stepPlace,
+  windowPlace,
+  rowFrom,
+  rowPlace,
+  rowsSaid,
+  loadIn,
+}
+
+-- a record that is due at a place: 1 where the file ends before or inside it, 2 where its mark
+-- differs
+abbrev pub dueTests : Kind → List ℕ → ℕ → List (Bool × Refusal)
+dueTests kind bs at =
+    (ltb (length bs) (at + kind .size), FileShort)
+    ∷ (not (eqb (byteAt bs at) (kind .mark₁)), MarkDiffers)
+    ∷ (not (eqb (byteAt bs (at + 1)) (kind .mark₂)), MarkDiffers)
+    ∷ []
+
+-- the header
+unfoldable pub headerTests : List ℕ → List (Bool × Refusal)
+headerTests bs =
+    dueTests headerKind bs 0
+    ++ (not (eqb (byteAt bs 2) version), MarkDiffers)
+    ∷ (ltb mostRows (rowsSaid bs), OutOfRange)
+    ∷ []
+
+-- step record j of the row at a place
+unfoldable pub stepFaultIn : List ℕ → ℕ → ℕ → Checked
+stepFaultIn bs at j =
+    firstMet (dueTests stepKind bs (stepPlace at j) ++ stepTests (rowFrom bs at) j)
+
+-- window record k of the row at a place
+unfoldable pub windowFaultIn : List ℕ → ℕ → ℕ → Checked
+windowFaultIn bs at k =
+    firstMet (dueTests windowKind bs (windowPlace bs at k) ++ windowTests (rowFrom bs at) k)
+
+-- row i, whose record stands at a place, with its steps and then its windows
+unfoldable pub rowFaultAt : List ℕ → ℕ → ℕ → Checked
+rowFaultAt bs i at =
+    firstFault
+    (firstMet
+    (dueTests rowKind bs at ++ rowTests (rowFrom bs at) ++ takenTests (loadIn bs) i (rowFrom bs at))
+    ∷ firstFaultTo (stepFaultIn bs at) (stepsSaid bs at)
+    ∷ firstFaultTo (windowFaultIn bs at) (windowsSaid bs at)
+    ∷ [])
+
+-- the end record: its count, and that no bytes follow
+unfoldable pub endTests : List ℕ → ℕ → List (Bool × Refusal)
+endTests bs at =
+    dueTests endKind bs at
+    ++ (not (eqb (numberAt 2 bs (at + 2)) (stepsInAll (viewOf (loadIn bs)))), EndDiffers)
+    ∷ (ltb (at + endKind .size) (length bs), EndDiffers)
+    ∷ []
+
+-- what a file is refused for: the first faulty record, front to back
+unfoldable pub fileFault : List ℕ → Checked
+fileFault bs =
+    firstFault
+    (firstMet (headerTests bs)
+    ∷ firstFaultTo (λ i. rowFaultAt bs i (rowPlace bs i)) (rowsSaid bs)
+    ∷ firstMet (endTests bs (rowPlace bs (rowsSaid bs)))
+    ∷ [])
+
+-- the load beside a finding: a refused reading gives the all-zero load
+abbrev pub loadBeside : Checked → Load → Load
+loadBeside Good load = load
+loadBeside (Refused refusal) load = zeroLoad
+
+-- what reading a file gives
+unfoldable pub readLoad : List ℕ → Reading
+readLoad bs = record { answer = fileFault bs; load = loadBeside (fileFault bs) (loadIn bs) }

@@ -1,0 +1,68 @@
+-- "Load file", the table: the mark that opens each record, how long the record is, and the bytes of
+-- each record.
+use Prim.Native.Nat.{ℕ}
+use mathlib.Core.List.{List, [], _∷_, _++_}
+use Rattle.words.specs.LittleEndian.{littleEndian}
+use Rattle.load.specs.declared.Step.{Step}
+use Rattle.load.specs.declared.Window.{Window}
+use Rattle.load.specs.declared.Row.{Row}
+
+-- a mark of two bytes, and how many bytes its record has, the mark counted
+pub record Kind : Type 0 where
+  pub mark₁ : ℕ
+  pub mark₂ : ℕ
+  pub size : ℕ
+
+-- 4C 44, version (1), row count (1)
+abbrev pub headerKind : Kind
+headerKind = record { mark₁ = 0x4C; mark₂ = 0x44; size = 4 }
+
+-- 52 57, identifier (4), box (4), phase (4), deadline (4), steps (1), windows (1)
+abbrev pub rowKind : Kind
+rowKind = record { mark₁ = 0x52; mark₂ = 0x57; size = 20 }
+
+-- 53 54, cost (2), wait (2)
+abbrev pub stepKind : Kind
+stepKind = record { mark₁ = 0x53; mark₂ = 0x54; size = 6 }
+
+-- 57 4E, first (1), last (1), limit (2)
+abbrev pub windowKind : Kind
+windowKind = record { mark₁ = 0x57; mark₂ = 0x4E; size = 6 }
+
+-- 45 4E, steps in the whole load (2)
+abbrev pub endKind : Kind
+endKind = record { mark₁ = 0x45; mark₂ = 0x4E; size = 4 }
+
+-- the version that files have
+abbrev pub version : ℕ
+version = 1
+
+-- a record: its mark, then its fields
+abbrev pub recordOf : Kind → List ℕ → List ℕ
+recordOf kind fields = kind .mark₁ ∷ kind .mark₂ ∷ fields
+
+-- the header of a load of so many rows
+abbrev pub headerRecord : ℕ → List ℕ
+headerRecord rows = recordOf headerKind (version ∷ rows ∷ [])
+
+-- a row's own record
+abbrev pub rowRecord : Row → List ℕ
+rowRecord row =
+    recordOf rowKind
+    (littleEndian 4 (row .identifier .0)
+    ++ littleEndian 4 (row .«box_number» .0)
+    ++ littleEndian 4 (row .phase)
+    ++ littleEndian 4 (row .deadline)
+    ++ row .steps ∷ row .windows ∷ [])
+
+-- a step's record
+abbrev pub stepRecord : Step → List ℕ
+stepRecord s = recordOf stepKind (littleEndian 2 (s .cost) ++ littleEndian 2 (s .wait))
+
+-- a window's record
+abbrev pub windowRecord : Window → List ℕ
+windowRecord w = recordOf windowKind (w .first ∷ w .last ∷ littleEndian 2 (w .limit))
+
+-- the end record of a load of so many steps
+abbrev pub endRecord : ℕ → List ℕ
+endRecord steps = recordOf endKind (littleEndian 2 steps)

@@ -1,0 +1,92 @@
+-- Laws of the first fault: Good means that every test fails, and the first fault stays the first whatever follows.
+use Prim.Native.Nat.{ℕ, zero, suc, _+_, _<_}
+use mathlib.Core.Bool.{Bool, true, false}
+use mathlib.Core.List.{List, [], _∷_, _++_}
+use mathlib.Core.Path.{_≡_, refl, ap₂}
+use native.Mathlib.Decide.{ℕ-discrete}
+use native.Mathlib.Numerals.{add-one}
+use native.Mathlib.Omega.{arith}
+use Rattle.refusals.specs.declared.Refusal.{Refusal}
+use Rattle.refusals.specs.declared.Checked.{Checked}
+use Rattle.refusals.specs.declared.Checked.the-variants.{Good, Refused}
+use Rattle.refusals.specs.FirstMet.{firstMet, andThen, firstFaultTo}
+
+-- what is Good is not refused
+pub good-refused : (c : Checked) (r : Refusal) → c ≡ Good → c ≡ Refused r → ⊥
+good-refused c r p q = let z : _≡_ {A = ℕ} 0 1 = cc in omega arith
+
+pub andThen-good-first : (a b : Checked) → andThen a b ≡ Good → a ≡ Good
+andThen-good-first Good b e = refl
+andThen-good-first (Refused r) b e = e
+
+pub andThen-good-second : (a b : Checked) → andThen a b ≡ Good → b ≡ Good
+andThen-good-second Good b e = e
+andThen-good-second (Refused r) b e = cc
+
+pub andThen-both : (a b : Checked) → a ≡ Good → b ≡ Good → andThen a b ≡ Good
+andThen-both a b p q = rw (p, q)
+
+-- one test that is not met, and the others
+pub firstMet-good-first : (t : Bool × Refusal) (ts : List (Bool × Refusal)) → firstMet (t ∷ ts) ≡ Good → t .0 ≡ false
+firstMet-good-first t ts e = go (t .0) refl e
+  where
+    go : (b : Bool) → t .0 ≡ b → firstMet (t ∷ ts) ≡ Good → b ≡ false
+    go false q h = refl
+    go true q h = absurd (good-refused (firstMet (t ∷ ts)) (t .1) h (rw q))
+
+pub firstMet-good-rest : (t : Bool × Refusal) (ts : List (Bool × Refusal)) → firstMet (t ∷ ts) ≡ Good
+    → firstMet ts ≡ Good
+firstMet-good-rest t ts e = let q : t .0 ≡ false = firstMet-good-first t ts e in rw q at e
+
+pub firstMet-both : (t : Bool × Refusal) (ts : List (Bool × Refusal)) → t .0 ≡ false → firstMet ts ≡ Good
+    → firstMet (t ∷ ts) ≡ Good
+firstMet-both t ts p q = rw (p, q)
+
+-- tests one behind the other
+pub firstMet-append : (ts us : List (Bool × Refusal)) → firstMet (ts ++ us) ≡ andThen (firstMet ts) (firstMet us)
+firstMet-append [] us = refl
+firstMet-append (t ∷ ts) us = go (t .0) refl (firstMet-append ts us)
+  where
+    go : (b : Bool) → t .0 ≡ b → firstMet (ts ++ us) ≡ andThen (firstMet ts) (firstMet us)
+        → firstMet (t ∷ ts ++ us) ≡ andThen (firstMet (t ∷ ts)) (firstMet us)
+    go true q h = rw q
+    go false q h = rw q h
+
+pub firstFaultTo-zero : (f : ℕ → Checked) → firstFaultTo f 0 ≡ Good
+unfolding firstFaultTo
+firstFaultTo-zero f = refl
+
+pub firstFaultTo-next : (f : ℕ → Checked) (n : ℕ) → firstFaultTo f (n + 1) ≡ andThen (firstFaultTo f n) (f n)
+unfolding firstFaultTo
+firstFaultTo-next f n = rw add-one
+
+pub firstFaultTo-ext : (f g : ℕ → Checked) (n : ℕ) → ((i : ℕ) → i < n → f i ≡ g i) → firstFaultTo f n ≡ firstFaultTo g n
+unfolding firstFaultTo
+firstFaultTo-ext f g zero h = refl
+firstFaultTo-ext f g (suc n) h = ap₂ andThen (firstFaultTo-ext f g n (λ i l. h i (omega arith))) (h n (omega arith))
+
+pub firstFaultTo-good : (f : ℕ → Checked) (n : ℕ) → firstFaultTo f n ≡ Good → (i : ℕ) → i < n → f i ≡ Good
+unfolding firstFaultTo
+firstFaultTo-good f zero h i l = absurd (omega arith)
+firstFaultTo-good f (suc n) h i l =
+    elim (ℕ-discrete i n) [
+      | yes e ↦ rw e (andThen-good-second (firstFaultTo f n) (f n) h)
+      | no e ↦ firstFaultTo-good f n (andThen-good-first (firstFaultTo f n) (f n) h) i (omega arith)
+    ]
+
+pub good-firstFaultTo : (f : ℕ → Checked) (n : ℕ) → ((i : ℕ) → i < n → f i ≡ Good) → firstFaultTo f n ≡ Good
+unfolding firstFaultTo
+good-firstFaultTo f zero h = refl
+good-firstFaultTo f (suc n) h =
+    andThen-both (firstFaultTo f n) (f n) (good-firstFaultTo f n (λ i l. h i (omega arith))) (h n (omega arith))
+
+-- the first fault decides: Good up to i, and refused there
+pub firstFaultTo-refused : (f : ℕ → Checked) (n i : ℕ) (r : Refusal) → i < n → firstFaultTo f i ≡ Good → f i ≡ Refused r
+    → firstFaultTo f n ≡ Refused r
+unfolding firstFaultTo
+firstFaultTo-refused f zero i r l h q = absurd (omega arith)
+firstFaultTo-refused f (suc n) i r l h q =
+    elim (ℕ-discrete i n) [
+      | yes e ↦ rw (let z : firstFaultTo f n ≡ Good = rw (← e) h in z) (rw (← e) q)
+      | no e ↦ rw (firstFaultTo-refused f n i r (omega arith) h q)
+    ]

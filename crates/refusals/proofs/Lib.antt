@@ -1,0 +1,3 @@
+-- Laws of the first fault, and sameness of results.
+pub mod FirstMetLaws
+pub mod CallLaws

@@ -1,0 +1,5 @@
+-- The refusals and their numbers, the order of tests, and what a refused call leaves.
+pub mod Refusals
+pub mod FirstMet
+pub mod Given
+pub mod Calls

@@ -1,0 +1,54 @@
+// What a call gives back when it does not do what it was asked: one refusal, with its number.
+ghost use Rattle.refusals.specs.Calls.{NumberOf};
+
+// The refusals, in the order of their numbers.
+pub enum Refusal {
+    FileShort,
+    MarkDiffers,
+    OutOfRange,
+    IdentifierTaken,
+    BoxTaken,
+    WindowSteps,
+    LimitBelowChain,
+    EndDiffers,
+    OutputShort,
+    StateShape,
+    ClockFull,
+    SlotCount,
+    NoSuchSlot,
+    SlotOverlaps,
+    SlotEarly,
+    WindowLate,
+    RowLate,
+}
+
+// What a check finds: nothing to refuse, or the refusal that comes first.
+pub enum Checked {
+    Good,
+    Refused(Refusal),
+}
+
+// Gives a refusal's number.
+pub fn number_of(refusal: Refusal) -> u32
+    ensures { λ r. ⌜ NumberOf refusal r ⌝ }
+{
+    match refusal {
+        Refusal::FileShort => 1,
+        Refusal::MarkDiffers => 2,
+        Refusal::OutOfRange => 3,
+        Refusal::IdentifierTaken => 4,
+        Refusal::BoxTaken => 5,
+        Refusal::WindowSteps => 6,
+        Refusal::LimitBelowChain => 7,
+        Refusal::EndDiffers => 8,
+        Refusal::OutputShort => 9,
+        Refusal::StateShape => 10,
+        Refusal::ClockFull => 11,
+        Refusal::SlotCount => 12,
+        Refusal::NoSuchSlot => 13,
+        Refusal::SlotOverlaps => 14,
+        Refusal::SlotEarly => 15,
+        Refusal::WindowLate => 16,
+        Refusal::RowLate => 17,
+    }
+}

@@ -1,0 +1,19 @@
+-- What each public call's contract says: one relation a call, over what it takes, what it gives,
+-- and what the lent bytes hold afterwards. Places past the end read as 0 and are not written.
+use Prim.Native.Nat.{ℕ}
+use mathlib.Core.List.{List}
+use mathlib.Core.Path.{_≡_}
+use lib.Seq.{sets}
+use Rattle.words.specs.LittleEndian.{byteAt, numberAt}
+
+-- byte_at(bs, at): the byte at a place
+abbrev pub ByteAt : List ℕ → ℕ → ℕ → Type 0
+ByteAt bs at r = r ≡ byteAt bs at
+
+-- number16_at(bs, at) and number32_at(bs, at): the number of 2 and of 4 bytes from a place on
+abbrev pub NumberAt : ℕ → List ℕ → ℕ → ℕ → Type 0
+NumberAt width bs at r = r ≡ numberAt width bs at
+
+-- overwrite(out, at, bytes): the output with the bytes in it from a place on
+abbrev pub Overwrite : List ℕ → ℕ → List ℕ → List ℕ → Type 0
+Overwrite out at bytes after = after ≡ sets out at bytes

@@ -1,0 +1,6 @@
+-- Numbers as bytes and as bits, over any width.
+pub mod LittleEndian
+pub mod LampWord
+pub mod TwosComplement
+pub mod Decimal
+pub mod Calls
