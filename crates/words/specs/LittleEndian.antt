@@ -1,6 +1,6 @@
 -- "Little-endian": the bytes of a number, lowest first, and the number that stands at a place of a
 -- list of bytes.
-use Prim.Native.Nat.{ℕ, zero, suc, _+_, _*_, _/_, _%_}
+use Prim.Native.Nat.{ℕ, zero, suc, _+_, _*_, _/_, _%_, _<_}
 use mathlib.Core.List.{List, [], _∷_}
 use lib.ListN.{getD}
 
@@ -17,3 +17,7 @@ byteAt bs at = getD bs at 0
 unfoldable pub numberAt : ℕ → List ℕ → ℕ → ℕ
 numberAt zero bs at = 0
 numberAt (suc width) bs at = byteAt bs at + 256 * numberAt width bs (at + 1)
+
+-- a list of bytes: each member is below 256
+abbrev pub Bytes : List ℕ → Type 0
+Bytes bs = (at : ℕ) → byteAt bs at < 256

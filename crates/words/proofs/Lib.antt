@@ -1,0 +1,2 @@
+-- Laws of numbers as bytes, over any width, and sameness of results.
+pub mod LittleEndianLaws
