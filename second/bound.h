@@ -1,0 +1,17 @@
+/* The bound and the margins, computed as the document says them: cut the load, add four terms. */
+#ifndef BOUND_H
+#define BOUND_H
+
+#include "load.h"
+
+/* Each row keeps its first m steps (all, if it has fewer) and then any embedded steps that
+   follow directly; the wait after its last kept step is dropped. */
+struct load cut_load(const struct load *load, unsigned m);
+
+/* Beside a refusal (3 to 7) each of these gives 0, or no for the verdict. */
+enum refusal bound_of(const struct load *load, uint32_t *bound);
+enum refusal row_bounds_of(const struct load *load, uint32_t bounds[MOST_ROWS]);
+enum refusal margins_of(const struct load *load, int32_t margins[MOST_ROWS]);
+enum refusal verdict_of(const struct load *load, bool *yes);
+
+#endif

@@ -1,0 +1,198 @@
+#include "load_file.h"
+
+#include <string.h>
+
+#include "little_endian.h"
+
+enum { VERSION = 1, MARK_BYTES = 2 };
+
+static const uint8_t HEADER_MARK[MARK_BYTES] = {0x4C, 0x44};
+static const uint8_t ROW_MARK[MARK_BYTES] = {0x52, 0x57};
+static const uint8_t STEP_MARK[MARK_BYTES] = {0x53, 0x54};
+static const uint8_t WINDOW_MARK[MARK_BYTES] = {0x57, 0x4E};
+static const uint8_t END_MARK[MARK_BYTES] = {0x45, 0x4E};
+
+struct reader {
+    const uint8_t *bytes;
+    size_t length;
+    size_t at;
+};
+
+/* The next record's fields, once it is whole (1) and bears its mark (2). A record's length
+   is asked before anything in it, so a short one is 1 whatever its bytes say. */
+static enum refusal take_record(struct reader *reader, size_t size, const uint8_t *mark,
+                                const uint8_t **fields)
+{
+    if (reader->length - reader->at < size)
+        return FILE_SHORT;
+    const uint8_t *record = reader->bytes + reader->at;
+    if (memcmp(record, mark, MARK_BYTES) != 0)
+        return MARK_DIFFERS;
+    *fields = record + MARK_BYTES;
+    reader->at += size;
+    return ACCEPTED;
+}
+
+static enum refusal read_header(struct reader *reader, struct load *load)
+{
+    const uint8_t *fields;
+    enum refusal refusal = take_record(reader, HEADER_BYTES, HEADER_MARK, &fields);
+    if (refusal != ACCEPTED)
+        return refusal;
+    if (fields[0] != VERSION)
+        return MARK_DIFFERS;
+    if (fields[1] > MOST_ROWS)
+        return OUT_OF_RANGE;
+    load->row_count = fields[1];
+    return ACCEPTED;
+}
+
+static enum refusal read_row_record(struct reader *reader, struct load *load, unsigned row)
+{
+    const uint8_t *fields;
+    enum refusal refusal = take_record(reader, ROW_BYTES, ROW_MARK, &fields);
+    if (refusal != ACCEPTED)
+        return refusal;
+    struct row *place = &load->rows[row - 1];
+    place->identifier.number = get_4(fields);
+    place->box.number = get_4(fields + 4);
+    place->phase = get_4(fields + 8);
+    place->deadline = get_4(fields + 12);
+    place->step_count = fields[16];
+    place->window_count = fields[17];
+    return check_row_record(load, row);
+}
+
+static enum refusal read_step(struct reader *reader, struct row *row, unsigned step)
+{
+    const uint8_t *fields;
+    enum refusal refusal = take_record(reader, STEP_BYTES, STEP_MARK, &fields);
+    if (refusal != ACCEPTED)
+        return refusal;
+    row->steps[step - 1] = (struct step){get_2(fields), get_2(fields + 2)};
+    return check_step_record(row, step);
+}
+
+static enum refusal read_window(struct reader *reader, struct row *row, unsigned window)
+{
+    const uint8_t *fields;
+    enum refusal refusal = take_record(reader, WINDOW_BYTES, WINDOW_MARK, &fields);
+    if (refusal != ACCEPTED)
+        return refusal;
+    row->windows[window - 1] = (struct window){fields[0], fields[1], get_2(fields + 2)};
+    return check_window_record(row, window);
+}
+
+/* A row record with its steps and then its windows. */
+static enum refusal read_row(struct reader *reader, struct load *load, unsigned row)
+{
+    struct row *place = &load->rows[row - 1];
+    enum refusal refusal = read_row_record(reader, load, row);
+    for (unsigned step = 1; refusal == ACCEPTED && step <= place->step_count; step++)
+        refusal = read_step(reader, place, step);
+    for (unsigned window = 1; refusal == ACCEPTED && window <= place->window_count; window++)
+        refusal = read_window(reader, place, window);
+    return refusal;
+}
+
+static enum refusal read_end(struct reader *reader, const struct load *load)
+{
+    const uint8_t *fields;
+    enum refusal refusal = take_record(reader, END_BYTES, END_MARK, &fields);
+    if (refusal != ACCEPTED)
+        return refusal;
+    if (get_2(fields) != steps_of(load) || reader->at != reader->length)
+        return END_DIFFERS;
+    return ACCEPTED;
+}
+
+enum refusal read_load(const uint8_t *bytes, size_t length, struct load *load)
+{
+    struct reader reader = {bytes, length, 0};
+    *load = (struct load){0};
+    enum refusal refusal = read_header(&reader, load);
+    for (unsigned row = 1; refusal == ACCEPTED && row <= load->row_count; row++)
+        refusal = read_row(&reader, load, row);
+    if (refusal == ACCEPTED)
+        refusal = read_end(&reader, load);
+    if (refusal != ACCEPTED)
+        *load = (struct load){0};
+    return refusal;
+}
+
+size_t load_bytes(const struct load *load)
+{
+    size_t bytes = HEADER_BYTES + END_BYTES;
+    for (unsigned row = 1; row <= load->row_count; row++)
+        bytes += ROW_BYTES + (size_t)row_of(load, row)->step_count * STEP_BYTES
+            + (size_t)row_of(load, row)->window_count * WINDOW_BYTES;
+    return bytes;
+}
+
+enum refusal write_load(const struct load *load, uint8_t *bytes, size_t room, size_t *written)
+{
+    *written = 0;
+    enum refusal refusal = check_load(load);
+    if (refusal != ACCEPTED)
+        return refusal;
+    if (room < load_bytes(load))
+        return OUTPUT_SHORT;
+    put_load(bytes, load);
+    *written = load_bytes(load);
+    return ACCEPTED;
+}
+
+static uint8_t *put_mark(uint8_t *at, const uint8_t *mark)
+{
+    memcpy(at, mark, MARK_BYTES);
+    return at + MARK_BYTES;
+}
+
+uint8_t *put_header(uint8_t *at, uint8_t row_count)
+{
+    return put_1(put_1(put_mark(at, HEADER_MARK), VERSION), row_count);
+}
+
+uint8_t *put_row(uint8_t *at, const struct row *row)
+{
+    at = put_mark(at, ROW_MARK);
+    at = put_4(at, row->identifier.number);
+    at = put_4(at, row->box.number);
+    at = put_4(at, row->phase);
+    at = put_4(at, row->deadline);
+    return put_1(put_1(at, row->step_count), row->window_count);
+}
+
+uint8_t *put_step(uint8_t *at, const struct step *step)
+{
+    return put_2(put_2(put_mark(at, STEP_MARK), step->cost), step->wait);
+}
+
+uint8_t *put_window(uint8_t *at, const struct window *window)
+{
+    at = put_1(put_1(put_mark(at, WINDOW_MARK), window->first), window->last);
+    return put_2(at, window->limit);
+}
+
+uint8_t *put_end(uint8_t *at, uint16_t steps)
+{
+    return put_2(put_mark(at, END_MARK), steps);
+}
+
+static uint8_t *put_row_with_parts(uint8_t *at, const struct row *row)
+{
+    at = put_row(at, row);
+    for (unsigned step = 1; step <= row->step_count; step++)
+        at = put_step(at, step_of(row, step));
+    for (unsigned window = 1; window <= row->window_count; window++)
+        at = put_window(at, window_of(row, window));
+    return at;
+}
+
+uint8_t *put_load(uint8_t *at, const struct load *load)
+{
+    at = put_header(at, load->row_count);
+    for (unsigned row = 1; row <= load->row_count; row++)
+        at = put_row_with_parts(at, row_of(load, row));
+    return put_end(at, (uint16_t)steps_of(load));
+}

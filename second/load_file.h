@@ -1,0 +1,39 @@
+/* Load files: bytes to a load or a number (1 to 8), and a load to bytes (3 to 7, then 9). */
+#ifndef LOAD_FILE_H
+#define LOAD_FILE_H
+
+#include <stddef.h>
+
+#include "load.h"
+
+enum {
+    HEADER_BYTES = 4,
+    ROW_BYTES = 20,
+    STEP_BYTES = 6,
+    WINDOW_BYTES = 6,
+    END_BYTES = 4,
+    MOST_LOAD_BYTES = HEADER_BYTES + END_BYTES
+        + MOST_ROWS * (ROW_BYTES + MOST_STEPS * STEP_BYTES + MOST_WINDOWS * WINDOW_BYTES)
+};
+
+/* A refused file gives the all-zero load. */
+enum refusal read_load(const uint8_t *bytes, size_t length, struct load *load);
+
+/* The length of this load's own file. */
+size_t load_bytes(const struct load *load);
+
+/* On a refusal no byte is written and `written` is 0; bytes past the file stay. */
+enum refusal write_load(const struct load *load, uint8_t *bytes, size_t room, size_t *written);
+
+/* Single records, unchecked; each gives the place after it. A row's steps and windows are
+   records of their own and are not put by put_row. */
+uint8_t *put_header(uint8_t *at, uint8_t row_count);
+uint8_t *put_row(uint8_t *at, const struct row *row);
+uint8_t *put_step(uint8_t *at, const struct step *step);
+uint8_t *put_window(uint8_t *at, const struct window *window);
+uint8_t *put_end(uint8_t *at, uint16_t steps);
+
+/* A load's records without its check, for a load whose counts fit its places. */
+uint8_t *put_load(uint8_t *at, const struct load *load);
+
+#endif

@@ -1,0 +1,27 @@
+/* Numbers given back: the document's table, in its order. Nothing else in the program
+   writes these numbers as numerals. */
+#ifndef NUMBERS_H
+#define NUMBERS_H
+
+enum refusal {
+    ACCEPTED = 0,
+    FILE_SHORT = 1,
+    MARK_DIFFERS = 2,
+    OUT_OF_RANGE = 3,
+    IDENTIFIER_TAKEN = 4,
+    BOX_TAKEN = 5,
+    WINDOW_STEPS = 6,
+    LIMIT_BELOW_CHAIN = 7,
+    END_DIFFERS = 8,
+    OUTPUT_SHORT = 9,
+    STATE_SHAPE = 10,
+    CLOCK_FULL = 11,
+    SLOT_COUNT = 12,
+    NO_SUCH_SLOT = 13,
+    SLOT_OVERLAPS = 14,
+    SLOT_EARLY = 15,
+    WINDOW_LATE = 16,
+    ROW_LATE = 17
+};
+
+#endif

@@ -1,0 +1,177 @@
+/* The second program of the reading bench: loads in, answers out, to be compared. */
+#include <stdio.h>
+#include <string.h>
+
+#include "lent.h"
+#include "load_file.h"
+#include "notation.h"
+#include "report.h"
+#include "values.h"
+
+enum { GOOD = 0, CANNOT = 2, NOTATION_ROOM = 1 << 18 };
+
+/* One byte more than a load file can have: a longer input is then refused like any other. */
+struct load_input {
+    size_t length;
+    uint8_t bytes[MOST_LOAD_BYTES + 1];
+};
+
+static const char HELP[] =
+    "second report            a load file on standard input: prints its report\n"
+    "second answers FILE...   a line for each load file: its number, and where it is 0\n"
+    "                         bound N verdict yes|no margins N... end N slots START,ROW,STEP...\n"
+    "second values            a load file on standard input: its records in hex and every number\n"
+    "second schedule          a load file on standard input: writes its schedule file\n"
+    "second check FILE        `slot START ROW STEP` lines on standard input: prints the number\n"
+    "                         the check gives them against the load file, 0 for yes\n"
+    "second move FILE         a state on standard input, CLOCK and then FINISHED END OPENING for\n"
+    "                         each row (numbers not there are 0): prints the move and the state\n"
+    "second load              rows as text on standard input: writes a load file, unchecked\n"
+    "\n"
+    "A row as text, one line each:\n"
+    "    ID BOX PHASE DEADLINE : COST wWAIT COST ... : FIRST-LAST<=LIMIT ...\n"
+    "A wait not written is 0; the second colon may be left out when there are no windows.\n"
+    "Empty lines and lines that begin with # are skipped. Any number that fits its field's\n"
+    "bytes is written, so faulty files can be made. Load B:\n"
+    "    101 201 0 1000000 : 2 w4 2 : 1-2<=8\n"
+    "    102 202 0 1000000 : 3\n"
+    "    103 203 0 1000000 : 2 w1 1 : 1-2<=6\n";
+
+static int cannot(const char *what)
+{
+    fprintf(stderr, "second: %s\n", what);
+    return CANNOT;
+}
+
+/* A failed read counts as the input's end. */
+static void take_input(FILE *file, struct load_input *input)
+{
+    input->length = fread(input->bytes, 1, sizeof input->bytes, file);
+}
+
+static bool take_file(const char *name, struct load_input *input)
+{
+    FILE *file = fopen(name, "rb");
+    if (file == NULL)
+        return false;
+    take_input(file, input);
+    fclose(file);
+    return true;
+}
+
+static int report_input(void)
+{
+    struct load_input input;
+    take_input(stdin, &input);
+    print_report(stdout, input.bytes, input.length);
+    return GOOD;
+}
+
+static int values_of_input(void)
+{
+    struct load_input input;
+    take_input(stdin, &input);
+    print_values(stdout, input.bytes, input.length);
+    return GOOD;
+}
+
+static int answer_files(int count, char **names)
+{
+    struct load_input input;
+    for (int at = 0; at < count; at++) {
+        if (!take_file(names[at], &input))
+            return cannot("a load file cannot be opened");
+        print_answers(stdout, input.bytes, input.length);
+    }
+    return GOOD;
+}
+
+static int write_load_text(void)
+{
+    uint8_t bytes[NOTATION_ROOM];
+    size_t written;
+    unsigned long line = write_notation(stdin, bytes, sizeof bytes, &written);
+    if (line != 0) {
+        fprintf(stderr, "second: line %lu is not a row in the notation\n", line);
+        return CANNOT;
+    }
+    fwrite(bytes, 1, written, stdout);
+    return GOOD;
+}
+
+static int write_input_schedule(void)
+{
+    struct load_input input;
+    struct load load;
+    uint8_t bytes[MOST_SCHEDULE_BYTES];
+    size_t written = 0;
+    take_input(stdin, &input);
+    enum refusal refusal = read_load(input.bytes, input.length, &load);
+    if (refusal == ACCEPTED) {
+        struct run run = run_of(&load);
+        refusal = write_schedule(run.slots, run.slot_count, bytes, sizeof bytes, &written);
+    }
+    fwrite(bytes, 1, written, stdout);
+    if (refusal != ACCEPTED)
+        fprintf(stderr, "refused %d\n", (int)refusal);
+    return refusal == ACCEPTED ? GOOD : CANNOT;
+}
+
+/* One slot more than any load has steps: a longer list has another count all the same. */
+static int check_slot_lines(const struct load_input *input)
+{
+    struct load load;
+    struct slot slots[MOST_SLOTS + 1];
+    int count = read_slots(stdin, slots, MOST_SLOTS + 1);
+    if (count < 0)
+        return cannot("a slot line is not START ROW STEP");
+    enum refusal refusal = read_load(input->bytes, input->length, &load);
+    if (refusal == ACCEPTED)
+        refusal = check_schedule(&load, slots, (size_t)count);
+    printf("%d\n", (int)refusal);
+    return GOOD;
+}
+
+static int move_lent_state(const struct load_input *input)
+{
+    struct load load;
+    struct bench state;
+    if (!read_state(stdin, &state))
+        return cannot("the state is not CLOCK and FINISHED END OPENING for each row");
+    struct move move = {.refusal = read_load(input->bytes, input->length, &load),
+                        .state = state};
+    if (move.refusal == ACCEPTED)
+        move = move_of(&load, state);
+    print_move(stdout, &move);
+    return GOOD;
+}
+
+static int with_load_file(const char *name, int (*command)(const struct load_input *))
+{
+    struct load_input input;
+    if (!take_file(name, &input))
+        return cannot("the load file cannot be opened");
+    return command(&input);
+}
+
+int main(int count, char **words)
+{
+    const char *command = count < 2 ? "" : words[1];
+    if (count == 2 && strcmp(command, "report") == 0)
+        return report_input();
+    if (count == 2 && strcmp(command, "values") == 0)
+        return values_of_input();
+    if (count == 2 && strcmp(command, "schedule") == 0)
+        return write_input_schedule();
+    if (count == 2 && strcmp(command, "load") == 0)
+        return write_load_text();
+    if (count == 3 && strcmp(command, "check") == 0)
+        return with_load_file(words[2], check_slot_lines);
+    if (count == 3 && strcmp(command, "move") == 0)
+        return with_load_file(words[2], move_lent_state);
+    if (count >= 2 && strcmp(command, "answers") == 0)
+        return answer_files(count - 2, words + 2);
+    bool asked = strcmp(command, "--help") == 0;
+    fputs(HELP, asked ? stdout : stderr);
+    return asked ? GOOD : CANNOT;
+}

@@ -1,0 +1,82 @@
+#!/bin/sh
+# The program's commands on load A and on inputs that are no load. Expected lines are written by
+# hand. Usage: program.sh PROGRAM
+second=$1
+work=$(mktemp -d) || exit 2
+trap 'rm -rf "$work"' EXIT
+passed=0
+failed=0
+
+# same WHAT WANTED FOUND
+same() {
+    if [ "$2" = "$3" ]; then
+        passed=$((passed + 1))
+    else
+        failed=$((failed + 1))
+        printf 'FAILED %s\n  wanted: %s\n  found:  %s\n' "$1" "$2" "$3"
+    fi
+}
+
+# fails WHAT COMMAND...: the command ends with 2 and prints nothing to standard output.
+fails() {
+    what=$1
+    shift
+    found=$("$@" 2> /dev/null)
+    same "$what" "2 " "$? $found"
+}
+
+"$second" load > "$work/a" <<'ROWS'
+# Load A, with an empty line and no second colon.
+
+101 201 0 20 : 2 w10 3
+102 202 0 19 : 1 w4 2 :
+103 203 0 18:2 w3 1
+ROWS
+
+same 'empty input' 'refused 1' "$("$second" report < /dev/null)"
+same 'a byte follows' 'refused 8' "$({ cat "$work/a"; printf '\0'; } | "$second" report)"
+same 'much follows' 'refused 8' \
+    "$({ cat "$work/a"; head -c 100000 /dev/zero; } | "$second" report)"
+same 'no load at all' 'refused 2' "$(head -c 100000 /dev/zero | "$second" report)"
+same 'no rows' 'load 0 0 0 0 yes' "$("$second" load < /dev/null | "$second" report)"
+
+"$second" load < /dev/null > "$work/none"
+printf 'LD' > "$work/short"
+same 'answers, in the order of the files' \
+    '0 bound 0 verdict yes margins end 0 slots
+1
+0 bound 19 verdict no margins 1 0 -1 end 15 slots 0,1,1 2,2,1 3,3,1 7,2,2 9,3,2 12,1,2' \
+    "$("$second" answers "$work/none" "$work/short" "$work/a")"
+
+# Mark 53 43 and count 6; then mark 53 4C, row, step, start.
+same "A's schedule file" \
+    '53430600534c010100000000534c020102000000534c030103000000534c020207000000534c030209000000'\
+'534c01020c000000' \
+    "$("$second" schedule < "$work/a" | od -An -v -tx1 | tr -d ' \n')"
+
+"$second" report < "$work/a" > "$work/report"
+same "A's own slots pass" 0 "$("$second" check "$work/a" < "$work/report")"
+same 'one slot less' 12 "$(sed '$d' "$work/report" | "$second" check "$work/a")"
+same 'wait counted from the start' 15 \
+    "$(sed 's/^slot 7 /slot 6 /' "$work/report" | "$second" check "$work/a")"
+
+same 'first move of A' '0 start 0 1 1 lamps 0 0' \
+    "$("$second" move "$work/a" < /dev/null | head -n 1)"
+same 'all finished' '0 done lamps 0 0' \
+    "$(echo 15 2 15 0 2 9 0 2 10 0 | "$second" move "$work/a" | head -n 1)"
+same 'no shape' '10 refused lamps 0 0' \
+    "$(echo 15 2 16 0 2 9 0 2 10 0 | "$second" move "$work/a" | head -n 1)"
+same 'clock full' '11 refused lamps 0 0' \
+    "$(echo 1000000 2 15 0 2 9 0 1 5 0 | "$second" move "$work/a" | head -n 1)"
+
+echo '101 201 0 : 1' > "$work/fault"
+fails 'a row without deadline' "$second" load < "$work/fault"
+echo '101 201 0 9 : 65536' > "$work/fault"
+fails 'a cost beyond two bytes' "$second" load < "$work/fault"
+echo '101 201 0 9 : 1 : 1-2' > "$work/fault"
+fails 'a window without limit' "$second" load < "$work/fault"
+fails 'no such file' "$second" answers "$work/nothing"
+fails 'no command' "$second"
+
+printf 'program: %d as expected, %d not\n' "$passed" "$failed"
+[ "$failed" -eq 0 ]

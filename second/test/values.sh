@@ -1,0 +1,115 @@
+#!/bin/sh
+# Prints VALUES.md: the document's loads marked P, laid open. What the document states is
+# written by hand here; the rest is what the program gives. Usage: values.sh PROGRAM
+second=$1
+work=$(mktemp -d) || exit 2
+trap 'rm -rf "$work"' EXIT
+
+# part HEADING STATED, rows on standard input.
+part() {
+    cat > "$work/rows"
+    "$second" load < "$work/rows" > "$work/load" || exit 2
+    "$second" values < "$work/load" > "$work/values"
+    printf '\n## %s\n\n' "$1"
+    if [ -s "$work/rows" ]; then
+        printf 'Rows:\n\n```\n'
+        cat "$work/rows"
+        printf '```\n\n'
+    fi
+    printf 'File, one record a line:\n\n```\n'
+    sed '/^$/,$d' "$work/values"
+    printf '```\n\nComputed:\n\n```\n'
+    sed '1,/^$/d' "$work/values"
+    printf '```\n\nReport:\n\n```\n'
+    "$second" report < "$work/load"
+    printf '```\n\nStated by the document:\n%s\n' "$2"
+}
+
+cat <<'TEXT'
+# Document 01's loads marked P, value by value
+
+Made by `make VALUES.md`. Rows are in the notation of `second load`:
+`ID BOX PHASE DEADLINE : COST wWAIT COST ... : FIRST-LAST<=LIMIT ...`.
+
+Under each load, "Stated by the document" lists the values that its text gives, and `make test`
+compares those. Everything else there was computed by this program alone: the bytes (which follow
+the document's record table), row bounds, margins, verdicts, slots and ends not listed as stated.
+A refused file has a refusal number and nothing more. Slots are `start`, `row`, `step`, in order.
+TEXT
+
+part 'A' \
+'the whole report (so rows, steps, end 15, bound 19, verdict no, margins
+1, 0, -1, and all six slots). Row bounds 19, 19, 19 are not printed there; they follow from the
+deadlines and margins.' <<'ROWS'
+101 201 0 20 : 2 w10 3
+102 202 0 19 : 1 w4 2
+103 203 0 18 : 2 w3 1
+ROWS
+
+part 'B' \
+'bound 15; starts 0 and 2 (their rows are not named), then row 1 at 6, row 3 at 8 and 11;
+end 12. Only computed: row bounds, margins, verdict, rows of the first two slots, all step
+numbers.' <<'ROWS'
+101 201 0 1000000 : 2 w4 2 : 1-2<=8
+102 202 0 1000000 : 3
+103 203 0 1000000 : 2 w1 1 : 1-2<=6
+ROWS
+
+part 'B with limit 9' \
+'row 3 at 5, row 1 at 7, row 3 at 9; end 10. Only computed: bound, row bounds,
+margins, verdict, the first two slots, step numbers.' <<'ROWS'
+101 201 0 1000000 : 2 w4 2 : 1-2<=9
+102 202 0 1000000 : 3
+103 203 0 1000000 : 2 w1 1 : 1-2<=6
+ROWS
+
+part 'B with limit 7' \
+'refusal 7.' <<'ROWS'
+101 201 0 1000000 : 2 w4 2 : 1-2<=7
+102 202 0 1000000 : 3
+103 203 0 1000000 : 2 w1 1 : 1-2<=6
+ROWS
+
+part 'One row, phase 5, cost 3, deadline 8' \
+'start 5, bound 8, margin 0. Only computed: row bound
+(8, as deadline less margin), verdict, end.' <<'ROWS'
+101 201 5 8 : 3
+ROWS
+
+part 'One row, phase 5, cost 3, deadline 7' \
+'start 5, bound 8, margin -1. Only computed: row bound
+(8, as deadline less margin), verdict, end.' <<'ROWS'
+101 201 5 7 : 3
+ROWS
+
+part '1 / 2 w6 2' \
+'row bounds 3 and 11; starts 0, 1, 9; end 11. Only computed: bound, margins,
+verdict, rows and steps of the slots.' <<'ROWS'
+101 201 0 1000000 : 1
+102 202 0 1000000 : 2 w6 2
+ROWS
+
+part '1 w0 1 / 1 w0 1' \
+'starts 0, 1, 2, 3; bound 4. Only computed: row bounds, margins, verdict, rows
+and steps of the slots, end.' <<'ROWS'
+101 201 0 1000000 : 1 w0 1
+102 202 0 1000000 : 1 w0 1
+ROWS
+
+part 'No rows' \
+'bound 0, Done at once (the first move from fresh is Done), verdict yes. End 0 is stated
+with the report ("0 if none"). There are no rows and no slots to list.' < /dev/null
+
+part 'Two rows with one identifier, boxes different' \
+'refusal 4.' <<'ROWS'
+101 201 0 1000000 : 1
+101 202 0 1000000 : 1
+ROWS
+
+part 'Two rows with one identifier and one box' \
+'refusal 4. The steps of these two loads are not
+stated; one step of cost 1 was taken. With the refusal at the second row record they do not
+matter.' <<'ROWS'
+101 201 0 1000000 : 1
+101 201 0 1000000 : 1
+ROWS
