@@ -2,3 +2,6 @@
 pub mod SumLaws
 pub mod TestLaws
 pub mod ListLaws
+pub mod EveryLaws
+pub mod OrderLaws
+pub mod KeyLaws
