@@ -5,3 +5,5 @@ pub mod ListLaws
 pub mod EveryLaws
 pub mod OrderLaws
 pub mod KeyLaws
+pub mod ChangeLaws
+pub mod LeastLaws
