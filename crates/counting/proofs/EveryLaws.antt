@@ -2,7 +2,8 @@
 -- a search over a list finds.
 use Prim.Native.Nat.{ℕ, zero, suc, _<_}
 use mathlib.Core.Bool.{Bool, true, false, cond}
-use mathlib.Core.List.{List, [], _∷_, _++_}
+use mathlib.Core.List.{List, [], _∷_, _++_, append-nil}
+use mathlib.Core.Logic.{_≢_}
 use mathlib.Core.Path.{_≡_, refl}
 use native.Mathlib.Decide.{ℕ-discrete}
 use native.Mathlib.Omega.{arith}
@@ -99,6 +100,24 @@ module _ (P : ℕ → Type 0) (p : ℕ → Bool) where
       last : (b : Bool) → b ≡ true → Every P (cond b (n ∷ []) []) → P n
       last true q f = f .0
       last false q f = absurd (true-false false q refl)
+
+-- no number has p, or one alone may have it
+pub numbersWhere-none : (p : ℕ → Bool) (n : ℕ) → ((i : ℕ) → i < n → p i ≡ false) → numbersWhere p n ≡ []
+unfolding joinTo
+numbersWhere-none p zero h = refl
+numbersWhere-none p (suc n) h = rw (numbersWhere-none p n (λ i l. h i (omega arith)), h n (omega arith))
+
+pub numbersWhere-one : (p : ℕ → Bool) (n k : ℕ) → k < n → ((i : ℕ) → i < n → i ≢ k → p i ≡ false)
+    → numbersWhere p n ≡ cond (p k) (k ∷ []) []
+unfolding joinTo
+numbersWhere-one p zero k l h = absurd (omega arith)
+numbersWhere-one p (suc n) k l h =
+    elim (ℕ-discrete n k) [
+      | yes e ↦ rw (numbersWhere-none p n (λ i li. h i (omega arith) (omega arith)), e)
+      | no e ↦
+          rw (numbersWhere-one p n k (omega arith) (λ i li. h i (omega arith)), h n (omega arith) e)
+          (append-nil (cond (p k) (k ∷ []) []))
+    ]
 
 -- what is found is a member that has p
 pub found-at : (P : ℕ → Type 0) (p : ℕ → Bool) (l : List ℕ) (i : ℕ) → Every P l → found p l ≡ at i → P i × (p i ≡ true)

@@ -3,7 +3,7 @@
 use Prim.Native.Nat.{ℕ, suc, _+_, _≤_, _<_}
 use mathlib.Core.Bool.{Bool, true, false, _&&_}
 use mathlib.Core.Logic.{_≢_}
-use mathlib.Core.Path.{_≡_, refl, ap, sym, _∙_}
+use mathlib.Core.Path.{_≡_, refl, ap, _∙_}
 use native.Mathlib.Decide.{ℕ-discrete}
 use native.Mathlib.Omega.{arith}
 use lib.Dec.{leb, ltb}
@@ -11,9 +11,8 @@ use borrow.Author.Tests.{ltb-true, leb-true, lt-ltb, le-leb, lt-leb}
 use Rattle.counting.specs.Lists.{numbersWhere}
 use Rattle.counting.specs.Searches.{Found, at, none}
 use Rattle.counting.specs.Sorting.{byKey}
-use Rattle.counting.proofs.TestLaws.{and-left, and-right, and-both, true-false}
+use Rattle.counting.proofs.TestLaws.{and-left, and-right, true-false}
 use Rattle.counting.proofs.EveryLaws.{
-  Every,
   every-numbersWhere,
   numbersWhere-every,
   every-sorted,
@@ -28,7 +27,6 @@ use Rattle.rules.specs.declared.Outcome.the-variants.{Start, Idle, Done}
 use Rattle.rules.specs.State.{State, isOpen, opensAt, shaped}
 use Rattle.rules.specs.Ready.{released, isReady, isAllowed, wouldEnd, isCandidate, candidates}
 use Rattle.rules.specs.Move.{
-  Moved,
   openingAfter,
   started,
   startedFull,

@@ -1,6 +1,6 @@
 -- The plan over a list of rows: what it looks at, that a tick changes nothing while the first row waits, that it passes
 -- when begun sooner or asked for less, and that it leaves every row of the list in time.
-use Prim.Native.Nat.{ℕ, suc, _+_, _≤_, _<_, max}
+use Prim.Native.Nat.{ℕ, _+_, _≤_, _<_}
 use mathlib.Core.Bool.{true, _&&_}
 use mathlib.Core.List.{List, [], _∷_}
 use mathlib.Core.Path.{_≡_, refl}
