@@ -4,3 +4,4 @@ pub mod Good
 pub mod MoveLaws
 pub mod PlanLaws
 pub mod StackLaws
+pub mod StartPasses

@@ -76,9 +76,10 @@ module _ (L : View) (s : State) where
   inTime-true t [] p = tt
   inTime-true t (i ∷ rest) p =
       let first = and-left (leb (finish L s t i) (due L s i)) (inTime L s (finish L s t i) rest) p in
-      let f = leb-true (finish L s t i) (due L s i) first in
-      (omega arith,
-      every-mono (λ k. finish L s t i + windowLeft L s k ≤ due L s k) (λ k. t + windowLeft L s k ≤ due L s k) rest
-      (λ k h. omega arith)
-      (inTime-true (finish L s t i) rest
-      (and-right (leb (finish L s t i) (due L s i)) (inTime L s (finish L s t i) rest) p)))
+      let f = leb-true (finish L s t i) (due L s i) first in (
+        omega arith,
+        every-mono (λ k. finish L s t i + windowLeft L s k ≤ due L s k) (λ k. t + windowLeft L s k ≤ due L s k) rest
+            (λ k h. omega arith)
+            (inTime-true (finish L s t i) rest
+            (and-right (leb (finish L s t i) (due L s i)) (inTime L s (finish L s t i) rest) p)),
+      )

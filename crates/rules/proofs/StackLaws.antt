@@ -78,8 +78,8 @@ unfolding stack sorted
 stack-none L s h = ap (sorted (byKey (due L s))) (numbersWhere-none (isOpen L s) (L .rows) h)
 
 -- every open window can be finished in time by itself
-pub plan-in-time : (L : View) (s : State) (t : ℕ) → planPasses L s t ≡ true → (i : ℕ) → i < L .rows → isOpen L s i ≡ true
-    → t + windowLeft L s i ≤ due L s i
+pub plan-in-time : (L : View) (s : State) (t : ℕ) → planPasses L s t ≡ true → (i : ℕ) → i < L .rows
+    → isOpen L s i ≡ true → t + windowLeft L s i ≤ due L s i
 plan-in-time L s t p = stack-every L s (λ i. t + windowLeft L s i ≤ due L s i) (inTime-true L s t (stack L s) p)
 
 -- a tick
