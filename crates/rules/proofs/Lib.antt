@@ -5,3 +5,4 @@ pub mod MoveLaws
 pub mod PlanLaws
 pub mod StackLaws
 pub mod StartPasses
+pub mod ShapeLaws
