@@ -2,3 +2,6 @@
 pub mod SumLaws
 pub mod TestLaws
 pub mod ListLaws
+pub mod SortLaws
+pub mod NumbersLaws
+pub mod SmallestLaws
