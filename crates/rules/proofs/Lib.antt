@@ -1,0 +1,2 @@
+-- Laws of the bound, of the cut and of the margins.
+pub mod TightBound
