@@ -3,6 +3,7 @@ pub mod SumLaws
 pub mod TestLaws
 pub mod MaxLaws
 pub mod ListLaws
+pub mod FirstToLaws
 pub mod SortLaws
 pub mod NumbersLaws
 pub mod SmallestLaws

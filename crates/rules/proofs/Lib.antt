@@ -1,2 +1,6 @@
 -- Laws of the bound, of the cut and of the margins.
 pub mod TightBound
+pub mod CutLaws
+pub mod BoundLaws
+pub mod MarginLaws
+pub mod SameBound

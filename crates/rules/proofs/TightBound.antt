@@ -1,8 +1,7 @@
 -- A bound that is at most the bound: for each other row whose next step is free it takes off the smaller of two costs,
 -- where document 01 takes the r smallest of 2r. It holds of every view, with no premise.
-use Prim.Native.Nat.{ℕ, suc, _-_, _≤_, _<_, min}
+use Prim.Native.Nat.{ℕ, suc, _-_, _≤_, min}
 use mathlib.Core.Bool.{Bool, true, false, cond, _&&_, not}
-use mathlib.Core.Path.{_≡_, refl}
 use native.Mathlib.Omega.{arith}
 use lib.Dec.{eqb}
 use Rattle.counting.specs.Sums.{sumTo}
