@@ -1,5 +1,10 @@
--- Laws of the rules: what a move does, that the plan and the invariant are kept, that the run ends by the bound, that
--- its slots pass the check, and demand 3.
+-- Laws of the rules: of the bound, of the cut and of the margins; what a move does; that the plan and the invariant are
+-- kept; that the run ends by the bound; that its slots pass the check; and demand 3.
+pub mod TightBound
+pub mod CutLaws
+pub mod BoundLaws
+pub mod MarginLaws
+pub mod SameBound
 pub mod Good
 pub mod MoveLaws
 pub mod PlanLaws
