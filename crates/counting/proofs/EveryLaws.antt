@@ -11,21 +11,9 @@ use Rattle.counting.specs.Lists.{joinTo, keepIn, numbersWhere}
 use Rattle.counting.specs.Searches.{Found, at, none, found}
 use Rattle.counting.specs.Sorting.{inserted, sorted}
 use Rattle.counting.proofs.TestLaws.{true-false}
+use Rattle.counting.proofs.SortLaws.{Every, Every-append}
 
 module _ {A : Type 0} where
-  -- every member has P
-  abbrev pub Every : (A → Type 0) → List A → Type 0
-  Every P [] = Unit {0}
-  Every P (a ∷ rest) = P a × Every P rest
-
-  pub every-mono : (P Q : A → Type 0) (l : List A) → ((a : A) → P a → Q a) → Every P l → Every Q l
-  every-mono P Q [] h e = tt
-  every-mono P Q (a ∷ rest) h e = (h a (e .0), every-mono P Q rest h (e .1))
-
-  pub every-append : (P : A → Type 0) (l m : List A) → Every P l → Every P m → Every P (l ++ m)
-  every-append P [] m e f = f
-  every-append P (a ∷ rest) m e f = (e .0, every-append P rest m (e .1) f)
-
   pub append-every-left : (P : A → Type 0) (l m : List A) → Every P (l ++ m) → Every P l
   append-every-left P [] m e = tt
   append-every-left P (a ∷ rest) m e = (e .0, append-every-left P rest m (e .1))
@@ -53,11 +41,6 @@ module _ {A : Type 0} where
         go true f = (p, e)
         go false f = (e .0, f)
 
-    pub every-sorted : (l : List A) → Every P l → Every P (sorted before l)
-    unfolding sorted
-    every-sorted [] e = tt
-    every-sorted (a ∷ rest) e = every-inserted a (sorted before rest) (e .0) (every-sorted rest (e .1))
-
     pub inserted-every : (a : A) (l : List A) → Every P (inserted before a l) → P a × Every P l
     unfolding inserted
     inserted-every a [] e = (e .0, tt)
@@ -80,7 +63,7 @@ module _ (P : ℕ → Type 0) (p : ℕ → Bool) where
   unfolding joinTo
   every-numbersWhere zero h = tt
   every-numbersWhere (suc n) h =
-      every-append P (numbersWhere p n) (cond (p n) (n ∷ []) []) (every-numbersWhere n (λ i l. h i (omega arith)))
+      Every-append P (numbersWhere p n) (cond (p n) (n ∷ []) []) (every-numbersWhere n (λ i l. h i (omega arith)))
       (last (p n) refl)
     where
       last : (b : Bool) → p n ≡ b → Every P (cond b (n ∷ []) [])

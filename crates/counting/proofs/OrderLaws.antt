@@ -5,19 +5,10 @@ use mathlib.Core.List.{List, [], _∷_}
 use mathlib.Core.Path.{_≡_, refl, ap, ap₂, sym, _∙_}
 use Rattle.counting.specs.Lists.{keepIn}
 use Rattle.counting.specs.Sorting.{inserted, sorted}
-use Rattle.counting.proofs.EveryLaws.{Every, every-mono, every-keepIn, every-inserted, every-sorted}
+use Rattle.counting.proofs.SortLaws.{Every, IsOrder, InOrder, Every-map, Every-sorted, sorted-in-order}
+use Rattle.counting.proofs.EveryLaws.{every-keepIn}
 
 module _ {A : Type 0} where
-  -- an order in which of any two one may stand before the other
-  pub record Orders (before : A → A → Bool) : Type 0 where
-    pub total : (a c : A) → before a c ≡ false → before c a ≡ true
-    pub through : (a c d : A) → before a c ≡ true → before c d ≡ true → before a d ≡ true
-
-  -- each member may stand before those after it
-  abbrev pub Rising : (A → A → Bool) → List A → Type 0
-  Rising before [] = Unit {0}
-  Rising before (a ∷ rest) = Every (λ c. before a c ≡ true) rest × Rising before rest
-
   -- sorting looks at the order between members only
   module _ (P : A → Type 0) (before before′ : A → A → Bool)
       (same : (a c : A) → P a → P c → before a c ≡ before′ a c) where
@@ -32,39 +23,16 @@ module _ {A : Type 0} where
     sorted-ext [] e = refl
     sorted-ext (a ∷ rest) e =
         ap (inserted before a) (sorted-ext rest (e .1))
-        ∙ inserted-ext a (sorted before′ rest) (e .0) (every-sorted P before′ rest (e .1))
+        ∙ inserted-ext a (sorted before′ rest) (e .0) (Every-sorted before′ P rest (e .1))
 
-  module _ (before : A → A → Bool) (order : Orders before) where
-    inserted-rising : (a : A) (l : List A) → Rising before l → Rising before (inserted before a l)
-    unfolding inserted
-    inserted-rising a [] r = (tt, tt)
-    inserted-rising a (c ∷ cs) r = go (before a c) refl (inserted-rising a cs (r .1))
-      where
-        go : (b : Bool) → before a c ≡ b → Rising before (inserted before a cs)
-            → Rising before (cond b (a ∷ c ∷ cs) (c ∷ inserted before a cs))
-        go true e ih = (
-          (
-            e,
-            every-mono (λ d. before c d ≡ true) (λ d. before a d ≡ true) cs
-                (λ d. order .through a c d e) (r .0),
-          ),
-          r,
-        )
-        go false e ih =
-            (every-inserted (λ d. before c d ≡ true) before a cs (order .total a c e) (r .0), ih)
-
-    pub sorted-rising : (l : List A) → Rising before (sorted before l)
-    unfolding sorted
-    sorted-rising [] = tt
-    sorted-rising (a ∷ rest) = inserted-rising a (sorted before rest) (sorted-rising rest)
-
+  module _ (before : A → A → Bool) (order : IsOrder before) where
     inserted-front : (a : A) (l : List A) → Every (λ c. before a c ≡ true) l → inserted before a l ≡ a ∷ l
     unfolding inserted
     inserted-front a [] e = refl
     inserted-front a (c ∷ cs) e = ap (λ b. cond b (a ∷ c ∷ cs) (c ∷ inserted before a cs)) (e .0)
 
     module _ (q : A → Bool) where
-      keepIn-inserted-kept : (a : A) (l : List A) → q a ≡ true → Rising before l
+      keepIn-inserted-kept : (a : A) (l : List A) → q a ≡ true → InOrder before l
           → keepIn q (inserted before a l) ≡ inserted before a (keepIn q l)
       unfolding inserted keepIn
       keepIn-inserted-kept a [] h r = rw h
@@ -78,13 +46,13 @@ module _ {A : Type 0} where
           go true e true f ih =
               let z : Every (λ x. before a x ≡ true) (keepIn q cs)
               = every-keepIn (λ x. before a x ≡ true) q cs
-              (every-mono (λ x. before c x ≡ true) (λ x. before a x ≡ true) cs
+              (Every-map (λ x. before c x ≡ true) (λ x. before a x ≡ true) cs
               (λ x. order .through a c x e) (r .0)) in
               rw (h, f) (sym (inserted-front a (c ∷ keepIn q cs) (e, z)))
           go true e false f ih =
               let z : Every (λ x. before a x ≡ true) (keepIn q cs)
               = every-keepIn (λ x. before a x ≡ true) q cs
-              (every-mono (λ x. before c x ≡ true) (λ x. before a x ≡ true) cs
+              (Every-map (λ x. before c x ≡ true) (λ x. before a x ≡ true) cs
               (λ x. order .through a c x e) (r .0)) in
               rw (h, f) (sym (inserted-front a (keepIn q cs) z))
           go false e true f ih =
@@ -112,5 +80,6 @@ module _ {A : Type 0} where
               → keepIn q (inserted before a (sorted before rest))
               ≡ sorted before (cond b (a ∷ keepIn q rest) (keepIn q rest))
           go true e ih =
-              keepIn-inserted-kept a (sorted before rest) e (sorted-rising rest) ∙ ap (inserted before a) ih
+              keepIn-inserted-kept a (sorted before rest) e (sorted-in-order before order rest)
+              ∙ ap (inserted before a) ih
           go false e ih = keepIn-inserted-gone a (sorted before rest) e ∙ ih

@@ -11,3 +11,5 @@ pub mod PlanLaws
 pub mod StackLaws
 pub mod StartPasses
 pub mod ShapeLaws
+pub mod Invariant
+pub mod StartKeeps

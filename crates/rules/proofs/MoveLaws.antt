@@ -12,14 +12,8 @@ use Rattle.counting.specs.Lists.{numbersWhere}
 use Rattle.counting.specs.Searches.{Found, at, none}
 use Rattle.counting.specs.Sorting.{byKey}
 use Rattle.counting.proofs.TestLaws.{and-left, and-right, true-false}
-use Rattle.counting.proofs.EveryLaws.{
-  every-numbersWhere,
-  numbersWhere-every,
-  every-sorted,
-  sorted-every,
-  found-at,
-  found-none,
-}
+use Rattle.counting.proofs.SortLaws.{Every-sorted}
+use Rattle.counting.proofs.EveryLaws.{every-numbersWhere, numbersWhere-every, sorted-every, found-at, found-none}
 use Rattle.counting.proofs.ChangeLaws.{changed-same, changed-other}
 use Rattle.load.specs.Load.{lastMoment}
 use Rattle.load.specs.View.{View}
@@ -150,7 +144,7 @@ chosen-at : (L : View) (s : State) (i : ℕ) → chosen L s ≡ at i → CanStar
 unfolding chosen candidates
 chosen-at L s i e =
     let f = found-at Right (passes L s) (candidates L s) i
-    (every-sorted Right (byKey (s .finished)) (numbersWhere (isCandidate L s) (L .rows))
+    (Every-sorted (byKey (s .finished)) Right (numbersWhere (isCandidate L s) (L .rows))
     (every-numbersWhere Right (isCandidate L s) (L .rows) (λ k l q. (l, q)))) e in
     isCandidate-true L s i (f .0 .0) (f .0 .1) (f .1)
   where

@@ -8,7 +8,7 @@ use native.Mathlib.Omega.{arith}
 use lib.Dec.{leb}
 use borrow.Author.Tests.{leb-true, le-leb}
 use Rattle.counting.proofs.TestLaws.{and-left, and-right, and-both}
-use Rattle.counting.proofs.EveryLaws.{Every, every-mono}
+use Rattle.counting.proofs.SortLaws.{Every, Every-map}
 use Rattle.load.specs.View.{View}
 use Rattle.rules.specs.State.{State}
 use Rattle.rules.specs.Ready.{released}
@@ -78,7 +78,7 @@ module _ (L : View) (s : State) where
       let first = and-left (leb (finish L s t i) (due L s i)) (inTime L s (finish L s t i) rest) p in
       let f = leb-true (finish L s t i) (due L s i) first in (
         omega arith,
-        every-mono (λ k. finish L s t i + windowLeft L s k ≤ due L s k) (λ k. t + windowLeft L s k ≤ due L s k) rest
+        Every-map (λ k. finish L s t i + windowLeft L s k ≤ due L s k) (λ k. t + windowLeft L s k ≤ due L s k) rest
             (λ k h. omega arith)
             (inTime-true (finish L s t i) rest
             (and-right (leb (finish L s t i) (due L s i)) (inTime L s (finish L s t i) rest) p)),

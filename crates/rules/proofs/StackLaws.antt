@@ -7,14 +7,8 @@ use mathlib.Core.Logic.{_≢_}
 use mathlib.Core.Path.{_≡_, refl, ap, ap₂, _∙_}
 use Rattle.counting.specs.Lists.{numbersWhere}
 use Rattle.counting.specs.Sorting.{sorted, byKey}
-use Rattle.counting.proofs.EveryLaws.{
-  Every,
-  every-numbersWhere,
-  numbersWhere-every,
-  numbersWhere-none,
-  every-sorted,
-  sorted-every,
-}
+use Rattle.counting.proofs.SortLaws.{Every, Every-sorted}
+use Rattle.counting.proofs.EveryLaws.{every-numbersWhere, numbersWhere-every, numbersWhere-none, sorted-every}
 use Rattle.counting.proofs.KeyLaws.{sorted-same}
 use Rattle.load.specs.View.{View}
 use Rattle.rules.specs.State.{State, isOpen, openWindow}
@@ -45,7 +39,7 @@ module _ (L : View) (s : State) (P : ℕ → Type 0) where
   pub every-stack : ((i : ℕ) → i < L .rows → isOpen L s i ≡ true → P i) → Every P (stack L s)
   unfolding stack
   every-stack h =
-      every-sorted P (byKey (due L s)) (numbersWhere (isOpen L s) (L .rows))
+      Every-sorted (byKey (due L s)) P (numbersWhere (isOpen L s) (L .rows))
       (every-numbersWhere P (isOpen L s) (L .rows) h)
 
   pub stack-every : Every P (stack L s) → (i : ℕ) → i < L .rows → isOpen L s i ≡ true → P i

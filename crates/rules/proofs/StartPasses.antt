@@ -11,7 +11,8 @@ use lib.Dec.{leb}
 use borrow.Author.Tests.{le-leb}
 use Rattle.counting.specs.Sorting.{inserted, sorted, byKey}
 use Rattle.counting.proofs.TestLaws.{and-left, and-right, and-both, true-false}
-use Rattle.counting.proofs.EveryLaws.{Every, every-mono, numbersWhere-one}
+use Rattle.counting.proofs.SortLaws.{Every, Every-map}
+use Rattle.counting.proofs.EveryLaws.{numbersWhere-one}
 use Rattle.counting.proofs.KeyLaws.{sorted-same, sorted-first-once, sorted-rest}
 use Rattle.load.specs.View.{View, embedded}
 use Rattle.rules.specs.State.{State, fresh, isOpen, opensAt}
@@ -104,7 +105,7 @@ module _ (L : View) (s : State) (g : Good L) (r : ℕ) (rest : List ℕ) (first 
       others : (u : ℕ) → inTime L s′ u rest ≡ inTime L s u rest
       others u =
           inTime-ext L L s′ s u rest
-          (every-mono (λ i. i ≢ r) (SameJob L L s′ s) rest (job-other L s r c) (head-once L s r rest first))
+          (Every-map (λ i. i ≢ r) (SameJob L L s′ s) rest (job-other L s r c) (head-once L s r rest first))
 
       tail : inTime L s′ t rest ≡ true
       tail = others t ∙ and-right (leb t (due L s r)) (inTime L s t rest) both
