@@ -1,6 +1,6 @@
 -- The invariant of a run from fresh, each step at full cost, over three ghost counts of idle ticks: with some window
 -- open, with none open and a first step due, and with none open and step p + 1 due (`waitTicks p`). What matters is
--- `charge`: the ticks that a free wait is charged, and what other rows have worked since, fit between its start and now.
+-- `charge`: a free wait's ticks, and what other rows worked since it began, fit between its beginning and now.
 use Prim.Native.Nat.{ℕ, zero, suc, _+_, _-_, _≤_, _<_, min}
 use mathlib.Core.Bool.{Bool, true, false, cond, _&&_, not}
 use mathlib.Core.Logic.{_≢_}
@@ -10,7 +10,7 @@ use lib.Dec.{eqb, leb, ltb}
 use borrow.Author.Tests.{ltb-true, eqb-false, not-true, lt-ltb, le-ltb, le-leb, lt-leb, eq-eqb, ne-eqb}
 use Rattle.counting.specs.Sums.{sumTo}
 use Rattle.counting.proofs.TestLaws.{and-left, and-right}
-use Rattle.counting.proofs.ChangeLaws.{sumTo-none}
+use Rattle.counting.proofs.ChangeLaws.{sumTo-suc, sumTo-none, cond-mono}
 use Rattle.load.specs.Load.{mostSteps}
 use Rattle.load.specs.View.{View, embedded, isFree, embeddedWait}
 use Rattle.rules.specs.Bound.{largestPhase, embeddedWaitAt, largestW}
@@ -90,6 +90,24 @@ isOther-other L p i k h = eqb-false k i (not-true (eqb k i) (and-left (not (eqb 
 
 pub isOther-free : (L : View) (p i k : ℕ) → isOther L p i k ≡ true → isFree L k (suc p) ≡ true
 isOther-free L p i k h = and-right (not (eqb k i)) (isFree L k (suc p)) h
+
+-- a row has waited no less once it has finished one step more, or once more time has passed
+pub waitedRow-next : (L : View) (i f since : ℕ) → waitedRow L i f since ≤ waitedRow L i (suc f) 0
+waitedRow-next L i zero since = omega arith
+waitedRow-next L i (suc j) since =
+    omega (
+      arith,
+      sumTo-suc (embeddedWaitAt L i) j,
+      cond-mono (embeddedWait L i j) (min (L .wait i j) since) (L .wait i j) (λ _. omega arith),
+    )
+
+pub waitedRow-mono : (L : View) (i f since more : ℕ) → since ≤ more → waitedRow L i f since ≤ waitedRow L i f more
+waitedRow-mono L i zero since more h = omega arith
+waitedRow-mono L i (suc j) since more h =
+    omega (
+      arith,
+      cond-mono (embeddedWait L i j) (min (L .wait i j) since) (min (L .wait i j) more) (λ _. omega arith),
+    )
 
 -- the values of `worked`
 module _ (L : View) (s : State) (p i k : ℕ) where

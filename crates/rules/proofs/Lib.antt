@@ -13,3 +13,8 @@ pub mod StartPasses
 pub mod ShapeLaws
 pub mod Invariant
 pub mod StartKeeps
+pub mod ClockBound
+pub mod TickLaws
+pub mod IdleKeeps
+pub mod MoveKeeps
+pub mod RunLaws

@@ -1,6 +1,6 @@
 -- A start keeps the invariant: only one row changes, so each sum changes at one index, and what that row is newly
 -- charged with is the cost that passes.
-use Prim.Native.Nat.{ℕ, zero, suc, _+_, _-_, _≤_, _<_, min}
+use Prim.Native.Nat.{ℕ, suc, _+_, _-_, _≤_, _<_, min}
 use mathlib.Core.Bool.{Bool, true, false, cond, _||_}
 use mathlib.Core.Logic.{_≢_}
 use mathlib.Core.Path.{_≡_, refl, ap, ap₂, sym, _∙_}
@@ -11,8 +11,7 @@ use Rattle.counting.specs.Sums.{sumTo, allTo}
 use Rattle.counting.proofs.TestLaws.{true-false, allTo-true}
 use Rattle.counting.proofs.SumLaws.{sumTo-mono}
 use Rattle.counting.proofs.ChangeLaws.{sumTo-change, sumTo-change-le, sumTo-suc, cond-le, cond-mono}
-use Rattle.load.specs.View.{View, embedded, isFree, embeddedWait}
-use Rattle.rules.specs.Bound.{embeddedWaitAt}
+use Rattle.load.specs.View.{View, embedded, isFree}
 use Rattle.rules.specs.State.{State}
 use Rattle.rules.specs.Ready.{finishedBelow, isAllowed}
 use Rattle.rules.specs.Move.{startedFull, passes}
@@ -28,9 +27,10 @@ use Rattle.rules.proofs.MoveLaws.{
 use Rattle.rules.proofs.ShapeLaws.{started-keeps-shape}
 use Rattle.rules.proofs.Invariant.{
   spent,
-  waitedRow,
   waitedOf,
   waited,
+  waitedRow-next,
+  waitedRow-mono,
   worked,
   isOther,
   workedSince,
@@ -45,24 +45,6 @@ use Rattle.rules.proofs.Invariant.{
   worked-ext,
   workedSince-none,
 }
-
--- a row has waited no less once it has finished one step more, or once more time has passed
-waitedRow-next : (L : View) (i f since : ℕ) → waitedRow L i f since ≤ waitedRow L i (suc f) 0
-waitedRow-next L i zero since = omega arith
-waitedRow-next L i (suc j) since =
-    omega (
-      arith,
-      sumTo-suc (embeddedWaitAt L i) j,
-      cond-mono (embeddedWait L i j) (min (L .wait i j) since) (L .wait i j) (λ _. omega arith),
-    )
-
-pub waitedRow-mono : (L : View) (i f since more : ℕ) → since ≤ more → waitedRow L i f since ≤ waitedRow L i f more
-waitedRow-mono L i zero since more h = omega arith
-waitedRow-mono L i (suc j) since more h =
-    omega (
-      arith,
-      cond-mono (embeddedWait L i j) (min (L .wait i j) since) (min (L .wait i j) more) (λ _. omega arith),
-    )
 
 module _ (L : View) (s : State) (k : ℕ) (g : Good L) (lk : k < L .rows) (fk : s .finished k < L .steps k) where
   c : ℕ
@@ -179,7 +161,8 @@ module _ (L : View) (s : State) (k : ℕ) (g : Good L) (lk : k < L .rows) (fk : 
       t : State
       t = startedFull L s k
 
-      low : embedded L k (s .finished k) ≡ false → (i : ℕ) → i < L .rows → min (s .finished k) (L .steps i) ≤ s .finished i
+      low : embedded L k (s .finished k) ≡ false → (i : ℕ) → i < L .rows
+          → min (s .finished k) (L .steps i) ≤ s .finished i
       low f i l = go (embedded L k (s .finished k)) f allowed
         where
           go : (b : Bool) → b ≡ false → (b || allTo (finishedBelow L s (s .finished k)) (L .rows)) ≡ true
