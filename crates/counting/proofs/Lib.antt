@@ -12,3 +12,4 @@ pub mod OrderLaws
 pub mod KeyLaws
 pub mod ChangeLaws
 pub mod LeastLaws
+pub mod PlaceLaws

@@ -51,10 +51,12 @@ pub record Good (L : View) : Type 0 where
   -- the limit is at least the chain, from the window's first step on
   pub chain-fits : (i j : ℕ) → i < L .rows → embedded L i j ≡ false → embedded L i (suc j) ≡ true
       → L .cost i j + (L .wait i j + leftAt L i (suc j)) ≤ limitAt L i (suc j)
-  -- a window has two steps or more, all of them the row's, and is the open one in between
+  -- a window has two steps or more, all of them the row's, the first of them free, and is the open one in between
   pub first-least : (i p : ℕ) → i < L .rows → p < length (L .windows i) → 1 ≤ windowAt L i p .first
   pub first-last : (i p : ℕ) → i < L .rows → p < length (L .windows i)
       → windowAt L i p .first < windowAt L i p .last
   pub last-most : (i p : ℕ) → i < L .rows → p < length (L .windows i) → windowAt L i p .last ≤ L .steps i
+  pub window-first : (i p f : ℕ) → i < L .rows → p < length (L .windows i) → windowAt L i p .first ≡ suc f
+      → embedded L i f ≡ false
   pub open-window : (i p f : ℕ) → i < L .rows → p < length (L .windows i) → windowAt L i p .first ≤ f
       → f < windowAt L i p .last → openAt L i f ≡ windowAt L i p

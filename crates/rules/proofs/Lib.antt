@@ -12,9 +12,13 @@ pub mod StackLaws
 pub mod StartPasses
 pub mod ShapeLaws
 pub mod Invariant
+pub mod TickLaws
 pub mod StartKeeps
 pub mod ClockBound
-pub mod TickLaws
 pub mod IdleKeeps
 pub mod MoveKeeps
 pub mod RunLaws
+pub mod SlotLaws
+pub mod SlotsMade
+pub mod NewSlot
+pub mod StartMade
