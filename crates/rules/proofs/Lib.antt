@@ -22,3 +22,7 @@ pub mod SlotLaws
 pub mod SlotsMade
 pub mod NewSlot
 pub mod StartMade
+pub mod WholeLaws
+pub mod RunMade
+pub mod SlotTests
+pub mod SlotsPass
