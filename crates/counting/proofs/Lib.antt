@@ -7,3 +7,4 @@ pub mod FirstToLaws
 pub mod SortLaws
 pub mod NumbersLaws
 pub mod SmallestLaws
+pub mod KeepLaws
