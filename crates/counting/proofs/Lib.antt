@@ -7,4 +7,5 @@ pub mod FirstToLaws
 pub mod SortLaws
 pub mod NumbersLaws
 pub mod SmallestLaws
+pub mod ThresholdLaws
 pub mod KeepLaws
