@@ -13,3 +13,5 @@ pub mod KeyLaws
 pub mod ChangeLaws
 pub mod LeastLaws
 pub mod PlaceLaws
+pub mod ThresholdLaws
+pub mod KeepLaws

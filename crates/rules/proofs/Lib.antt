@@ -2,10 +2,13 @@
 -- kept; that the run ends by the bound; that its slots pass the check; and demand 3.
 pub mod TightBound
 pub mod CutLaws
+pub mod SmallestCosts
+pub mod CutBound
 pub mod BoundLaws
 pub mod MarginLaws
 pub mod SameBound
 pub mod Good
+pub mod WindowsOpen
 pub mod MoveLaws
 pub mod PlanLaws
 pub mod StackLaws

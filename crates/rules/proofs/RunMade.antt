@@ -63,7 +63,8 @@ module _ (L : View) (g : Good L) where
       omega (
         arith,
         leb-true (L .steps i) (stateAfter L n fresh .finished i)
-            (allTo-true (λ k. leb (L .steps k) (stateAfter L n fresh .finished k)) (L .rows) (run-finished L g n h) i l),
+            (allTo-true (λ k. leb (L .steps k) (stateAfter L n fresh .finished k)) (L .rows) (run-finished L g n h) i
+            l),
         run-kept L g n .invariant .shape .finished-le i l,
       )
 
