@@ -8,7 +8,7 @@ use Rattle.counting.specs.Lists.{firstIn}
 use Rattle.load.specs.declared.Window.{Window}
 use Rattle.load.specs.Load.{mostRows, mostSteps, latestPhase, largestCost, largestWait, noWindow}
 use Rattle.load.specs.View.{View, chain, embedded}
-use Rattle.rules.specs.State.{openWith, opensAt}
+use Rattle.rules.specs.State.{openWith}
 
 -- the window of row i that is open once f of its steps are finished
 unfoldable pub openAt : View → ℕ → ℕ → Window
@@ -38,8 +38,6 @@ pub record Good (L : View) : Type 0 where
   -- a row's first step is free, and an embedded step is a step
   pub first-free : (i : ℕ) → i < L .rows → embedded L i 0 ≡ false
   pub embedded-in : (i j : ℕ) → i < L .rows → embedded L i j ≡ true → j < L .steps i
-  -- a window is open exactly when the next step is embedded
-  pub opens : (i f : ℕ) → i < L .rows → opensAt L i f ≡ embedded L i f
   -- neighbouring embedded steps stand in one window
   pub one-limit : (i j : ℕ) → i < L .rows → embedded L i j ≡ true → embedded L i (suc j) ≡ true
       → limitAt L i (suc j) ≡ limitAt L i j

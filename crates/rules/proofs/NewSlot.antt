@@ -20,6 +20,7 @@ use Rattle.rules.specs.Move.{nextSlot}
 use Rattle.rules.specs.Slots.{slotAt, rowOf, slotEnd}
 use Rattle.rules.specs.ScheduleRules.{NamesStep}
 use Rattle.rules.proofs.Good.{Good, leftAt, windowAt}
+use Rattle.rules.proofs.WindowsOpen.{opensAt-embedded}
 use Rattle.rules.proofs.MoveLaws.{CanStart}
 use Rattle.rules.proofs.StackLaws.{due-is, windowLeft-is, plan-in-time}
 use Rattle.rules.proofs.Invariant.{isFree-embedded}
@@ -91,7 +92,7 @@ module _ (L : View) (s : State) (i : ℕ) (slots : List Slot) (g : Good L) (plan
       let begun : windowAt L i p .first ≤ f = omega (arith, g .first-last i p (c .there) lp) in
       let going : f < windowAt L i p .last = omega arith in
       let o : isOpen L s i ≡ true = window-opens L i p f lp begun going in
-      let e : embedded L i f ≡ true = sym (g .opens i f (c .there)) ∙ o in
+      let e : embedded L i f ≡ true = sym (opensAt-embedded L i f) ∙ o in
       omega (
         arith,
         slotEnd-is L i f (nextSlot s i) new-is,

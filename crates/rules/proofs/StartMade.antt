@@ -20,6 +20,7 @@ use Rattle.rules.specs.Plan.{planPasses}
 use Rattle.rules.specs.Move.{started, startedFull, nextSlot}
 use Rattle.rules.specs.Slots.{slotAt, slotEnd}
 use Rattle.rules.proofs.Good.{Good, windowAt}
+use Rattle.rules.proofs.WindowsOpen.{opensAt-embedded}
 use Rattle.rules.proofs.MoveLaws.{
   CanStart,
   started-clock,
@@ -184,7 +185,7 @@ module _ (L : View) (s : State) (i : ℕ) (slots : List Slot) (g : Good L) (plan
           let step′ : shown f ≡ windowAt L r p .first = rw e at first in
           let er : r ≡ i = omega arith in
           let shut : isOpen L s i ≡ false =
-          g .opens i f (c .there)
+          opensAt-embedded L i f
           ∙ subst (λ y. embedded L y f ≡ false) er (g .window-first r p f lr lp (omega arith)) in
           rw e
           (ap (s′ .opening) er ∙ (started-opening-same L s i d ∙ openingAfter-new L s i shut (stays er)))
