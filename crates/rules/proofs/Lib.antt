@@ -29,3 +29,5 @@ pub mod WholeLaws
 pub mod RunMade
 pub mod SlotTests
 pub mod SlotsPass
+pub mod CutWindows
+pub mod CutGood
