@@ -4,7 +4,7 @@ use Prim.Native.Nat.{ℕ, zero, suc, _<_}
 use mathlib.Core.Bool.{Bool, true, false, cond}
 use mathlib.Core.List.{List, [], _∷_, _++_, append-nil}
 use mathlib.Core.Logic.{_≢_}
-use mathlib.Core.Path.{_≡_, refl}
+use mathlib.Core.Path.{_≡_, refl, ap₂}
 use native.Mathlib.Decide.{ℕ-discrete}
 use native.Mathlib.Omega.{arith}
 use Rattle.counting.specs.Lists.{joinTo, keepIn, numbersWhere}
@@ -124,3 +124,9 @@ found-none p (a ∷ rest) h = go (p a) refl (found-none p rest) h
         → (p a ≡ false) × Every (λ i. p i ≡ false) rest
     go true q ih f = absurd (let z : _≡_ {A = ℕ} 0 1 = cc in omega arith)
     go false q ih f = (q, ih f)
+
+pub found-ext : (p q : ℕ → Bool) (l : List ℕ) → Every (λ i. p i ≡ q i) l → found p l ≡ found q l
+unfolding found
+found-ext p q [] e = refl
+found-ext p q (a ∷ rest) e =
+    ap₂ (λ b (r : Found). elim b as (λ x. Found) [ true ↦ at a | false ↦ r ]) (e .0) (found-ext p q rest (e .1))

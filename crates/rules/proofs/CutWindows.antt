@@ -98,7 +98,8 @@ module _ (L : View) (m : ℕ) (g : Good L) where
         arith,
         ap (λ (w : Window). w .last) (o .is),
         go (windowAt L i (o .place)) (o .isOpen)
-            (Every-at (Uncut (kept L m i)) (L .windows i) (o .place) noWindow (kept-uncut L m i (within i l)) (o .below)),
+            (Every-at (Uncut (kept L m i)) (L .windows i) (o .place) noWindow (kept-uncut L m i (within i l))
+            (o .below)),
       )
     where
       go : (w : Window) → Open f w → Uncut (kept L m i) w → w .last ≤ kept L m i

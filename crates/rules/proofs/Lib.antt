@@ -31,3 +31,5 @@ pub mod SlotTests
 pub mod SlotsPass
 pub mod CutWindows
 pub mod CutGood
+pub mod CutPlan
+pub mod CutMoves
