@@ -37,9 +37,10 @@ and-ext a b c d a′ b′ c′ d′ p q r t = rw (p, q, r, t)
 isCandidate-there : (L : View) (s : State) (i : ℕ) → isCandidate L s i ≡ true
     → (s .finished i < L .steps i) × (isAllowed L s i ≡ true)
 unfolding isCandidate
-isCandidate-there L s i h =
-    (ltb-true (s .finished i) (L .steps i) (and-left a b (and-left (a && b) c (and-left (a && b && c) d h))),
-    and-right (a && b) c (and-left (a && b && c) d h))
+isCandidate-there L s i h = (
+  ltb-true (s .finished i) (L .steps i) (and-left a b (and-left (a && b) c (and-left (a && b && c) d h))),
+  and-right (a && b) c (and-left (a && b && c) d h),
+)
   where
     a : Bool
     a = ltb (s .finished i) (L .steps i)
@@ -73,7 +74,8 @@ module _ (L : View) (m : ℕ) (g : Good L) (s : State) (inside : (i : ℕ) → i
       (leb (wouldEnd L s k) lastMoment)
       (lt-ltb (s .finished k) (kept L m k) h
       ∙ sym (lt-ltb (s .finished k) (L .steps k) (omega (arith, kept-le L m k))))
-      (ap (λ r. leb r (s .clock)) (release-of-cut L m k (s .finished k) (s .end k) h)) (allowed-same L m g s inside k l h) refl
+      (ap (λ r. leb r (s .clock)) (release-of-cut L m k (s .finished k) (s .end k) h))
+      (allowed-same L m g s inside k l h) refl
 
   -- row z is kept whole, and unfinished
   module _ (z : ℕ) (lz : z < L .rows) (all : L .steps z ≤ m) (late : s .finished z < L .steps z) where
@@ -111,7 +113,7 @@ module _ (L : View) (m : ℕ) (g : Good L) (s : State) (inside : (i : ℕ) → i
         (joinTo-ext (λ i. cond (isCandidate K s i) (i ∷ []) []) (λ i. cond (isCandidate L s i) (i ∷ []) []) (L .rows)
         (λ i l. ap (λ b. cond b (i ∷ []) []) (candidate-same i l)))
 
-    startedFull-same : (k : ℕ) → k < L .rows → isCandidate L s k ≡ true → startedFull K s k ≡ startedFull L s k
+    pub startedFull-same : (k : ℕ) → k < L .rows → isCandidate L s k ≡ true → startedFull K s k ≡ startedFull L s k
     startedFull-same k l e =
         ap (started K s k) (cost-of-cut L m k (s .finished k))
         ∙ started-same L m g s inside k (L .cost k (s .finished k)) l (candidate-in k l e)

@@ -33,3 +33,5 @@ pub mod CutWindows
 pub mod CutGood
 pub mod CutPlan
 pub mod CutMoves
+pub mod CutRun
+pub mod Demand3

@@ -140,7 +140,7 @@ pub move-done : (L : View) (s : State) → shaped L s ≡ true → allFinished L
 unfolding move shapedMove
 move-done L s h d = rw (h, move) (rw (d, shapedMove))
 
-chosen-at : (L : View) (s : State) (i : ℕ) → chosen L s ≡ at i → CanStart L s i
+pub chosen-at : (L : View) (s : State) (i : ℕ) → chosen L s ≡ at i → CanStart L s i
 unfolding chosen candidates
 chosen-at L s i e =
     let f = found-at Right (passes L s) (candidates L s) i

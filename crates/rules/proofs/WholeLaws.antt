@@ -19,6 +19,19 @@ use Rattle.rules.specs.ScheduleRules.{NamesStep, HasSlot, SameRow, windo
 use Rattle.rules.proofs.Good.{windowAt}
 use Rattle.rules.proofs.SlotLaws.{ofRow, IsSlot, Fits}
 
+-- the same load with other deadlines
+abbrev pub withDeadlines : View → (ℕ → ℕ) → View
+withDeadlines L deadline =
+    record {
+      rows = L .rows;
+      phase = L .phase;
+      deadline = deadline;
+      steps = L .steps;
+      cost = L .cost;
+      wait = L .wait;
+      windows = L .windows;
+    }
+
 pub record Whole (L : View) (slots : List Slot) : Type 0 where
   pub fits : (k : ℕ) → k < length slots → Fits L slots k (slotAt slots k)
   pub count : (i : ℕ) → i < L .rows → ofRow slots (shown i) (length slots) ≡ L .steps i
@@ -169,14 +182,24 @@ module _ (L : View) (slots : List Slot) (w : Whole L slots) where
             ))
       ]
 
+  -- all rules hold, whatever the deadlines are, if these do
   pub rules-hold : ((i p : ℕ) → i < L .rows → p < length (L .windows i)
       → windowAt L i p .first < windowAt L i p .last)
+      → (deadline : ℕ → ℕ)
       → ((k : ℕ) → k < length slots → slotAt slots k .step ≡ L .steps (rowOf (slotAt slots k))
-      → slotEnd L (slotAt slots k) ≤ L .deadline (rowOf (slotAt slots k)))
-      → ScheduleRules L slots
-  rules-hold long deadlines =
+      → slotEnd L (slotAt slots k) ≤ deadline (rowOf (slotAt slots k)))
+      → ScheduleRules (withDeadlines L deadline) slots
+  rules-hold long deadline in-time =
       record {
-        only = names;
+        only = λ k l.
+            (let n = names k l in
+            record {
+              row-from = n .row-from;
+              row-to = n .row-to;
+              step-from = n .step-from;
+              step-to = n .step-to;
+              start-to = n .start-to;
+            });
         each = each;
         once = once;
         in-order = in-order;
@@ -186,5 +209,5 @@ module _ (L : View) (slots : List Slot) (w : Whole L slots) where
             (record { its-row = slot-is L (slotAt slots k) (names k l) .its-row; its-step = e });
         waits = waits;
         windows = windows-kept long;
-        deadlines = deadlines;
+        deadlines = in-time;
       }

@@ -1,0 +1,118 @@
+-- Demand 3: the run of a good load ends by its bound, keeps all rules of a schedule, and each row ends by its row
+-- bound; so where no margin is negative the schedule keeps its deadlines and passes the check.
+use Prim.Native.Nat.{ℕ, zero, suc, _-_, _≤_, _<_}
+use mathlib.Core.Bool.{Bool, true, false, cond, not}
+use mathlib.Core.Path.{_≡_, refl}
+use native.Mathlib.Omega.{arith}
+use lib.Dec.{ltb}
+use lib.IntN.{pos, negsuc, _-ℤ_}
+use lib.ListN.{length}
+use borrow.Author.Tests.{not-true, ltb-false}
+use Rattle.counting.proofs.TestLaws.{allTo-true, true-false}
+use Rattle.refusals.specs.declared.Refusal.{Refusal}
+use Rattle.refusals.specs.declared.Checked.the-variants as found
+use Rattle.load.specs.View.{View, isFree}
+use Rattle.rules.specs.declared.Outcome.the-variants.{Done, Refused}
+use Rattle.rules.specs.Bound.{bound}
+use Rattle.rules.specs.Margins.{rowBound, margin, isNegative, verdict}
+use Rattle.rules.specs.State.{fresh}
+use Rattle.rules.specs.Move.{move}
+use Rattle.rules.specs.Run.{stateAfter, starts, enoughMoves, schedule}
+use Rattle.rules.specs.Slots.{slotAt, rowOf, stepOf, slotEnd}
+use Rattle.rules.specs.Check.{checkSlots}
+use Rattle.rules.specs.ScheduleRules.{ScheduleRules}
+use Rattle.rules.proofs.TightBound.{tightBound, tightBound-le}
+use Rattle.rules.proofs.Good.{Good}
+use Rattle.rules.proofs.ClockBound.{tightBound-fits}
+use Rattle.rules.proofs.RunLaws.{run-done, run-answers, run-clock, schedule-whole}
+use Rattle.rules.proofs.WholeLaws.{withDeadlines, Whole, slot-is, free-last, rules-hold}
+use Rattle.rules.proofs.RunMade.{finished-all, schedule-is-whole, last-ends}
+use Rattle.rules.proofs.SlotsPass.{GoodOrLate, check-late, check-good}
+use Rattle.rules.proofs.CutRun.{row-in-bound}
+
+pub record Demand3 (L : View) : Type 0 where
+  -- the run ends with Done after so many moves, and the schedule is its starts, whatever moves follow
+  pub moves : ℕ
+  pub moves-few : moves < enoughMoves
+  pub done : move L (stateAfter L moves fresh) .outcome ≡ Done
+  pub all-starts : (n : ℕ) → moves ≤ n → schedule L ≡ starts L n fresh
+  -- no move of it is refused
+  pub answers : (n : ℕ) (refusal : Refusal) → move L (stateAfter L n fresh) .outcome ≡ Refused refusal → ⊥
+  -- and the clock is never past the bound
+  pub in-bound : (n : ℕ) → stateAfter L n fresh .clock ≤ bound L
+  -- each step is scheduled once, and nothing else; phases, order, waits and windows are kept, no two slots overlap, and
+  -- each row ends by its row bound
+  pub rules : ScheduleRules (withDeadlines L (rowBound L)) (schedule L)
+  -- a free step starts when every row has finished all its steps of lower number
+  pub free-steps : (k h : ℕ) → k < length (schedule L) → h < length (schedule L)
+      → isFree L (rowOf (slotAt (schedule L) k)) (stepOf (slotAt (schedule L) k)) ≡ true
+      → slotAt (schedule L) h .step < slotAt (schedule L) k .step
+      → slotEnd L (slotAt (schedule L) h) ≤ slotAt (schedule L) k .start
+  -- the check of the schedule meets nothing but a row that ends late
+  pub checked : GoodOrLate (checkSlots L (schedule L))
+  -- where no margin is negative, deadlines are kept, and the check says yes
+  pub deadlines : verdict L ≡ true → ScheduleRules L (schedule L)
+  pub passes : verdict L ≡ true → checkSlots L (schedule L) ≡ found.Good
+
+-- a margin that is not negative
+difference-le : (d b : ℕ) → isNegative (pos d -ℤ pos b) ≡ false → b ≤ d
+difference-le d zero e = omega arith
+difference-le d (suc b) e = go (ltb d (suc b)) refl e
+  where
+    go : (t : Bool) → ltb d (suc b) ≡ t → isNegative (cond t (negsuc (suc b - suc d)) (pos (d - suc b))) ≡ false
+        → suc b ≤ d
+    go true q h = absurd (true-false true refl h)
+    go false q h = ltb-false d (suc b) q
+
+verdict-true : (L : View) → verdict L ≡ true → (i : ℕ) → i < L .rows → rowBound L i ≤ L .deadline i
+unfolding verdict margin
+verdict-true L e i l =
+    difference-le (L .deadline i) (rowBound L i)
+    (not-true (isNegative (margin L i)) (allTo-true (λ k. not (isNegative (margin L k))) (L .rows) e i l))
+
+module _ (L : View) (g : Good L) where
+  w : Whole L (schedule L)
+  w = schedule-is-whole L g
+
+  -- each row ends by its row bound
+  pub rows-end : (k : ℕ) → k < length (schedule L)
+      → slotAt (schedule L) k .step ≡ L .steps (rowOf (slotAt (schedule L) k))
+      → slotEnd L (slotAt (schedule L) k) ≤ rowBound L (rowOf (slotAt (schedule L) k))
+  rows-end k l e =
+      let x = slotAt (schedule L) k in
+      let mine = w .fits k l .names in
+      let i = rowOf x in
+      let li : i < L .rows = omega (arith, mine .row-from, mine .row-to) in
+      omega (
+        arith,
+        last-ends L g k i l li (slot-is L x mine .its-row) e,
+        row-in-bound L g i li (tightBound L) (omega (arith, finished-all L g (tightBound L) (omega arith) i li)),
+      )
+
+  in-time : verdict L ≡ true → (k : ℕ) → k < length (schedule L)
+      → slotAt (schedule L) k .step ≡ L .steps (rowOf (slotAt (schedule L) k))
+      → slotEnd L (slotAt (schedule L) k) ≤ L .deadline (rowOf (slotAt (schedule L) k))
+  in-time v k l e =
+      let mine = w .fits k l .names in
+      omega (
+        arith,
+        rows-end k l e,
+        verdict-true L v (rowOf (slotAt (schedule L) k)) (omega (arith, mine .row-from, mine .row-to)),
+      )
+
+  pub demand3 : Demand3 L
+  demand3 =
+      record {
+        moves = tightBound L;
+        moves-few = omega (arith, tightBound-fits L g);
+        done = run-done L g (tightBound L) (omega arith);
+        all-starts = schedule-whole L g;
+        answers = run-answers L g;
+        in-bound = λ n. omega (arith, run-clock L g n, tightBound-le L);
+        rules = rules-hold L (schedule L) w (g .first-last) (rowBound L) rows-end;
+        free-steps = λ k h lk lh free low.
+            w .fits k lk .after h (free-last L (schedule L) w k h lk lh free low);
+        checked = check-late L (schedule L) w (g .first-last) (g .first-least);
+        deadlines = λ v. rules-hold L (schedule L) w (g .first-last) (L .deadline) (in-time v);
+        passes = λ v. check-good L (schedule L) w (g .first-last) (g .first-least) (in-time v);
+      }
