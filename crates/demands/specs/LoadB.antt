@@ -75,7 +75,7 @@ loadB =
           ∷ [];
     }
 
--- row 3 at 5, row 1 at 7, row 3 at 9; end 10. Two windows are open from 7 on
+-- row 3 at 5, row 1 at 7, row 3 at 9; end 10. Two windows are open from 7 to 9
 unfoldable pub loadB9 : Sound
 loadB9 =
     record {

@@ -1,4 +1,5 @@
--- "Loads to try": what is claimed of a load marked P, as one predicate. To be read after Notation.
+-- "Loads to try": what is asked of a load marked P, and what is said of it. To be read after
+-- Notation.
 use Prim.Native.Nat.{ℕ}
 use Prim.Native.String.{String}
 use mathlib.Core.Bool.{Bool}
