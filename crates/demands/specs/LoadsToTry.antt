@@ -71,13 +71,14 @@ glimpseOf n moved =
 unfoldable pub glimpseAfter : Load → ℕ → Glimpse
 glimpseAfter load n = glimpseOf n (move (viewOf load) (stateAfter (viewOf load) n fresh))
 
--- an acceptable load: its file, the load itself, its answers, glimpses of its run, its schedule
--- file and what is printed
+-- an acceptable load: its file, the load itself, its answers, glimpses of its run, the margins'
+-- bytes of the rows that are there, its schedule file and what is printed
 pub record Sound : Type 0 where
   pub file : List String
   pub load : Load
   pub answers : Answers
   pub glimpses : List Glimpse
+  pub margin-bytes : List String
   pub schedule-file : List String
   pub lines : List String
 
