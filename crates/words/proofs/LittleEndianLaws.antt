@@ -1,5 +1,5 @@
 -- The two round trips of a number and its bytes, over any width: what is written reads back, and what is read, of
--- bytes, is written back.
+-- bytes, is written back. Also: which bytes of a list the number at a place depends on.
 use Prim.Native.Nat.{ℕ, zero, suc, _+_, _*_, _/_, _%_, _^_, _≤_, _<_}
 use mathlib.Core.List.{List, [], _∷_, _++_}
 use mathlib.Core.Path.{_≡_, refl, ap, ap₂, sym, _∙_}
