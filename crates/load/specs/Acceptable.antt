@@ -30,6 +30,10 @@ use Rattle.load.specs.Check.{isZeroStep, isZeroWindow, isZeroRow}
 abbrev pub windowOf : View → ℕ → ℕ → Window
 windowOf L i p = getD (L .windows i) p noWindow
 
+-- the chain of a window of row i: all its costs and the waits between them
+abbrev pub chainIn : View → ℕ → Window → ℕ
+chainIn L i w = chain (L .cost i) (L .wait i) (w .first - 1) (w .last)
+
 -- something holds of every row
 abbrev pub EveryRow : View → (ℕ → Type 0) → Type 0
 EveryRow L P = (i : ℕ) → i < L .rows → P i
@@ -74,11 +78,7 @@ pub record Acceptable (L : View) : Type 0 where
   pub ascending :
       EveryWindow L (λ i q. (p : ℕ) → p < q → windowOf L i p .last < windowOf L i q .first)
   -- the limit is at least the chain
-  pub limit-chain :
-      EveryWindow
-      L
-      (λ i p. chain (L .cost i) (L .wait i) (windowOf L i p .first - 1) (windowOf L i p .last)
-      ≤ windowOf L i p .limit)
+  pub limit-chain : EveryWindow L (λ i p. chainIn L i (windowOf L i p) ≤ windowOf L i p .limit)
 
 -- identifiers and box numbers, which come from separate registers
 pub record Registered (load : Load) : Type 0 where

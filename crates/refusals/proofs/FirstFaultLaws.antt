@@ -1,5 +1,5 @@
--- A whole list of tests, or of findings, taken apart by place: where the first fault is Good, the test at every place is
--- not met and the finding at every place is Good. At a numeral the place computes, so that each use is one line.
+-- A whole list of tests, or of findings, taken apart by place: where the first fault is Good, the test at every place
+-- is not met and the finding at every place is Good. At a numeral the place computes, so that each use is one line.
 use Prim.Native.Nat.{ℕ, zero, suc}
 use mathlib.Core.Bool.{Bool, false}
 use mathlib.Core.List.{List, [], _∷_}

@@ -1,0 +1,2 @@
+-- Laws of a load: what an accepted one has, and what its windows give.
+pub mod AcceptableLaws
