@@ -1,7 +1,7 @@
 -- Laws of tests over the numbers below n: from a test to the fact at each number and back, and the equations at n + 1.
 use Prim.Native.Nat.{ℕ, zero, suc, _+_, _-_, _≤_, _<_}
 use mathlib.Core.Bool.{Bool, true, false, _&&_, _||_}
-use mathlib.Core.Path.{_≡_, refl, ap₂}
+use mathlib.Core.Path.{_≡_, refl, ap₂, sym}
 use native.Mathlib.Decide.{ℕ-discrete}
 use native.Mathlib.Numerals.{add-one}
 use native.Mathlib.Omega.{arith}
@@ -108,3 +108,9 @@ allFrom-true p a b h i from l =
 
 pub true-allFrom : (p : ℕ → Bool) (a b : ℕ) → ((i : ℕ) → a ≤ i → i < b → p i ≡ true) → allFrom p a b ≡ true
 true-allFrom p a b h = true-allTo (λ k. p (a + k)) (b - a) (λ k l. h (a + k) (omega arith) (omega arith))
+
+-- two tests that are met together are the same
+pub test-ext : (a b : Bool) → (a ≡ true → b ≡ true) → (b ≡ true → a ≡ true) → a ≡ b
+test-ext true b to from = sym (to refl)
+test-ext false true to from = from refl
+test-ext false false to from = refl

@@ -1,2 +1,5 @@
 -- Laws of a load: what an accepted one has, and what its windows give.
 pub mod AcceptableLaws
+pub mod WindowChain
+pub mod WindowLaws
+pub mod WindowLeft
