@@ -94,7 +94,7 @@ module _ (load : Load) (i p : ℕ) where
   unfolding viewOf
   within h = omega (arith, length-take (rowAt load i .windows) (rowAt load i .window))
 
-  window-is : p < length (viewOf load .windows i) → windowOf (viewOf load) i p ≡ windowAt (rowAt load i) p
+  pub window-is : p < length (viewOf load .windows i) → windowOf (viewOf load) i p ≡ windowAt (rowAt load i) p
   unfolding viewOf
   window-is h = getD-take (rowAt load i .windows) (rowAt load i .window) p noWindow (within h)
 

@@ -14,7 +14,7 @@ use Rattle.counting.proofs.TestLaws.{and-left, and-right, and-both, true-false,
 use Rattle.counting.proofs.MemberLaws.{First, anyIn-true, true-anyIn, anyIn-ext, firstIn-only}
 use Rattle.load.specs.declared.Window.{Window}
 use Rattle.load.specs.Load.{shown, noWindow}
-use Rattle.load.specs.View.{View, inWindow, embeddedIn, embedded}
+use Rattle.load.specs.View.{View, embeddedIn, embedded}
 use Rattle.load.specs.Acceptable.{Acceptable, windowOf, chainIn}
 
 -- a window is open once j steps are finished: after its first step and until its last
@@ -38,11 +38,13 @@ module _ (j : ℕ) (w : Window) where
   -- what an embedded step's window is
   embeddedIn-holds : embeddedIn (shown j) w ≡ true → holds j w ≡ true
   embeddedIn-holds e =
-      let inside = and-left (inWindow (shown j) w) (not (eqb (shown j) (w .first))) e in
-      let later = not-true _ (and-right (inWindow (shown j) w) (not (eqb (shown j) (w .first))) e) in
-      let f = leb-true (w .first) (shown j) (and-left (leb (w .first) (shown j)) (leb (shown j) (w .last)) inside) in
-      let l = leb-true (shown j) (w .last) (and-right (leb (w .first) (shown j)) (leb (shown j) (w .last)) inside) in
-      within-holds (omega (arith, eqb-false (shown j) (w .first) later)) (omega arith)
+      let first : Bool = eqb (shown j) (w .first) in
+      let from : Bool = leb (w .first) (shown j) in
+      let to : Bool = leb (shown j) (w .last) in
+      let f = leb-true (w .first) (shown j) (and-left from to (and-left (from && to) (not first) e)) in
+      let l = leb-true (shown j) (w .last) (and-right from to (and-left (from && to) (not first) e)) in
+      let n = eqb-false (shown j) (w .first) (not-true first (and-right (from && to) (not first) e)) in
+      within-holds (omega arith) (omega arith)
 
   holds-embeddedIn : holds j w ≡ true → embeddedIn (shown j) w ≡ true
   holds-embeddedIn e =

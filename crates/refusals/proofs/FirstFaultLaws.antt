@@ -11,10 +11,8 @@ use Rattle.refusals.specs.FirstMet.{firstMet, firstFault}
 use Rattle.refusals.proofs.FirstMetLaws.{
   andThen-good-first,
   andThen-good-second,
-  andThen-both,
   firstMet-good-first,
   firstMet-good-rest,
-  firstMet-both,
 }
 
 -- the test at a place, past the last one that is not met
@@ -34,15 +32,7 @@ firstMet-good [] e k = refl
 firstMet-good (t ∷ ts) e zero = firstMet-good-first t ts e
 firstMet-good (t ∷ ts) e (suc k) = firstMet-good ts (firstMet-good-rest t ts e) k
 
-pub good-firstMet : (ts : List (Bool × Refusal)) → ((k : ℕ) → testAt ts k ≡ false) → firstMet ts ≡ Good
-good-firstMet [] h = refl
-good-firstMet (t ∷ ts) h = firstMet-both t ts (h zero) (good-firstMet ts (λ k. h (suc k)))
-
 pub firstFault-good : (fs : List Checked) → firstFault fs ≡ Good → (k : ℕ) → findingAt fs k ≡ Good
 firstFault-good [] e k = refl
 firstFault-good (f ∷ fs) e zero = andThen-good-first f (firstFault fs) e
 firstFault-good (f ∷ fs) e (suc k) = firstFault-good fs (andThen-good-second f (firstFault fs) e) k
-
-pub good-firstFault : (fs : List Checked) → ((k : ℕ) → findingAt fs k ≡ Good) → firstFault fs ≡ Good
-good-firstFault [] h = refl
-good-firstFault (f ∷ fs) h = andThen-both f (firstFault fs) (h zero) (good-firstFault fs (λ k. h (suc k)))
