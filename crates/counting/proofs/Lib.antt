@@ -3,3 +3,4 @@ pub mod SumLaws
 pub mod TestLaws
 pub mod ListLaws
 pub mod MemberLaws
+pub mod KeepLaws
