@@ -80,17 +80,21 @@ module _ (L : View) (ok : Acceptable L) (i : ℕ) (r : i < L .rows) where
       ]
 
   module _ (j : ℕ) where
-    -- a window that holds step j is the only one that does, and the first
+    -- one window at most holds step j
+    pub holds-unique : (p q : ℕ) → p < length (L .windows i) → q < length (L .windows i)
+        → holds j (windowOf L i p) ≡ true → holds j (windowOf L i q) ≡ true → p ≡ q
+    holds-unique p q lp lq e f =
+        windows-apart p q j lp lq
+        (holds-first j (windowOf L i p) e)
+        (omega (arith, holds-last j (windowOf L i p) e))
+        (holds-first j (windowOf L i q) f)
+        (omega (arith, holds-last j (windowOf L i q) f))
+
+    -- and it is the first that does
     pub holder-is : (p : ℕ) → p < length (L .windows i) → holds j (windowOf L i p) ≡ true
         → holder L i j ≡ windowOf L i p
     holder-is p l e =
-        firstIn-only (holds j) noWindow (L .windows i) p l e
-        (λ q h g.
-        (windows-apart q p j h l
-        (holds-first j (windowOf L i q) g)
-        (omega (arith, holds-last j (windowOf L i q) g))
-        (holds-first j (windowOf L i p) e)
-        (omega (arith, holds-last j (windowOf L i p) e))))
+        firstIn-only (holds j) noWindow (L .windows i) p l e (λ q h f. holds-unique q p h l f e)
 
     held-embedded : (p : ℕ) → p < length (L .windows i) → holds j (windowOf L i p) ≡ true → embedded L i j ≡ true
     held-embedded p l e = sym (open-embedded L i j) ∙ true-anyIn (holds j) noWindow (L .windows i) p l e

@@ -1,14 +1,16 @@
 -- What is left of an open window, from its next step on: that step, the wait after it and what is left then, and at the
--- window's last step its cost alone. All of a window that a free step opens is within its limit.
+-- window's last step its cost alone. It is within the limit, and so is all of a window that a free step opens.
 use Prim.Native.Nat.{ℕ, suc, _+_, _-_, _≤_, _<_}
 use mathlib.Core.Bool.{true, false}
 use mathlib.Core.Path.{_≡_, ap}
+use native.Mathlib.Nat.{le-trans}
 use native.Mathlib.Omega.{arith}
 use Rattle.load.specs.View.{View, chain, embedded}
 use Rattle.load.specs.Acceptable.{Acceptable}
-use Rattle.load.proofs.WindowChain.{chain-one, chain-front}
+use Rattle.load.proofs.WindowChain.{chain-one, chain-front, chain-later}
 use Rattle.load.proofs.WindowLaws.{
   holder,
+  holder-first,
   holder-last,
   holder-limit,
   holder-next,
@@ -33,6 +35,15 @@ module _ (L : View) (ok : Acceptable L) (i : ℕ) (r : i < L .rows) (j : ℕ) wh
   leftFrom-last e f =
       let ends : holder L i j .last ≡ suc j = omega (arith, holder-closes L ok i r j e f) in
       rw ends (chain-one (L .cost i) (L .wait i) j)
+
+  pub leftFrom-le : embedded L i j ≡ true → leftFrom L i j ≤ holder L i j .limit
+  leftFrom-le e =
+      let a : ℕ = holder L i j .first - 1 in
+      let f = holder-first L ok i r j e in
+      let l = holder-last L ok i r j e in
+      let q : a + (j - a) ≡ j = omega arith in
+      let c = chain-later (L .cost i) (L .wait i) a (holder L i j .last) (j - a) (omega arith) in
+      le-trans (rw q at c) (holder-limit L ok i r j e)
 
   module _ (e : embedded L i j ≡ false) (f : embedded L i (suc j) ≡ true) where
     -- the chain of the window that step j opens, from step j to the window's last
