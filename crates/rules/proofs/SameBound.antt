@@ -1,0 +1,57 @@
+-- Two loads that differ only in identifiers and box numbers have the same view, and so the same bound, margins and
+-- verdict, and whatever else is defined over the view.
+use Prim.Native.Nat.{ℕ}
+use mathlib.Core.Path.{_≡_, ap}
+use lib.ListN.{getD, take}
+use Rattle.load.specs.declared.Row.{Row}
+use Rattle.load.specs.declared.Load.{Load}
+use Rattle.load.specs.Load.{rowAt, noStep}
+use Rattle.load.specs.View.{viewOf}
+use Rattle.rules.specs.Bound.{bound}
+use Rattle.rules.specs.Margins.{rowBound, margin, margins, marginBytes, verdict}
+
+-- two rows that differ only in identifier and box number
+pub record SameRow (a b : Row) : Type 0 where
+  pub phase : a .phase ≡ b .phase
+  pub deadline : a .deadline ≡ b .deadline
+  pub steps : a .steps ≡ b .steps
+  pub windows : a .windows ≡ b .windows
+  pub step : a .step ≡ b .step
+  pub window : a .window ≡ b .window
+
+-- two loads that differ only in identifiers and box numbers
+pub record SameLoad (a b : Load) : Type 0 where
+  pub rows : a .rows ≡ b .rows
+  pub row : (i : ℕ) → SameRow (rowAt a i) (rowAt b i)
+
+pub viewOf-same : (a b : Load) → SameLoad a b → viewOf a ≡ viewOf b
+unfolding viewOf
+viewOf-same a b same =
+    λ t. record {
+      rows = same .rows t;
+      phase = λ i. same .row i .phase t;
+      deadline = λ i. same .row i .deadline t;
+      steps = λ i. same .row i .steps t;
+      cost = λ i j. ap (λ l. getD l j noStep .cost) (same .row i .step) t;
+      wait = λ i j. ap (λ l. getD l j noStep .wait) (same .row i .step) t;
+      windows = λ i. take (same .row i .windows t) (same .row i .window t);
+    }
+
+-- what is defined over the view is the same
+pub bound-same : (a b : Load) → SameLoad a b → bound (viewOf a) ≡ bound (viewOf b)
+bound-same a b same = ap bound (viewOf-same a b same)
+
+pub rowBound-same : (a b : Load) → SameLoad a b → (i : ℕ) → rowBound (viewOf a) i ≡ rowBound (viewOf b) i
+rowBound-same a b same i = ap (λ L. rowBound L i) (viewOf-same a b same)
+
+pub margin-same : (a b : Load) → SameLoad a b → (i : ℕ) → margin (viewOf a) i ≡ margin (viewOf b) i
+margin-same a b same i = ap (λ L. margin L i) (viewOf-same a b same)
+
+pub margins-same : (a b : Load) → SameLoad a b → margins (viewOf a) ≡ margins (viewOf b)
+margins-same a b same = ap margins (viewOf-same a b same)
+
+pub marginBytes-same : (a b : Load) → SameLoad a b → marginBytes (viewOf a) ≡ marginBytes (viewOf b)
+marginBytes-same a b same = ap marginBytes (viewOf-same a b same)
+
+pub verdict-same : (a b : Load) → SameLoad a b → verdict (viewOf a) ≡ verdict (viewOf b)
+verdict-same a b same = ap verdict (viewOf-same a b same)
