@@ -2,3 +2,6 @@
 pub mod RecordLaws
 pub mod FieldLaws
 pub mod PlaceLaws
+pub mod CheckLaws
+pub mod ZeroLaws
+pub mod FaultLaws
