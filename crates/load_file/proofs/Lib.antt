@@ -5,3 +5,4 @@ pub mod PlaceLaws
 pub mod CheckLaws
 pub mod ZeroLaws
 pub mod FaultLaws
+pub mod WrittenFile
