@@ -6,3 +6,4 @@ pub mod CheckLaws
 pub mod ZeroLaws
 pub mod FaultLaws
 pub mod WrittenFile
+pub mod ReadFile

@@ -4,7 +4,7 @@ use mathlib.Core.Bool.{Bool, true, _&&_}
 use mathlib.Core.Path.{_≡_, refl, ap, sym, _∙_}
 use native.Mathlib.Omega.{arith}
 use lib.Dec.{eqb}
-use lib.ListN.{replicate}
+use lib.ListN.{replicate, getD-replicate}
 use borrow.Author.Tests.{eqb-true}
 use Rattle.counting.specs.Sums.{allTo}
 use Rattle.counting.specs.Lists.{joinTo}
@@ -23,7 +23,7 @@ use Rattle.load.specs.Check.{
   zeroWindowsFrom,
   isZeroRow,
 }
-use Rattle.load_file.specs.RoundTrip.{HeldRow}
+use Rattle.load_file.specs.RoundTrip.{HeldStep, HeldWindow, HeldRow}
 
 -- the last of several fields that are all zero
 last-zero : (front : Bool) (n : ℕ) → (front && eqb n 0) ≡ true → n ≡ 0
@@ -62,9 +62,32 @@ module _ (row : Row) (a : ℕ) where
   unused-windows h =
       true-allFrom (λ k. isZeroWindow (windowAt row k)) a mostWindows (λ k from l. ap isZeroWindow (h k from l))
 
+pub noStep-held : HeldStep noStep
+noStep-held = record { cost-fits = omega arith; wait-fits = omega arith }
+
+pub noWindow-held : HeldWindow noWindow
+noWindow-held = record { first-fits = omega arith; last-fits = omega arith; limit-fits = omega arith }
+
+-- the row that an unused place holds
 pub zeroRow-zero : isZeroRow zeroRow ≡ true
 unfolding zeroRow allTo
 zeroRow-zero = refl
+
+pub zeroRow-held : HeldRow zeroRow
+unfolding zeroRow
+zeroRow-held =
+    record {
+      identifier-fits = omega arith;
+      box-fits = omega arith;
+      phase-fits = omega arith;
+      deadline-fits = omega arith;
+      steps-fit = omega arith;
+      windows-fit = omega arith;
+      step-places = refl;
+      window-places = refl;
+      each-step = λ j l. rw (getD-replicate mostSteps j noStep noStep l) noStep-held;
+      each-window = λ k l. rw (getD-replicate mostWindows k noWindow noWindow l) noWindow-held;
+    }
 
 -- the fields of a row beside its steps and windows
 record FieldsZero (row : Row) : Type 0 where
@@ -95,7 +118,7 @@ fields-zero row h₆ =
       windows-zero = last-zero t₅ (row .windows) h₆;
     }
 
--- a row of zeros, held in memory, is the row that an unused place holds
+-- a row of zeros, held in memory, is that row
 pub zero-row : (row : Row) → HeldRow row → isZeroRow row ≡ true → row ≡ zeroRow
 unfolding zeroRow joinTo
 zero-row row held h =
