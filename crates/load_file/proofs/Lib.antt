@@ -7,3 +7,5 @@ pub mod ZeroLaws
 pub mod FaultLaws
 pub mod WrittenFile
 pub mod ReadFile
+pub mod ByteLaws
+pub mod RoundTrip
