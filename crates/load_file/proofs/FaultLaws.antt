@@ -3,15 +3,14 @@
 use Prim.Native.Nat.{ℕ, _+_, _≤_, _<_}
 use mathlib.Core.Bool.{Bool, not}
 use mathlib.Core.List.{List, [], _∷_, _++_}
-use mathlib.Core.Path.{_≡_, ap}
+use mathlib.Core.Path.{_≡_}
 use lib.Dec.{eqb, ltb}
 use lib.ListN.{length}
-use borrow.Author.Tests.{ltb-false, le-ltb, eqb-true, eq-eqb, not-false}
+use borrow.Author.Tests.{ltb-false, le-ltb}
 use Rattle.words.specs.LittleEndian.{byteAt, numberAt}
 use Rattle.refusals.specs.declared.Refusal.{Refusal}
 use Rattle.refusals.specs.declared.Refusal.the-variants.{MarkDiffers, OutOfRange, EndDiffers}
 use Rattle.refusals.specs.declared.Checked.the-variants.{Good}
-use Rattle.refusals.specs.FirstMet.{firstMet}
 use Rattle.refusals.proofs.FirstMetLaws.{firstFaultTo-good, good-firstFaultTo}
 use Rattle.refusals.proofs.UnmetLaws.{
   good-unmet,
@@ -46,7 +45,7 @@ use Rattle.load_file.specs.Reading.{
   endTests,
   fileFault,
 }
-use Rattle.load_file.proofs.RecordLaws.{Due, good-due, due-good}
+use Rattle.load_file.proofs.RecordLaws.{differs-false, eq-differs, Due, good-due, due-good}
 
 -- what the reading asks of row i, whose record stands at a place
 pub record RowAccepted (bs : List ℕ) (i at : ℕ) : Type 0 where
@@ -91,18 +90,24 @@ module _ (bs : List ℕ) (i at : ℕ) where
   unfolding rowFaultAt stepFaultIn windowFaultIn
   good-rowFaultAt r =
       let row = rowFrom bs at in
-      allGood-good (_ ∷ _ ∷ _ ∷ [])
-      (append-good-both (dueTests rowKind bs at ++ rowTests row) (takenTests (loadIn bs) i row)
-      (append-good-both (dueTests rowKind bs at) (rowTests row) (due-good rowKind bs at (r .due)) (r .fields-good))
-      (r .taken-good),
-      (good-firstFaultTo (stepFaultIn bs at) (stepsSaid bs at)
-      (λ j l.
-      append-good-both (dueTests stepKind bs (stepPlace at j)) (stepTests row j)
-      (due-good stepKind bs (stepPlace at j) (r .each-step-due j l)) (r .each-step-good j l)),
-      (good-firstFaultTo (windowFaultIn bs at) (windowsSaid bs at)
-      (λ k l.
-      append-good-both (dueTests windowKind bs (windowPlace bs at k)) (windowTests row k)
-      (due-good windowKind bs (windowPlace bs at k) (r .each-window-due k l)) (r .each-window-good k l)), tt)))
+      let due = due-good rowKind bs at (r .due) in
+      allGood-good (_ ∷ _ ∷ _ ∷ []) (
+        append-good-both (dueTests rowKind bs at ++ rowTests row) (takenTests (loadIn bs) i row)
+            (append-good-both (dueTests rowKind bs at) (rowTests row) due (r .fields-good)) (r .taken-good),
+        (
+          good-firstFaultTo (stepFaultIn bs at) (stepsSaid bs at)
+              (λ j l.
+              append-good-both (dueTests stepKind bs (stepPlace at j)) (stepTests row j)
+              (due-good stepKind bs (stepPlace at j) (r .each-step-due j l)) (r .each-step-good j l)),
+          (
+            good-firstFaultTo (windowFaultIn bs at) (windowsSaid bs at)
+                (λ k l.
+                append-good-both (dueTests windowKind bs (windowPlace bs at k)) (windowTests row k)
+                (due-good windowKind bs (windowPlace bs at k) (r .each-window-due k l)) (r .each-window-good k l)),
+            tt,
+          ),
+        ),
+      )
 
 -- where the end record stands
 abbrev pub endPlace : List ℕ → ℕ
@@ -143,11 +148,11 @@ module _ (bs : List ℕ) where
       let count : ℕ = stepsInAll (viewOf (loadIn bs)) in
       record {
         header-due = good-due headerKind bs 0 head-due;
-        version-is = eqb-true (byteAt bs 2) version (not-false (eqb (byteAt bs 2) version) (head .0));
+        version-is = differs-false (byteAt bs 2) version (head .0);
         few-rows = ltb-false mostRows (rowsSaid bs) (head .1 .0);
         each-row = λ i l. rowFaultAt-good bs i (rowPlace bs i) (row i l);
         end-due = good-due endKind bs (endPlace bs) tail-due;
-        count-is = eqb-true said count (not-false (eqb said count) (tail .0));
+        count-is = differs-false said count (tail .0);
         no-more = ltb-false (endPlace bs + 4) (length bs) (tail .1 .0);
       }
 
@@ -156,13 +161,19 @@ module _ (bs : List ℕ) where
   good-fileFault f =
       let said : ℕ = numberAt 2 bs (endPlace bs + 2) in
       let count : ℕ = stepsInAll (viewOf (loadIn bs)) in
-      allGood-good (_ ∷ _ ∷ _ ∷ [])
-      (append-good-both (dueTests headerKind bs 0) (headerOwn bs) (due-good headerKind bs 0 (f .header-due))
-      (unmet-good (headerOwn bs)
-      (ap not (eq-eqb (byteAt bs 2) version (f .version-is)), (le-ltb mostRows (rowsSaid bs) (f .few-rows), tt))),
-      (good-firstFaultTo (λ i. rowFaultAt bs i (rowPlace bs i)) (rowsSaid bs)
-      (λ i l. good-rowFaultAt bs i (rowPlace bs i) (f .each-row i l)),
-      (append-good-both (dueTests endKind bs (endPlace bs)) (endOwn bs)
-      (due-good endKind bs (endPlace bs) (f .end-due))
-      (unmet-good (endOwn bs)
-      (ap not (eq-eqb said count (f .count-is)), (le-ltb (endPlace bs + 4) (length bs) (f .no-more), tt))), tt)))
+      allGood-good (_ ∷ _ ∷ _ ∷ []) (
+        append-good-both (dueTests headerKind bs 0) (headerOwn bs) (due-good headerKind bs 0 (f .header-due))
+            (unmet-good (headerOwn bs)
+            (eq-differs (byteAt bs 2) version (f .version-is), (le-ltb mostRows (rowsSaid bs) (f .few-rows), tt))),
+        (
+          good-firstFaultTo (λ i. rowFaultAt bs i (rowPlace bs i)) (rowsSaid bs)
+              (λ i l. good-rowFaultAt bs i (rowPlace bs i) (f .each-row i l)),
+          (
+            append-good-both (dueTests endKind bs (endPlace bs)) (endOwn bs)
+                (due-good endKind bs (endPlace bs) (f .end-due))
+                (unmet-good (endOwn bs)
+                (eq-differs said count (f .count-is), (le-ltb (endPlace bs + 4) (length bs) (f .no-more), tt))),
+            tt,
+          ),
+        ),
+      )

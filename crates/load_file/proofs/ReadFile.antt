@@ -1,18 +1,16 @@
 -- Reading then writing: an accepted file's load is held as its types say, passes the check, since the reading made
 -- the same tests and unused places are zero, and is written as the file, record by record.
-use Prim.Native.Nat.{ℕ, suc, _+_, _*_, _≤_, _<_}
+use Prim.Native.Nat.{ℕ, suc, _+_, _≤_, _<_}
 use mathlib.Core.List.{List}
-use mathlib.Core.Path.{_≡_, refl, ap, sym, _∙_}
+use mathlib.Core.Path.{_≡_, refl, ap, _∙_}
 use native.Mathlib.Decide.{decLt}
 use native.Mathlib.Omega.{arith}
 use lib.ListN.{length}
 use Rattle.counting.proofs.RangeLaws.{true-allFrom}
 use Rattle.counting.proofs.ListLaws.{filled-length, getD-filled, getD-unfilled}
 use Rattle.counting.proofs.PieceLaws.{Stands}
-use Rattle.words.specs.LittleEndian.{numberAt, Bytes}
+use Rattle.words.specs.LittleEndian.{Bytes}
 use Rattle.words.proofs.LittleEndianLaws.{numberAt-lt}
-use Rattle.load.specs.declared.Row.{Row}
-use Rattle.load.specs.declared.Load.{Load}
 use Rattle.load.specs.Load.{
   mostRows,
   mostSteps,
@@ -48,7 +46,7 @@ use Rattle.load_file.proofs.FieldLaws.{
   row-stands,
   header-stands,
 }
-use Rattle.load_file.proofs.PlaceLaws.{parts-row, row-behind, FileStands, parts-file}
+use Rattle.load_file.proofs.PlaceLaws.{parts-row, row-behind, parts-file}
 use Rattle.load_file.proofs.CheckLaws.{RowGood, LoadGood, fields-steps-le, fields-windows-le}
 use Rattle.load_file.proofs.ZeroLaws.{
   unused-steps,
