@@ -72,24 +72,24 @@ module _ (bs : List ℕ) (at : ℕ) where
         windows-read = refl;
       }
 
-  step-used : (j : ℕ) → j < stepsSaid bs at → stepAt (rowFrom bs at) j ≡ stepIn bs (stepPlace at j)
-  unfolding rowFrom
-  step-used j l = getD-filled (λ j. stepIn bs (stepPlace at j)) (stepsSaid bs at) mostSteps j noStep noStep l
-
   step-unused : (j : ℕ) → stepsSaid bs at ≤ j → j < mostSteps → stepAt (rowFrom bs at) j ≡ noStep
   unfolding rowFrom
   step-unused j from l =
       getD-unfilled (λ j. stepIn bs (stepPlace at j)) (stepsSaid bs at) mostSteps j noStep noStep from l
 
-  window-used : (k : ℕ) → k < windowsSaid bs at → windowAt (rowFrom bs at) k ≡ windowIn bs (windowPlace bs at k)
+  step-used : (j : ℕ) → j < stepsSaid bs at → stepAt (rowFrom bs at) j ≡ stepIn bs (stepPlace at j)
   unfolding rowFrom
-  window-used k l =
-      getD-filled (λ k. windowIn bs (windowPlace bs at k)) (windowsSaid bs at) mostWindows k noWindow noWindow l
+  step-used j l = getD-filled (λ j. stepIn bs (stepPlace at j)) (stepsSaid bs at) mostSteps j noStep noStep l
 
   window-unused : (k : ℕ) → windowsSaid bs at ≤ k → k < mostWindows → windowAt (rowFrom bs at) k ≡ noWindow
   unfolding rowFrom
   window-unused k from l =
       getD-unfilled (λ k. windowIn bs (windowPlace bs at k)) (windowsSaid bs at) mostWindows k noWindow noWindow from l
+
+  window-used : (k : ℕ) → k < windowsSaid bs at → windowAt (rowFrom bs at) k ≡ windowIn bs (windowPlace bs at k)
+  unfolding rowFrom
+  window-used k l =
+      getD-filled (λ k. windowIn bs (windowPlace bs at k)) (windowsSaid bs at) mostWindows k noWindow noWindow l
 
 -- a row that the reading passes
 module _ (bs : List ℕ) (b : Bytes bs) (i at : ℕ) (r : RowAccepted bs i at) where

@@ -23,7 +23,7 @@ use Rattle.words.specs.LittleEndian.{littleEndian, byteAt, numberAt, Bytes}
 use Rattle.words.proofs.LittleEndianLaws.{littleEndian-length, littleEndian-read, numberAt-written}
 use Rattle.refusals.specs.declared.Checked.the-variants.{Good}
 use Rattle.refusals.specs.FirstMet.{firstMet}
-use Rattle.refusals.proofs.UnmetLaws.{good-unmet, unmet-good}
+use Rattle.refusals.proofs.UnmetLaws.{Unmet, good-unmet, unmet-good}
 use Rattle.load_file.specs.Records.{Kind, recordOf}
 use Rattle.load_file.specs.Reading.{dueTests}
 
@@ -86,24 +86,26 @@ pub record Due (kind : Kind) (bs : List ℕ) (at : ℕ) : Type 0 where
   pub second-mark : byteAt bs (at + 1) ≡ kind .mark₂
 
 module _ (kind : Kind) (bs : List ℕ) (at : ℕ) where
-  pub good-due : firstMet (dueTests kind bs at) ≡ Good → Due kind bs at
-  good-due h =
-      let u = good-unmet (dueTests kind bs at) h in
+  pub unmet-due : Unmet (dueTests kind bs at) → Due kind bs at
+  unmet-due u =
       record {
         inside = ltb-false (length bs) (at + kind .size) (u .0);
         first-mark = differs-false (byteAt bs at) (kind .mark₁) (u .1 .0);
         second-mark = differs-false (byteAt bs (at + 1)) (kind .mark₂) (u .1 .1 .0);
       }
 
+  pub due-unmet : Due kind bs at → Unmet (dueTests kind bs at)
+  due-unmet d =
+      let short = le-ltb (length bs) (at + kind .size) (d .inside) in
+      let first = eq-differs (byteAt bs at) (kind .mark₁) (d .first-mark) in
+      let second = eq-differs (byteAt bs (at + 1)) (kind .mark₂) (d .second-mark) in
+      (short, (first, (second, tt)))
+
+  pub good-due : firstMet (dueTests kind bs at) ≡ Good → Due kind bs at
+  good-due h = unmet-due (good-unmet (dueTests kind bs at) h)
+
   pub due-good : Due kind bs at → firstMet (dueTests kind bs at) ≡ Good
-  due-good d =
-      unmet-good (dueTests kind bs at) (
-        le-ltb (length bs) (at + kind .size) (d .inside),
-        (
-          eq-differs (byteAt bs at) (kind .mark₁) (d .first-mark),
-          (eq-differs (byteAt bs (at + 1)) (kind .mark₂) (d .second-mark), tt),
-        ),
-      )
+  due-good d = unmet-good (dueTests kind bs at) (due-unmet d)
 
   -- the mark, and behind it the fields
   module _ (fields : List ℕ) where
