@@ -61,22 +61,12 @@ module _ (load : Load) (i : ℕ) (row : Row) where
   pub good-rowFault : RowGood load i row → rowFault load i row ≡ Good
   unfolding rowFault
   good-rowFault r =
-      allGood-good (_ ∷ _ ∷ _ ∷ _ ∷ _ ∷ _ ∷ []) (
-        r .fields-good,
-        (
-          r .taken-good,
-          (
-            good-firstFaultTo (checkStep row) (row .steps) (r .each-step-good),
-            (
-              good-allZero (zeroStepsFrom row (row .steps)) (r .steps-zero),
-              (
-                good-firstFaultTo (checkWindow row) (row .windows) (r .each-window-good),
-                (good-allZero (zeroWindowsFrom row (row .windows)) (r .windows-zero), tt),
-              ),
-            ),
-          ),
-        ),
-      )
+      let steps = good-firstFaultTo (checkStep row) (row .steps) (r .each-step-good) in
+      let no-steps = good-allZero (zeroStepsFrom row (row .steps)) (r .steps-zero) in
+      let windows = good-firstFaultTo (checkWindow row) (row .windows) (r .each-window-good) in
+      let no-windows = good-allZero (zeroWindowsFrom row (row .windows)) (r .windows-zero) in
+      allGood-good (_ ∷ _ ∷ _ ∷ _ ∷ _ ∷ _ ∷ [])
+      (r .fields-good, (r .taken-good, (steps, (no-steps, (windows, (no-windows, tt))))))
 
 -- what the check asks of a load
 pub record LoadGood (load : Load) : Type 0 where
@@ -103,15 +93,14 @@ module _ (load : Load) where
   pub good-checkLoad : LoadGood load → checkLoad load ≡ Good
   unfolding checkLoad
   good-checkLoad g =
-      let zeros : Bool = allFrom (λ i. isZeroRow (rowAt load i)) (load .rows) mostRows in
-      allGood-good (_ ∷ _ ∷ _ ∷ []) (
-        unmet-good ((ltb mostRows (load .rows), OutOfRange) ∷ []) (le-ltb mostRows (load .rows) (g .few-rows), tt),
-        (
-          good-firstFaultTo (λ i. rowFault load i (rowAt load i)) (load .rows)
-              (λ i l. good-rowFault load i (rowAt load i) (g .each-row-good i l)),
-          (good-allZero zeros (g .rows-zero), tt),
-        ),
-      )
+      let few = le-ltb mostRows (load .rows) (g .few-rows) in
+      let count = unmet-good ((ltb mostRows (load .rows), OutOfRange) ∷ []) (few, tt) in
+      let rows =
+      good-firstFaultTo (λ i. rowFault load i (rowAt load i)) (load .rows)
+      (λ i l. good-rowFault load i (rowAt load i) (g .each-row-good i l)) in
+      let no-rows =
+      good-allZero (allFrom (λ i. isZeroRow (rowAt load i)) (load .rows) mostRows) (g .rows-zero) in
+      allGood-good (_ ∷ _ ∷ _ ∷ []) (count, (rows, (no-rows, tt)))
 
 -- a row's own fields: so many steps and windows have places
 module _ (row : Row) (h : checkFields row ≡ Good) where

@@ -200,7 +200,7 @@ module _ (bs : List ℕ) (load : Load) where
   parts-file behind f =
       let head : List ℕ = headerRecord (load .rows) in
       let tail : List ℕ = endRecord (stepsInAll (viewOf load)) in
-      let at-end = end-place (joined-place (λ i. rowBytes (rowAt load i)) (rowPlace bs) bs (load .rows) behind) in
+      let at-end = end-place (joined-place (λ i. rowBytes (rowAt load i)) (rowPlace bs) (load .rows) behind) in
       stands-whole (head ++ rowsBytes ++ tail) bs
       (omega (arith, f .no-more, length-append (head ++ rowsBytes) tail, endRecord-length (stepsInAll (viewOf load))))
       (append-stands (head ++ rowsBytes) tail bs 0 (rowPlace bs (load .rows)) at-end

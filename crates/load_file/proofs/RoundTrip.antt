@@ -40,6 +40,9 @@ unfolding readLoad
 good-readLoad bs load h = ap (λ r. r .answer) h
 
 -- an accepted file reads to exactly one load
+reads-load : (bs : List ℕ) → Bytes bs → readLoad bs .answer ≡ Good → AcceptedFile bs (readLoad bs .load)
+reads-load bs b h = record { bytes = b; reads = λ i. record { answer = h i; load = readLoad bs .load } }
+
 pub AcceptedFile-unique : (bs : List ℕ) (load other : Load) → AcceptedFile bs load → AcceptedFile bs other
     → load ≡ other
 AcceptedFile-unique bs load other a c = ap (λ r. r .load) (sym (a .reads) ∙ c .reads)
@@ -76,7 +79,12 @@ written-reads bs load w =
 
 pub round-trip : RoundTrip
 round-trip =
-    record { one-load = AcceptedFile-unique; read-write = accepted-written; write-read = written-reads }
+    record {
+      some-load = reads-load;
+      one-load = AcceptedFile-unique;
+      read-write = accepted-written;
+      write-read = written-reads;
+    }
 
 -- an accepted file's load is written back to the same bytes
 pub read-write : (bs : List ℕ) (load : Load) → Bytes bs → readLoad bs ≡ accepted load → loadBytes load ≡ bs

@@ -64,7 +64,10 @@ pub record WrittenLoad (load : Load) (bs : List ℕ) : Type 0 where
 -- the two round trips: of bytes and a load, the bytes read to the load exactly when the load is
 -- written as the bytes
 pub record RoundTrip : Type 0 where
-  -- an accepted file reads to exactly one load
+  -- a file that is not refused reads to a load
+  pub some-load : (bs : List ℕ) → Bytes bs → readLoad bs .answer ≡ Good
+      → AcceptedFile bs (readLoad bs .load)
+  -- and to no other
   pub one-load : (bs : List ℕ) (load other : Load)
       → AcceptedFile bs load → AcceptedFile bs other → load ≡ other
   -- an accepted file's load passes the check, and is written back to the same bytes
