@@ -11,3 +11,4 @@ pub mod SmallestLaws
 pub mod ThresholdLaws
 pub mod KeepLaws
 pub mod KeptTests
+pub mod PieceLaws

@@ -8,6 +8,7 @@ use Rattle.load.specs.Check.{checkLoad}
 use Rattle.load.specs.View.{viewOf}
 use Rattle.load_file.specs.Writing.{loadBytes}
 use Rattle.load_file.specs.Reading.{readLoad}
+use Rattle.load_file.specs.RoundTrip.{accepted}
 use Rattle.rules.specs.Margins.{marginBytes}
 use Rattle.schedule.specs.ScheduleFile.{scheduleBytes}
 use Rattle.lines.specs.Lines.{printed}
@@ -17,7 +18,6 @@ use Rattle.demands.specs.LoadsToTry.{
   glimpseAfter,
   Sound,
   Faulty,
-  accepted,
   refused,
 }
 use Rattle.demands.specs.LoadA.{loadA}

@@ -8,7 +8,7 @@ use lib.IntN.{ℤ}
 use Rattle.counting.specs.Lists.{listTo}
 use Rattle.refusals.specs.declared.Refusal.{Refusal}
 use Rattle.refusals.specs.declared.Checked.{Checked}
-use Rattle.refusals.specs.declared.Checked.the-variants.{Good, Refused}
+use Rattle.refusals.specs.declared.Checked.the-variants.{Refused}
 use Rattle.load.specs.declared.Load.{Load}
 use Rattle.load.specs.Load.{zeroLoad}
 use Rattle.load.specs.View.{viewOf}
@@ -89,10 +89,6 @@ pub record Faulty : Type 0 where
   pub refusal : Refusal
   pub number : ℕ
   pub lines : List String
-
--- what reading an accepted file gives
-abbrev pub accepted : Load → Reading
-accepted load = record { answer = Good; load = load }
 
 -- what reading a refused file gives
 abbrev pub refused : Refusal → Reading
