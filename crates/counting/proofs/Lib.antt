@@ -3,6 +3,7 @@ pub mod SumLaws
 pub mod TestLaws
 pub mod MaxLaws
 pub mod ListLaws
+pub mod MemberLaws
 pub mod FirstToLaws
 pub mod SortLaws
 pub mod NumbersLaws
@@ -15,3 +16,5 @@ pub mod LeastLaws
 pub mod PlaceLaws
 pub mod ThresholdLaws
 pub mod KeepLaws
+pub mod KeptTests
+pub mod PieceLaws

@@ -1,11 +1,11 @@
 -- Laws of finite sums and maxima: the equations at 0 and at n + 1, pointwise order, one term, and a bound of each.
-use Prim.Native.Nat.{ℕ, zero, suc, _+_, _*_, _≤_, _<_, max}
+use Prim.Native.Nat.{ℕ, zero, suc, _+_, _-_, _*_, _≤_, _<_, max}
 use mathlib.Core.Path.{_≡_, refl, ap}
 use native.Mathlib.Decide.{ℕ-discrete}
 use native.Mathlib.Nat.{add-zero, add-suc}
 use native.Mathlib.Numerals.{add-one}
 use native.Mathlib.Omega.{arith}
-use Rattle.counting.specs.Sums.{sumTo, maxTo}
+use Rattle.counting.specs.Sums.{sumTo, sumFrom, maxTo}
 
 pub sumTo-zero : (f : ℕ → ℕ) → sumTo f 0 ≡ 0
 unfolding sumTo
@@ -73,3 +73,21 @@ pub maxTo-ext : (f g : ℕ → ℕ) (n : ℕ) → ((i : ℕ) → i < n → f i �
 unfolding maxTo
 maxTo-ext f g zero h = refl
 maxTo-ext f g (suc n) h = omega (arith, maxTo-ext f g n (λ i l. h i (omega arith)), h n (omega arith))
+
+pub sumFrom-none : (f : ℕ → ℕ) (a b : ℕ) → b ≤ a → sumFrom f a b ≡ 0
+unfolding sumTo
+sumFrom-none f a b h = let e : b - a ≡ 0 = omega arith in rw e
+
+-- the first term, and those after it
+pub sumFrom-front : (f : ℕ → ℕ) (a b : ℕ) → a < b → sumFrom f a b ≡ f a + sumFrom f (suc a) b
+unfolding sumTo
+sumFrom-front f a b h =
+    let e : b - a ≡ 1 + (b - suc a) = omega arith in
+    let first : f (a + 0) ≡ f a = ap f (omega arith) in
+    let later : sumTo (λ k. f (a + (1 + k))) (b - suc a) ≡ sumFrom f (suc a) b =
+    sumTo-ext (λ k. f (a + (1 + k))) (λ k. f (suc a + k)) (b - suc a) (λ k l. ap f (omega arith)) in
+    rw e (omega (arith, sumTo-split (λ k. f (a + k)) 1 (b - suc a)))
+
+pub sumFrom-ext : (f g : ℕ → ℕ) (a b : ℕ) → ((k : ℕ) → a ≤ k → k < b → f k ≡ g k) → sumFrom f a b ≡ sumFrom g a b
+sumFrom-ext f g a b h =
+    sumTo-ext (λ k. f (a + k)) (λ k. g (a + k)) (b - a) (λ k l. h (a + k) (omega arith) (omega arith))

@@ -1,11 +1,11 @@
 -- Laws of tests over the numbers below n: from a test to the fact at each number and back, and the equations at n + 1.
-use Prim.Native.Nat.{ℕ, zero, suc, _+_, _<_}
+use Prim.Native.Nat.{ℕ, zero, suc, _+_, _-_, _≤_, _<_}
 use mathlib.Core.Bool.{Bool, true, false, _&&_, _||_}
-use mathlib.Core.Path.{_≡_, refl, ap₂}
+use mathlib.Core.Path.{_≡_, refl, ap₂, sym}
 use native.Mathlib.Decide.{ℕ-discrete}
 use native.Mathlib.Numerals.{add-one}
 use native.Mathlib.Omega.{arith}
-use Rattle.counting.specs.Sums.{allTo, anyTo}
+use Rattle.counting.specs.Sums.{allTo, allFrom, anyTo}
 
 pub and-left : (a b : Bool) → (a && b) ≡ true → a ≡ true
 and-left true b e = refl
@@ -100,3 +100,17 @@ pub anyTo-ext : (p q : ℕ → Bool) (n : ℕ) → ((i : ℕ) → i < n → p i 
 unfolding anyTo
 anyTo-ext p q zero h = refl
 anyTo-ext p q (suc n) h = ap₂ _||_ (anyTo-ext p q n (λ i l. h i (omega arith))) (h n (omega arith))
+
+pub allFrom-true : (p : ℕ → Bool) (a b : ℕ) → allFrom p a b ≡ true → (i : ℕ) → a ≤ i → i < b → p i ≡ true
+allFrom-true p a b h i from l =
+    let e : a + (i - a) ≡ i = omega arith in
+    rw e at (allTo-true (λ k. p (a + k)) (b - a) h (i - a) (omega arith))
+
+pub true-allFrom : (p : ℕ → Bool) (a b : ℕ) → ((i : ℕ) → a ≤ i → i < b → p i ≡ true) → allFrom p a b ≡ true
+true-allFrom p a b h = true-allTo (λ k. p (a + k)) (b - a) (λ k l. h (a + k) (omega arith) (omega arith))
+
+-- two tests that are met together are the same
+pub test-ext : (a b : Bool) → (a ≡ true → b ≡ true) → (b ≡ true → a ≡ true) → a ≡ b
+test-ext true b to from = sym (to refl)
+test-ext false true to from = from refl
+test-ext false false to from = refl

@@ -34,7 +34,7 @@ use Rattle.rules.specs.Bound.{
   smallestCosts,
   bound,
 }
-use Rattle.rules.specs.Margins.{rowBound, margin, verdict}
+use Rattle.rules.specs.Margins.{rowBound, margin, verdict, marginBytes}
 use Rattle.rules.specs.State.{fresh, opensAt, openWindow, shaped}
 use Rattle.rules.specs.Ready.{isAllowed, isCandidate, candidates}
 use Rattle.rules.specs.Plan.{due, stack, windowLeft, inTime}
@@ -53,7 +53,7 @@ unfolding sumTo maxTo allTo anyTo joinTo joinIn anyIn keepIn firstIn sumIn chang
     littleEndian numberAt text decimalTo firstFaultTo zeroRow zeroLoad viewOf chain embedded rowTests takenTests
     stepTests windowTests rowFault checkLoad rowBytes loadBytes rowFrom rowPlace loadIn headerTests stepFaultIn
     windowFaultIn rowFaultAt endTests fileFault readLoad kept cut allCosts largestPhase allEmbeddedWaits largestW
-    boundBy partners pairCosts smallestCosts bound rowBound margin verdict fresh opensAt openWindow shaped
+    boundBy partners pairCosts smallestCosts bound rowBound margin verdict marginBytes fresh opensAt openWindow shaped
     isAllowed isCandidate candidates due stack windowLeft inTime lampWord lampCount started ticked passes chosen
     allFinished shapedMove move stateAfter starts schedule slotFor lastEnd slotTests checkSlots checkSchedule
     scheduleBytes spaced loadLine rowLine slotLine loadLines refusedLine printed pairs hex bytesOf linesOf

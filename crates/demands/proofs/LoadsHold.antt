@@ -18,6 +18,7 @@ a-holds =
       checks = refl;
       answered = refl;
       seen = refl;
+      margined = refl;
       scheduled = refl;
       prints = refl;
     }
@@ -31,6 +32,7 @@ b-holds =
       checks = refl;
       answered = refl;
       seen = refl;
+      margined = refl;
       scheduled = refl;
       prints = refl;
     }
@@ -44,6 +46,7 @@ b9-holds =
       checks = refl;
       answered = refl;
       seen = refl;
+      margined = refl;
       scheduled = refl;
       prints = refl;
     }
@@ -57,6 +60,7 @@ phase8-holds =
       checks = refl;
       answered = refl;
       seen = refl;
+      margined = refl;
       scheduled = refl;
       prints = refl;
     }
@@ -70,6 +74,7 @@ phase7-holds =
       checks = refl;
       answered = refl;
       seen = refl;
+      margined = refl;
       scheduled = refl;
       prints = refl;
     }
@@ -83,6 +88,7 @@ unequal-holds =
       checks = refl;
       answered = refl;
       seen = refl;
+      margined = refl;
       scheduled = refl;
       prints = refl;
     }
@@ -96,6 +102,7 @@ waits0-holds =
       checks = refl;
       answered = refl;
       seen = refl;
+      margined = refl;
       scheduled = refl;
       prints = refl;
     }
@@ -109,6 +116,7 @@ empty-holds =
       checks = refl;
       answered = refl;
       seen = refl;
+      margined = refl;
       scheduled = refl;
       prints = refl;
     }

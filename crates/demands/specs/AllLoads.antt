@@ -5,17 +5,19 @@ use mathlib.Core.Path.{_≡_}
 use Rattle.refusals.specs.declared.Checked.the-variants.{Good, Refused}
 use Rattle.refusals.specs.Refusals.{numberOf}
 use Rattle.load.specs.Check.{checkLoad}
+use Rattle.load.specs.View.{viewOf}
 use Rattle.load_file.specs.Writing.{loadBytes}
 use Rattle.load_file.specs.Reading.{readLoad}
+use Rattle.load_file.specs.RoundTrip.{accepted}
+use Rattle.rules.specs.Margins.{marginBytes}
 use Rattle.schedule.specs.ScheduleFile.{scheduleBytes}
 use Rattle.lines.specs.Lines.{printed}
-use Rattle.demands.specs.Notation.{bytesOf, linesOf}
+use Rattle.demands.specs.Notation.{padded, bytesOf, linesOf}
 use Rattle.demands.specs.LoadsToTry.{
   answersFor,
   glimpseAfter,
   Sound,
   Faulty,
-  accepted,
   refused,
 }
 use Rattle.demands.specs.LoadA.{loadA}
@@ -36,6 +38,8 @@ pub record SoundHolds (e : Sound) : Type 0 where
   pub answered : answersFor (e .load) ≡ e .answers
   -- and so are the moves looked at
   pub seen : map (λ g. glimpseAfter (e .load) (g .moves)) (e .glimpses) ≡ e .glimpses
+  -- the margins are these bytes, and zeros up to 96
+  pub margined : marginBytes (viewOf (e .load)) ≡ padded 96 0 (bytesOf (e .margin-bytes))
   -- the schedule is written as that file
   pub scheduled : scheduleBytes (e .answers .slots) ≡ bytesOf (e .schedule-file)
   -- and the program prints those lines

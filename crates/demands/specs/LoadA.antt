@@ -44,6 +44,7 @@ loadA =
           ∷ record { moves = 3; outcome = Idle; clock = 6; lamps = 0; count = 0 }
           ∷ record { moves = 10; outcome = Done; clock = 15; lamps = 0; count = 0 }
           ∷ [];
+      margin-bytes = "01000000" ∷ "00000000" ∷ "FFFFFFFF" ∷ [];
       schedule-file = "5343 0600"
           ∷ "534C 01 01 00000000"
           ∷ "534C 02 01 02000000"

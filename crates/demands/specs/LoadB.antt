@@ -56,6 +56,7 @@ loadB =
           record { moves = 0; outcome = Start (slot 0 1 1); clock = 2; lamps = 1; count = 1 }
           ∷ record { moves = 7; outcome = Done; clock = 12; lamps = 0; count = 0 }
           ∷ [];
+      margin-bytes = "31420F00" ∷ "31420F00" ∷ "31420F00" ∷ [];
       schedule-file = "5343 0500"
           ∷ "534C 01 01 00000000"
           ∷ "534C 02 01 02000000"
@@ -75,7 +76,7 @@ loadB =
           ∷ [];
     }
 
--- row 3 at 5, row 1 at 7, row 3 at 9; end 10. Two windows are open from 7 on
+-- row 3 at 5, row 1 at 7, row 3 at 9; end 10. Two windows are open from 7 to 9
 unfoldable pub loadB9 : Sound
 loadB9 =
     record {
@@ -94,6 +95,7 @@ loadB9 =
           record { moves = 2; outcome = Start (slot 5 3 1); clock = 7; lamps = 5; count = 2 }
           ∷ record { moves = 5; outcome = Done; clock = 10; lamps = 0; count = 0 }
           ∷ [];
+      margin-bytes = "31420F00" ∷ "31420F00" ∷ "31420F00" ∷ [];
       schedule-file = "5343 0500"
           ∷ "534C 01 01 00000000"
           ∷ "534C 02 01 02000000"

@@ -35,6 +35,7 @@ loadPhase8 =
         finding = Good;
       };
       glimpses = record { moves = 0; outcome = Idle; clock = 1; lamps = 0; count = 0 } ∷ [];
+      margin-bytes = "00000000" ∷ [];
       schedule-file = "5343 0100" ∷ "534C 01 01 05000000" ∷ [];
       lines = "load 1 1 8 8 yes" ∷ "row 1 101 201 0" ∷ "slot 5 1 1" ∷ [];
     }
@@ -56,6 +57,7 @@ loadPhase7 =
       };
       glimpses =
           record { moves = 5; outcome = Start (slot 5 1 1); clock = 8; lamps = 0; count = 0 } ∷ [];
+      margin-bytes = "FFFFFFFF" ∷ [];
       schedule-file = "5343 0100" ∷ "534C 01 01 05000000" ∷ [];
       lines = "load 1 1 8 8 no" ∷ "row 1 101 201 -1" ∷ "slot 5 1 1" ∷ [];
     }

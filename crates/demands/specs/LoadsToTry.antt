@@ -1,4 +1,5 @@
--- "Loads to try": what is claimed of a load marked P, as one predicate. To be read after Notation.
+-- "Loads to try": what is asked of a load marked P, and what is said of it. To be read after
+-- Notation.
 use Prim.Native.Nat.{ℕ}
 use Prim.Native.String.{String}
 use mathlib.Core.Bool.{Bool}
@@ -7,7 +8,7 @@ use lib.IntN.{ℤ}
 use Rattle.counting.specs.Lists.{listTo}
 use Rattle.refusals.specs.declared.Refusal.{Refusal}
 use Rattle.refusals.specs.declared.Checked.{Checked}
-use Rattle.refusals.specs.declared.Checked.the-variants.{Good, Refused}
+use Rattle.refusals.specs.declared.Checked.the-variants.{Refused}
 use Rattle.load.specs.declared.Load.{Load}
 use Rattle.load.specs.Load.{zeroLoad}
 use Rattle.load.specs.View.{viewOf}
@@ -70,13 +71,14 @@ glimpseOf n moved =
 unfoldable pub glimpseAfter : Load → ℕ → Glimpse
 glimpseAfter load n = glimpseOf n (move (viewOf load) (stateAfter (viewOf load) n fresh))
 
--- an acceptable load: its file, the load itself, its answers, glimpses of its run, its schedule
--- file and what is printed
+-- an acceptable load: its file, the load itself, its answers, glimpses of its run, the margins'
+-- bytes of the rows that are there, its schedule file and what is printed
 pub record Sound : Type 0 where
   pub file : List String
   pub load : Load
   pub answers : Answers
   pub glimpses : List Glimpse
+  pub margin-bytes : List String
   pub schedule-file : List String
   pub lines : List String
 
@@ -87,10 +89,6 @@ pub record Faulty : Type 0 where
   pub refusal : Refusal
   pub number : ℕ
   pub lines : List String
-
--- what reading an accepted file gives
-abbrev pub accepted : Load → Reading
-accepted load = record { answer = Good; load = load }
 
 -- what reading a refused file gives
 abbrev pub refused : Refusal → Reading

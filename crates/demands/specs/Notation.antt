@@ -37,7 +37,7 @@ window first last limit = record { first = first; last = last; limit = limit }
 abbrev pub padded : {A : Type 0} → ℕ → A → List A → List A
 padded places zeros l = l ++ replicate (places - length l) zeros
 
--- row n, counted from 1, with everything given
+-- a row with everything given
 abbrev pub rowWith : ℕ → ℕ → ℕ → ℕ → List Step → List Window → Row
 rowWith identifier box phase deadline steps windows =
     record {

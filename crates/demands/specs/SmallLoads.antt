@@ -31,6 +31,7 @@ loadUnequal =
         finding = Good;
       };
       glimpses = record { moves = 9; outcome = Done; clock = 11; lamps = 0; count = 0 } ∷ [];
+      margin-bytes = "3D420F00" ∷ "35420F00" ∷ [];
       schedule-file = "5343 0300"
           ∷ "534C 01 01 00000000"
           ∷ "534C 02 01 01000000"
@@ -69,6 +70,7 @@ loadWaits0 =
         finding = Good;
       };
       glimpses = record { moves = 4; outcome = Done; clock = 4; lamps = 0; count = 0 } ∷ [];
+      margin-bytes = "3C420F00" ∷ "3C420F00" ∷ [];
       schedule-file = "5343 0400"
           ∷ "534C 01 01 00000000"
           ∷ "534C 02 01 01000000"
@@ -101,6 +103,7 @@ loadEmpty =
         finding = Good;
       };
       glimpses = record { moves = 0; outcome = Done; clock = 0; lamps = 0; count = 0 } ∷ [];
+      margin-bytes = [];
       schedule-file = "5343 0000" ∷ [];
       lines = "load 0 0 0 0 yes" ∷ [];
     }

@@ -3,4 +3,5 @@ pub mod Load
 pub mod View
 pub mod Faults
 pub mod Check
+pub mod Acceptable
 pub mod Calls

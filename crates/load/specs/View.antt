@@ -1,6 +1,6 @@
 -- "A load": free and embedded steps and waits, and chains, over the view of a load that the rules
 -- use: functions of row and step, counted from 0. The view holds no identifier and no box number.
--- To be read after Load.
+-- To be read after Load. Rests on D30.
 use Prim.Native.Nat.{ℕ, suc, _+_, _-_}
 use mathlib.Core.Bool.{Bool, _&&_, not}
 use mathlib.Core.List.{List}

@@ -1,5 +1,5 @@
 -- "Load file", as it is read: where each record stands, and the load that the bytes spell. To be
--- read after Records.
+-- read after Records. Rests on D32.
 use Prim.Native.Nat.{ℕ, zero, suc, _+_, _*_}
 use mathlib.Core.List.{List}
 use Rattle.counting.specs.Lists.{filled}
@@ -20,7 +20,7 @@ abbrev pub windowIn : List ℕ → ℕ → Window
 windowIn bs at =
     record { first = byteAt bs (at + 2); last = byteAt bs (at + 3); limit = numberAt 2 bs (at + 4) }
 
--- how many steps, and how many windows, the row record at a place announces
+-- how many steps the row record at a place announces
 abbrev pub stepsSaid : List ℕ → ℕ → ℕ
 stepsSaid bs at = byteAt bs (at + 18)
 

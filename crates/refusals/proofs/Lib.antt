@@ -1,3 +1,5 @@
 -- Laws of the first fault, and sameness of results.
 pub mod FirstMetLaws
+pub mod FirstFaultLaws
+pub mod UnmetLaws
 pub mod CallLaws

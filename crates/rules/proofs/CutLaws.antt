@@ -21,7 +21,7 @@ use lib.Dec.{eqb, leb, ltb}
 use Rattle.counting.proofs.FirstToLaws.{IsFirst, firstTo-first}
 use Rattle.counting.proofs.TestLaws.{and-left, and-right, true-false}
 use Rattle.counting.proofs.SortLaws.{Every, Every-map}
-use Rattle.counting.proofs.KeepLaws.{anyIn-every, anyIn-keepIn}
+use Rattle.counting.proofs.KeptTests.{anyIn-every, anyIn-kept}
 use Rattle.load.specs.declared.Window.{Window}
 use Rattle.load.specs.Load.{shown}
 use Rattle.load.specs.View.{View, inWindow, embeddedIn, embedded, isFree}
@@ -131,7 +131,7 @@ pub embedded-of-cut : (L : View) (m i j : ℕ) → Within L i
     → embedded (cut L m) i j ≡ (embedded L i j && ltb j (kept L m i))
 unfolding embedded cut
 embedded-of-cut L m i j within =
-    anyIn-keepIn (embeddedIn (shown j)) (λ w. leb (w .last) (kept L m i)) (ltb j (kept L m i)) (L .windows i)
+    anyIn-kept (embeddedIn (shown j)) (λ w. leb (w .last) (kept L m i)) (ltb j (kept L m i)) (L .windows i)
     (Every-map (Uncut (kept L m i))
     (λ w. (embeddedIn (shown j) w && leb (w .last) (kept L m i)) ≡ (embeddedIn (shown j) w && ltb j (kept L m i)))
     (L .windows i) (λ w. uncut-embeddedIn (kept L m i) j w) (kept-uncut L m i within))

@@ -1,6 +1,6 @@
 -- "The bound and the margins", the four terms. What the other rows give while a wait lasts is a
 -- parameter: here it is the r smallest of their 2r costs. To be read after Cut. Rests on D17 to
--- D20.
+-- D20 and D35.
 use Prim.Native.Nat.{ℕ, suc, _+_, _-_}
 use mathlib.Core.Bool.{Bool, cond, _&&_, not}
 use mathlib.Core.List.{List, [], _∷_}

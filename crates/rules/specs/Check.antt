@@ -1,6 +1,6 @@
 -- "Numbers given back", 12 to 17: the check of a schedule. It looks at the list alone: what came
 -- before a slot is read off the slots before it, and no state is kept. To be read after Slots.
--- Rests on D21 and D22.
+-- Rests on D21, D22 and D33.
 use Prim.Native.Nat.{ℕ, zero, suc, _+_}
 use mathlib.Core.Bool.{Bool, false, _&&_, _||_, not}
 use mathlib.Core.List.{List, [], _∷_}
@@ -43,8 +43,8 @@ abbrev pub overlaps : View → List Slot → ℕ → Slot → Bool
 overlaps L slots zero slot = false
 overlaps L slots (suc h) slot = ltb (slot .start) (slotEnd L (slotAt slots h))
 
--- 15: it starts before its phase, or before the step before it in the row has ended and its wait
--- has passed
+-- 15: it starts before its phase, or before the step before it in the row, whose number is one
+-- less, has ended and its wait has passed
 abbrev pub startsEarly : View → List Slot → Slot → Bool
 startsEarly L slots slot =
     ltb (slot .start)

@@ -1,5 +1,6 @@
 -- "One move of the bench": "a word with one bit per row for the lamps (bit 0 is row 1), saying
--- which windows are open after the move, and the count of those rows". To be read after State.
+-- which windows are open after the move, and the count of those rows". To be read after
+-- State. Rests on D15.
 use Prim.Native.Nat.{ℕ}
 use Rattle.counting.specs.Sums.{countTo}
 use Rattle.words.specs.LampWord.{wordOf}

@@ -1,5 +1,5 @@
 -- "The bound and the margins": row bounds, margins, the verdict, and the margins' 96 bytes. To be
--- read after Bound.
+-- read after Bound. Rests on D20.
 use Prim.Native.Nat.{ℕ}
 use mathlib.Core.Bool.{Bool, true, false, cond, not}
 use mathlib.Core.List.{List}

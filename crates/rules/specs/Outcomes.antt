@@ -1,22 +1,22 @@
--- "Start (its row, step and start), Idle or Done", and a refusal: the number and the values of each
--- answer of a move.
+-- "Start (its row, step and start), Idle or Done", and a refusal: what each answer of a move says.
 use Prim.Native.Nat.{ℕ}
+use Prim.Native.String.{String}
 use mathlib.Core.List.{List, [], _∷_}
 use Rattle.refusals.specs.Refusals.{numberOf}
 use Rattle.rules.specs.declared.Slot.{Slot}
 use Rattle.rules.specs.declared.Outcome.{Outcome}
 use Rattle.rules.specs.declared.Outcome.the-variants.{Start, Idle, Done, Refused}
 
--- the number of an answer: 0 where the move is not refused
-abbrev pub outcomeNumber : Outcome → ℕ
-outcomeNumber (Start slot) = 0
-outcomeNumber Idle = 0
-outcomeNumber Done = 0
-outcomeNumber (Refused refusal) = numberOf refusal
+-- an answer in document 01's terms: its word, its number (0 unless refused), and the starts it
+-- makes
+pub record Told : Type 0 where
+  pub word : String
+  pub number : ℕ
+  pub starts : List Slot
 
--- the starts that an answer makes: one for Start, else none
-abbrev pub outcomeStarts : Outcome → List Slot
-outcomeStarts (Start slot) = slot ∷ []
-outcomeStarts Idle = []
-outcomeStarts Done = []
-outcomeStarts (Refused refusal) = []
+-- what each answer says
+abbrev pub toldBy : Outcome → Told
+toldBy (Start slot) = record { word = "start"; number = 0; starts = slot ∷ [] }
+toldBy Idle = record { word = "idle"; number = 0; starts = [] }
+toldBy Done = record { word = "done"; number = 0; starts = [] }
+toldBy (Refused refusal) = record { word = "refused"; number = numberOf refusal; starts = [] }

@@ -1,5 +1,5 @@
 -- "Stacking plan, as things stand at the candidate's end". The moment at which it begins is an
--- argument. To be read after Ready. Rests on D12 and D14.
+-- argument. To be read after Ready. Rests on D12, D14 and D34.
 use Prim.Native.Nat.{ℕ, _+_, max}
 use mathlib.Core.Bool.{Bool, true, _&&_}
 use mathlib.Core.List.{List, [], _∷_}

@@ -1,5 +1,5 @@
 -- "One move of the bench": next steps that are ready, allowed, and candidates; the order in which
--- these are tried. To be read after State. Rests on D13 and D14.
+-- these are tried. To be read after State. Rests on D13, D14 and D34.
 use Prim.Native.Nat.{ℕ, zero, suc, _+_, min}
 use mathlib.Core.Bool.{Bool, _&&_, _||_}
 use mathlib.Core.List.{List}

@@ -1,5 +1,5 @@
 -- "Exactly the starts of demand 2's moves from fresh to Done, in order, each step at full cost":
--- the run. To be read after Move.
+-- the run. To be read after Move. Rests on D36.
 use Prim.Native.Nat.{ℕ, zero, suc}
 use mathlib.Core.List.{List, [], _∷_}
 use Rattle.load.specs.Load.{lastMoment}
@@ -27,7 +27,7 @@ unfoldable pub starts : View → ℕ → State → List Slot
 starts L zero s = []
 starts L (suc n) s = startsFrom (move L s .outcome) (move L s .then) (starts L n)
 
--- enough moves for any run: each but Done moves the clock on, and it goes no further than 1,000,000
+-- enough moves for any run: Start and Idle move the clock on, and it goes no further than 1,000,000
 abbrev pub enoughMoves : ℕ
 enoughMoves = suc lastMoment
 

@@ -35,8 +35,8 @@ pub record SameRow (slots : List Slot) (k h : ℕ) : Type 0 where
 abbrev pub windowOf : View → Slot → ℕ → Window
 windowOf L slot p = getD (L .windows (rowOf slot)) p noWindow
 
--- the schedule rules
-pub record ScheduleRules (L : View) (slots : List Slot) : Type 0 where
+-- what the slots keep, whatever the deadlines
+pub record SlotRules (L : View) (slots : List Slot) : Type 0 where
   -- nothing but steps of the load is scheduled
   pub only : (k : ℕ) → k < length slots → NamesStep L (slotAt slots k)
   -- each step is
@@ -60,6 +60,10 @@ pub record ScheduleRules (L : View) (slots : List Slot) : Type 0 where
       → slotAt slots k .step ≡ windowOf L (slotAt slots k) p .first
       → slotAt slots h .step ≡ windowOf L (slotAt slots k) p .last
       → slotEnd L (slotAt slots h) ≤ slotAt slots k .start + windowOf L (slotAt slots k) p .limit
+
+-- the schedule rules
+pub record ScheduleRules (L : View) (slots : List Slot) : Type 0 where
+  pub slots-keep : SlotRules L slots
   -- a row's last step ends by the row's deadline
   pub deadlines : (k : ℕ) → k < length slots
       → slotAt slots k .step ≡ L .steps (rowOf (slotAt slots k))

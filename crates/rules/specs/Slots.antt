@@ -1,5 +1,5 @@
--- "A slot": where a slot's row and step stand, when it ends, and what the slots of a list name. The
--- change from numbers counted from 1 to places counted from 0 happens here and in `nextSlot` alone.
+-- "The slots are lent to the check as a list of slot records": where a slot's row and step stand,
+-- when it ends, and what the slots of a list are for. A slot's numbers count from 1 (D31).
 use Prim.Native.Nat.{ℕ, _+_, _-_}
 use mathlib.Core.Bool.{Bool, _&&_}
 use mathlib.Core.List.{List, [], _∷_}

@@ -1,2 +1,2 @@
--- The schedule file as bytes, and what writing one gives.
+-- The schedule file as bytes, and when its slots are too many.
 pub mod ScheduleFile

@@ -1,5 +1,5 @@
 -- The two round trips of a number and its bytes, over any width: what is written reads back, and what is read, of
--- bytes, is written back.
+-- bytes, is written back. Also: which bytes of a list the number at a place depends on.
 use Prim.Native.Nat.{ℕ, zero, suc, _+_, _*_, _/_, _%_, _^_, _≤_, _<_}
 use mathlib.Core.List.{List, [], _∷_, _++_}
 use mathlib.Core.Path.{_≡_, refl, ap, ap₂, sym, _∙_}
@@ -7,7 +7,7 @@ use native.Mathlib.Nat.{pow-suc}
 use native.Mathlib.Numerals.{add-one}
 use native.Mathlib.Omega.{arith}
 use lib.ListN.{length, take, drop}
-use lib.Seq.{drop-cons, getD-append-add}
+use lib.Seq.{drop-cons, getD-append-add, getD-drop}
 use Rattle.words.specs.LittleEndian.{littleEndian, byteAt, numberAt, Bytes}
 
 pub littleEndian-length : (width n : ℕ) → length (littleEndian width n) ≡ width
@@ -36,6 +36,22 @@ numberAt-behind (suc width) xs ys at =
     let e : length xs + at + 1 ≡ length xs + (at + 1) = omega arith in
     ap₂ (λ b n. b + 256 * n) (getD-append-add xs ys at 0)
     (ap (numberAt width (xs ++ ys)) e ∙ numberAt-behind width xs ys (at + 1))
+
+numberAt-drop : (width : ℕ) (bs : List ℕ) (at k : ℕ)
+    → numberAt width (drop at bs) k ≡ numberAt width bs (at + k)
+unfolding numberAt
+numberAt-drop zero bs at k = refl
+numberAt-drop (suc width) bs at k =
+    let e : at + (k + 1) ≡ at + k + 1 = omega arith in
+    ap₂ (λ b n. b + 256 * n) (getD-drop at bs k 0)
+    (numberAt-drop width bs at (k + 1) ∙ ap (numberAt width bs) e)
+
+-- the number at a place is the first of the bytes from that place on
+pub numberAt-first : (width : ℕ) (bs rest : List ℕ) (at : ℕ) → rest ≡ drop at bs
+    → numberAt width bs at ≡ numberAt width rest 0
+numberAt-first width bs rest at e =
+    let z : at ≡ at + 0 = omega arith in
+    ap (numberAt width bs) z ∙ sym (numberAt-drop width bs at 0) ∙ ap (λ l. numberAt width l 0) (sym e)
 
 read-head : (width n : ℕ) (ys : List ℕ) → n < 256 ^ width → numberAt width (littleEndian width n ++ ys) 0 ≡ n
 unfolding numberAt littleEndian

@@ -4,7 +4,7 @@ use Prim.Native.Nat.{ℕ}
 use mathlib.Core.List.{List}
 use mathlib.Core.Path.{_≡_}
 use lib.Seq.{sets}
-use Rattle.words.specs.LittleEndian.{byteAt, numberAt}
+use Rattle.words.specs.LittleEndian.{byteAt, numberAt, littleEndian}
 
 -- byte_at(bs, at): the byte at a place
 abbrev pub ByteAt : List ℕ → ℕ → ℕ → Type 0
@@ -17,3 +17,7 @@ NumberAt width bs at r = r ≡ numberAt width bs at
 -- overwrite(out, at, bytes): the output with the bytes in it from a place on
 abbrev pub Overwrite : List ℕ → ℕ → List ℕ → List ℕ → Type 0
 Overwrite out at bytes after = after ≡ sets out at bytes
+
+-- bytes16(number) and bytes32(number): the 2 and the 4 bytes of a number
+abbrev pub LittleEndian : ℕ → ℕ → List ℕ → Type 0
+LittleEndian width n r = r ≡ littleEndian width n

@@ -1,5 +1,5 @@
 -- "It prints exactly this": texts as bytes, and whole numbers in plain decimal with no leading
--- zero.
+-- zero. Rests on D38.
 use Prim.Native.Nat.{ℕ, zero, suc, _+_, _/_, _%_}
 use Prim.Native.Char.{code}
 use Prim.Native.String as quoted

@@ -1,2 +1,88 @@
-// Little-endian numbers, the lamp word and two's complement. The reads and writes come with the
-// load file.
+// Bytes and little-endian numbers: reading at any place, writing from any place on, and the bytes
+// of a number. No call refuses: a byte past the end reads as 0, and is not written.
+ghost use mathlib.Core.Path.{_≡_};
+ghost use Prim.Native.Nat.{_+_, _-_, _≤_, _<_};
+ghost use lib.ListN.{drop};
+ghost use Rattle.words.specs.LittleEndian.{byteAt};
+ghost use Rattle.words.specs.Calls.{ByteAt, NumberAt, Overwrite, LittleEndian};
+
+// The byte at a place; 0 past the end.
+pub fn byte_at(bytes: &[u8], at: usize) -> u8
+    ensures { λ r. ⌜ ByteAt (now (bytes .entry)) at r ⌝ }
+{
+    if at < bytes.len() { bytes[at] } else { 0 }
+}
+
+// The bytes from a place on; none past the end.
+fn bytes_from(bytes: &[u8], at: usize) -> &[u8]
+    ensures { λ r. ⌜ now r ≡ drop at (now (bytes .entry)) ⌝ }
+{
+    if at < bytes.len() {
+        &bytes[at..]
+    } else {
+        &bytes[bytes.len()..]
+    }
+}
+
+// The byte at a place, 0 past the end, as a number to be counted with.
+fn wide_at(bytes: &[u8], at: usize) -> u32
+    ensures { λ r. ⌜ (r ≡ byteAt (now (bytes .entry)) at) × (r < 256) ⌝ }
+{
+    byte_at(bytes, at) as u32
+}
+
+// The number of the two bytes from a place on, the lowest first; a byte past the end counts as 0.
+pub fn number16_at(bytes: &[u8], at: usize) -> u16
+    ensures { λ r. ⌜ NumberAt 2 (now (bytes .entry)) at r ⌝ }
+{
+    let rest = bytes_from(bytes, at);
+    (wide_at(rest, 0) + 256 * wide_at(rest, 1)) as u16
+}
+
+// The number of the four bytes from a place on, the lowest first; a byte past the end counts as 0.
+pub fn number32_at(bytes: &[u8], at: usize) -> u32
+    ensures { λ r. ⌜ NumberAt 4 (now (bytes .entry)) at r ⌝ }
+{
+    let rest = bytes_from(bytes, at);
+    wide_at(rest, 0)
+        + 256 * wide_at(rest, 1)
+        + 65536 * wide_at(rest, 2)
+        + 16777216 * wide_at(rest, 3)
+}
+
+// How many of so many bytes lie before the end, where the first is put at a place.
+fn fitting(asked: usize, at: usize, end: usize) -> usize
+    ensures { λ r. ⌜ (r ≤ asked) × (r ≤ end - at) × ((r < asked → end ≤ at + r)) ⌝ }
+{
+    if end <= at {
+        return 0;
+    }
+    if end - at < asked { end - at } else { asked }
+}
+
+// Writes the bytes over the output from a place on. Bytes that would lie past the end are not
+// written; all other bytes of the output stay.
+pub fn overwrite(out: &mut [u8], at: usize, bytes: &[u8])
+    ensures { λ _. ⌜ Overwrite (now (out .entry)) at (now (bytes .entry)) (now (out .exit)) ⌝ }
+{
+    let count = fitting(bytes.len(), at, out.len());
+    for i in 0..count {
+        out[at + i] = bytes[i];
+    }
+}
+
+// The two bytes of a number, the lowest first.
+pub fn bytes16(number: u16) -> [u8; 2]
+    ensures { λ r. ⌜ LittleEndian 2 number r ⌝ }
+{
+    [(number % 256) as u8, (number / 256) as u8]
+}
+
+// The four bytes of a number, the lowest first.
+pub fn bytes32(number: u32) -> [u8; 4]
+    ensures { λ r. ⌜ LittleEndian 4 number r ⌝ }
+{
+    let low = bytes16((number % 65536) as u16);
+    let high = bytes16((number / 65536) as u16);
+    [low[0], low[1], high[0], high[1]]
+}

@@ -1,0 +1,41 @@
+-- Laws of bytes written over a list from a place on: past the end nothing is written, and what is written in two
+-- pieces, one behind the other, is written as one.
+use Prim.Native.Nat.{ℕ, suc, _+_, _≤_, _<_}
+use mathlib.Core.List.{List, [], _∷_, _++_}
+use mathlib.Core.Path.{_≡_, refl, ap, _∙_}
+use native.Mathlib.Numerals.{add-one}
+use native.Mathlib.Omega.{arith}
+use lib.ListN.{length, drop, getD, set}
+use lib.Seq.{sets, sets-eq, set-out, drop-cons}
+
+module _ {A : Type 0} where
+  -- from the end on nothing is written
+  pub sets-past : (out : List A) (at : ℕ) (xs : List A) → length out ≤ at → sets out at xs ≡ out
+  sets-past out at [] h = refl
+  sets-past out at (x ∷ xs) h =
+      let e : set out at x ≡ out = set-out out at x h in
+      ap (λ l. sets l (suc at) xs) e ∙ sets-past out (suc at) xs (omega arith)
+
+  -- one element, and those behind it
+  pub sets-next : (out : List A) (at : ℕ) (xs : List A) (i : ℕ) (z : A) → i < length xs
+      → sets out (at + i) (drop i xs) ≡ sets (set out (at + i) (getD xs i z)) (at + (i + 1)) (drop (i + 1) xs)
+  sets-next out at xs i z l =
+      let e : at + (i + 1) ≡ suc (at + i) = omega arith in
+      rw (e, add-one i, drop-cons xs i z l)
+
+  -- one piece behind the other
+  pub sets-append : (out : List A) (at : ℕ) (xs ys : List A)
+      → sets (sets out at xs) (at + length xs) ys ≡ sets out at (xs ++ ys)
+  sets-append out at [] ys = let e : at + 0 ≡ at = omega arith in rw e
+  sets-append out at (x ∷ xs) ys =
+      let e : at + suc (length xs) ≡ suc at + length xs = omega arith in
+      rw e (sets-append (set out at x) (suc at) xs ys)
+
+  -- the same, at a place that is known to be the next one
+  pub sets-behind : (out : List A) (at next : ℕ) (xs ys : List A) → next ≡ at + length xs
+      → sets (sets out at xs) next ys ≡ sets out at (xs ++ ys)
+  sets-behind out at next xs ys e = ap (λ n. sets (sets out at xs) n ys) e ∙ sets-append out at xs ys
+
+  -- from the front on
+  pub sets-front : (out xs : List A) → length xs ≤ length out → sets out 0 xs ≡ xs ++ drop (length xs) out
+  sets-front out xs h = let e : 0 + length xs ≡ length xs = omega arith in rw e at (sets-eq xs out 0 (omega arith))
