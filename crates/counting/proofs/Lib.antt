@@ -13,7 +13,6 @@ pub mod OrderLaws
 pub mod KeyLaws
 pub mod ChangeLaws
 pub mod LeastLaws
-pub mod PlaceLaws
 pub mod ThresholdLaws
 pub mod KeepLaws
 pub mod KeptTests

@@ -8,9 +8,10 @@ use lib.ListN.{length}
 use Rattle.counting.proofs.ChangeLaws.{cond-most}
 use Rattle.load.specs.declared.Window.{Window}
 use Rattle.load.specs.View.{View, embedded}
+use Rattle.load.specs.Acceptable.{windowOf as windowAt}
 use Rattle.rules.specs.Cut.{kept, cut}
 use Rattle.rules.proofs.CutLaws.{firstKept-le, kept-le, wait-of-cut}
-use Rattle.rules.proofs.Good.{Good, openAt, limitAt, leftAt, windowAt}
+use Rattle.rules.proofs.Good.{Good, openAt, limitAt, leftAt}
 use Rattle.rules.proofs.CutWindows.{
   embedded-same,
   embedded-in-cut,

@@ -1,6 +1,6 @@
 -- The cut load beside the load: no window is cut in two, so a kept step is embedded as in the load, and the open
 -- window, its limit and what is left of it are the load's.
-use Prim.Native.Nat.{ℕ, suc, _+_, _-_, _≤_, _<_}
+use Prim.Native.Nat.{ℕ, _≤_, _<_}
 use mathlib.Core.Bool.{Bool, true, false, _&&_}
 use mathlib.Core.Path.{_≡_, refl, ap, sym, _∙_}
 use native.Mathlib.Decide.{decLt}
@@ -8,14 +8,15 @@ use native.Mathlib.Omega.{arith}
 use lib.Dec.{leb, ltb}
 use lib.ListN.{length}
 use borrow.Author.Tests.{leb-true, ltb-true, le-leb}
-use Rattle.counting.specs.Sums.{sumTo}
 use Rattle.counting.proofs.TestLaws.{and-left, and-right, true-false}
-use Rattle.counting.proofs.SumLaws.{sumTo-ext}
 use Rattle.counting.proofs.SortLaws.{Every-map, Every-at, at-Every}
-use Rattle.counting.proofs.PlaceLaws.{keepIn-stands, firstIn-keepIn}
+use Rattle.counting.proofs.EveryLaws.{firstIn-kept}
+use Rattle.counting.proofs.KeepLaws.{keptPlace, keepIn-at}
 use Rattle.load.specs.declared.Window.{Window}
 use Rattle.load.specs.Load.{noWindow}
 use Rattle.load.specs.View.{View, chain, embedded}
+use Rattle.load.specs.Acceptable.{windowOf as windowAt}
+use Rattle.load.proofs.WindowChain.{chain-ext}
 use Rattle.rules.specs.State.{openWith}
 use Rattle.rules.specs.Cut.{kept, cut}
 use Rattle.rules.proofs.CutLaws.{
@@ -29,15 +30,8 @@ use Rattle.rules.proofs.CutLaws.{
   embedded-kept,
   wait-of-cut,
 }
-use Rattle.rules.proofs.Good.{Good, openAt, limitAt, leftAt, windowAt}
+use Rattle.rules.proofs.Good.{Good, openAt, limitAt, leftAt}
 use Rattle.rules.proofs.WindowsOpen.{Open, openWith-true, embedded-place}
-
-chain-ext : (cost wait wait′ : ℕ → ℕ) (a b : ℕ) → ((j : ℕ) → suc j < b → wait j ≡ wait′ j)
-    → chain cost wait a b ≡ chain cost wait′ a b
-unfolding chain
-chain-ext cost wait wait′ a b h =
-    ap (λ x. sumTo (λ k. cost (a + k)) (b - a) + x)
-    (sumTo-ext (λ k. wait (a + k)) (λ k. wait′ (a + k)) (b - 1 - a) (λ k l. h (a + k) (omega arith)))
 
 module _ (L : View) (m : ℕ) (g : Good L) where
   abbrev K : View
@@ -82,7 +76,7 @@ module _ (L : View) (m : ℕ) (g : Good L) where
   pub openAt-same : (i f : ℕ) → i < L .rows → f < kept L m i → openAt K i f ≡ openAt L i f
   unfolding openAt cut
   openAt-same i f l h =
-      firstIn-keepIn (openWith f) (λ w. leb (w .last) (kept L m i)) noWindow (L .windows i)
+      firstIn-kept (openWith f) (λ w. leb (w .last) (kept L m i)) noWindow (L .windows i)
       (Every-map (Uncut (kept L m i)) (λ w. openWith f w ≡ true → leb (w .last) (kept L m i) ≡ true) (L .windows i) keep
       (kept-uncut L m i (within i l)))
     where
@@ -110,8 +104,8 @@ module _ (L : View) (m : ℕ) (g : Good L) where
   unfolding leftAt cut
   leftAt-by i f e h =
       ap (λ (w : Window). chain (L .cost i) (K .wait i) f (w .last)) e
-      ∙ chain-ext (L .cost i) (K .wait i) (L .wait i) f (openAt L i f .last)
-      (λ j q. wait-of-cut L m i j (omega arith))
+      ∙ chain-ext (L .cost i) (L .cost i) (K .wait i) (L .wait i) f (openAt L i f .last) (λ j from q. refl)
+      (λ j from q. wait-of-cut L m i j (omega arith))
 
   pub leftAt-same : (i f : ℕ) → i < L .rows → embedded K i f ≡ true → leftAt K i f ≡ leftAt L i f
   leftAt-same i f l e =
@@ -132,10 +126,11 @@ module _ (L : View) (m : ℕ) (g : Good L) where
   pub cut-window : (i p : ℕ) → p < length (K .windows i) → CutWindow i p
   unfolding cut
   cut-window i p lp =
-      let s = keepIn-stands (λ w. leb (w .last) (kept L m i)) noWindow (L .windows i) p lp in
+      let s = keepIn-at (λ w. leb (w .last) (kept L m i)) noWindow (L .windows i) p lp in
+      let place = keptPlace (λ (w : Window). leb (w .last) (kept L m i)) (L .windows i) p in
       record {
-        place = s .place;
+        place = place;
         below = s .below;
         is = s .is;
-        last-le = leb-true (windowAt L i (s .place) .last) (kept L m i) (s .has);
+        last-le = leb-true (windowAt L i place .last) (kept L m i) (s .has);
       }

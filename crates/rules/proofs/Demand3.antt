@@ -20,12 +20,12 @@ use Rattle.rules.specs.Move.{move}
 use Rattle.rules.specs.Run.{stateAfter, starts, enoughMoves, schedule}
 use Rattle.rules.specs.Slots.{slotAt, rowOf, stepOf, slotEnd}
 use Rattle.rules.specs.Check.{checkSlots}
-use Rattle.rules.specs.ScheduleRules.{ScheduleRules}
+use Rattle.rules.specs.ScheduleRules.{SlotRules, ScheduleRules}
 use Rattle.rules.proofs.TightBound.{tightBound, tightBound-le}
 use Rattle.rules.proofs.Good.{Good}
 use Rattle.rules.proofs.ClockBound.{tightBound-fits}
 use Rattle.rules.proofs.RunLaws.{run-done, run-answers, run-clock, schedule-whole}
-use Rattle.rules.proofs.WholeLaws.{withDeadlines, Whole, slot-is, free-last, rules-hold}
+use Rattle.rules.proofs.WholeLaws.{Whole, slot-is, free-last, rules-hold}
 use Rattle.rules.proofs.RunMade.{finished-all, schedule-is-whole, last-ends}
 use Rattle.rules.proofs.SlotsPass.{GoodOrLate, check-late, check-good}
 use Rattle.rules.proofs.CutRun.{row-in-bound}
@@ -40,14 +40,16 @@ pub record Demand3 (L : View) : Type 0 where
   pub answers : (n : ℕ) (refusal : Refusal) → move L (stateAfter L n fresh) .outcome ≡ Refused refusal → ⊥
   -- and the clock is never past the bound
   pub in-bound : (n : ℕ) → stateAfter L n fresh .clock ≤ bound L
-  -- each step is scheduled once, and nothing else; phases, order, waits and windows are kept, no two slots overlap, and
-  -- each row ends by its row bound
-  pub rules : ScheduleRules (withDeadlines L (rowBound L)) (schedule L)
+  -- each step is scheduled once, and nothing else; phases, order, waits and windows are kept, and no two slots overlap
+  pub rules : SlotRules L (schedule L)
   -- a free step starts when every row has finished all its steps of lower number
   pub free-steps : (k h : ℕ) → k < length (schedule L) → h < length (schedule L)
       → isFree L (rowOf (slotAt (schedule L) k)) (stepOf (slotAt (schedule L) k)) ≡ true
       → slotAt (schedule L) h .step < slotAt (schedule L) k .step
       → slotEnd L (slotAt (schedule L) h) ≤ slotAt (schedule L) k .start
+  -- each row's last step ends by its row bound
+  pub rows : (k : ℕ) → k < length (schedule L) → slotAt (schedule L) k .step ≡ L .steps (rowOf (slotAt (schedule L) k))
+      → slotEnd L (slotAt (schedule L) k) ≤ rowBound L (rowOf (slotAt (schedule L) k))
   -- the check of the schedule meets nothing but a row that ends late
   pub checked : GoodOrLate (checkSlots L (schedule L))
   -- where no margin is negative, deadlines are kept, and the check says yes
@@ -109,10 +111,12 @@ module _ (L : View) (g : Good L) where
         all-starts = schedule-whole L g;
         answers = run-answers L g;
         in-bound = λ n. omega (arith, run-clock L g n, tightBound-le L);
-        rules = rules-hold L (schedule L) w (g .first-last) (rowBound L) rows-end;
+        rules = rules-hold L (schedule L) w (g .first-last);
+        rows = rows-end;
         free-steps = λ k h lk lh free low.
             w .fits k lk .after h (free-last L (schedule L) w k h lk lh free low);
         checked = check-late L (schedule L) w (g .first-last) (g .first-least);
-        deadlines = λ v. rules-hold L (schedule L) w (g .first-last) (L .deadline) (in-time v);
+        deadlines = λ v.
+            record { slots-keep = rules-hold L (schedule L) w (g .first-last); deadlines = in-time v };
         passes = λ v. check-good L (schedule L) w (g .first-last) (g .first-least) (in-time v);
       }

@@ -3,11 +3,12 @@
 use Prim.Native.Nat.{ℕ, suc, _+_, _≤_, _<_}
 use mathlib.Core.Bool.{true, false}
 use mathlib.Core.Path.{_≡_}
-use lib.ListN.{length, getD}
+use lib.ListN.{length}
 use Rattle.counting.specs.Lists.{firstIn}
 use Rattle.load.specs.declared.Window.{Window}
 use Rattle.load.specs.Load.{mostRows, mostSteps, latestPhase, largestCost, largestWait, noWindow}
 use Rattle.load.specs.View.{View, chain, embedded}
+use Rattle.load.specs.Acceptable.{windowOf}
 use Rattle.rules.specs.State.{openWith}
 
 -- the window of row i that is open once f of its steps are finished
@@ -21,10 +22,6 @@ limitAt L i f = openAt L i f .limit
 -- its costs, and the waits between them, from the next step on
 unfoldable pub leftAt : View → ℕ → ℕ → ℕ
 leftAt L i f = chain (L .cost i) (L .wait i) f (openAt L i f .last)
-
--- the window at a place of row i
-abbrev pub windowAt : View → ℕ → ℕ → Window
-windowAt L i p = getD (L .windows i) p noWindow
 
 pub record Good (L : View) : Type 0 where
   -- ranges
@@ -50,11 +47,11 @@ pub record Good (L : View) : Type 0 where
   pub chain-fits : (i j : ℕ) → i < L .rows → embedded L i j ≡ false → embedded L i (suc j) ≡ true
       → L .cost i j + (L .wait i j + leftAt L i (suc j)) ≤ limitAt L i (suc j)
   -- a window has two steps or more, all of them the row's, the first of them free, and is the open one in between
-  pub first-least : (i p : ℕ) → i < L .rows → p < length (L .windows i) → 1 ≤ windowAt L i p .first
+  pub first-least : (i p : ℕ) → i < L .rows → p < length (L .windows i) → 1 ≤ windowOf L i p .first
   pub first-last : (i p : ℕ) → i < L .rows → p < length (L .windows i)
-      → windowAt L i p .first < windowAt L i p .last
-  pub last-most : (i p : ℕ) → i < L .rows → p < length (L .windows i) → windowAt L i p .last ≤ L .steps i
-  pub window-first : (i p f : ℕ) → i < L .rows → p < length (L .windows i) → windowAt L i p .first ≡ suc f
+      → windowOf L i p .first < windowOf L i p .last
+  pub last-most : (i p : ℕ) → i < L .rows → p < length (L .windows i) → windowOf L i p .last ≤ L .steps i
+  pub window-first : (i p f : ℕ) → i < L .rows → p < length (L .windows i) → windowOf L i p .first ≡ suc f
       → embedded L i f ≡ false
-  pub open-window : (i p f : ℕ) → i < L .rows → p < length (L .windows i) → windowAt L i p .first ≤ f
-      → f < windowAt L i p .last → openAt L i f ≡ windowAt L i p
+  pub open-window : (i p f : ℕ) → i < L .rows → p < length (L .windows i) → windowOf L i p .first ≤ f
+      → f < windowOf L i p .last → openAt L i f ≡ windowOf L i p

@@ -12,6 +12,7 @@ use Rattle.counting.proofs.TestLaws.{and-both}
 use Rattle.load.specs.declared.Window.{Window}
 use Rattle.load.specs.Load.{shown, noWindow}
 use Rattle.load.specs.View.{View, embedded}
+use Rattle.load.specs.Acceptable.{windowOf as windowAt}
 use Rattle.rules.specs.declared.Slot.{Slot}
 use Rattle.rules.specs.State.{State, openWith, opensAt, isOpen}
 use Rattle.rules.specs.Ready.{release}
@@ -19,14 +20,14 @@ use Rattle.rules.specs.Plan.{planPasses}
 use Rattle.rules.specs.Move.{nextSlot}
 use Rattle.rules.specs.Slots.{slotAt, rowOf, slotEnd}
 use Rattle.rules.specs.ScheduleRules.{NamesStep}
-use Rattle.rules.proofs.Good.{Good, leftAt, windowAt}
+use Rattle.rules.proofs.Good.{Good, leftAt}
 use Rattle.rules.proofs.WindowsOpen.{opensAt-embedded}
 use Rattle.rules.proofs.MoveLaws.{CanStart}
 use Rattle.rules.proofs.StackLaws.{due-is, windowLeft-is, plan-in-time}
 use Rattle.rules.proofs.Invariant.{isFree-embedded}
 use Rattle.rules.proofs.TickLaws.{allowed-free}
 use Rattle.rules.proofs.SlotLaws.{IsSlot, Fits, slotEnd-is}
-use Rattle.counting.proofs.PlaceLaws.{true-anyIn}
+use Rattle.counting.proofs.MemberLaws.{true-anyIn}
 use Rattle.rules.proofs.SlotsMade.{Made}
 
 -- a window is open between its first step and its last

@@ -13,7 +13,7 @@ use Rattle.rules.specs.declared.Slot.{Slot}
 use Rattle.rules.specs.declared.Outcome.{Outcome}
 use Rattle.rules.specs.declared.Outcome.the-variants.{Start, Idle, Done, Refused}
 use Rattle.rules.specs.State.{State, fresh}
-use Rattle.rules.specs.Outcomes.{outcomeStarts}
+use Rattle.rules.specs.Outcomes.{toldBy}
 use Rattle.rules.specs.Move.{Moved, startedFull, ticked, allFinished, nextSlot, handedBack, move}
 use Rattle.rules.specs.Run.{stateAfter, startsFrom, starts, enoughMoves, schedule}
 use Rattle.rules.proofs.TightBound.{tightBound}
@@ -111,12 +111,12 @@ module _ (L : View) (g : Good L) where
 
   -- what the move after n moves starts
   abbrev pub startsAfter : ℕ → State → List Slot
-  startsAfter n s = outcomeStarts (move L (stateAfter L n s) .outcome)
+  startsAfter n s = toldBy (move L (stateAfter L n s) .outcome) .starts
 
   done-starts : (n : ℕ) (s : State) → Kept L s → allFinished L s ≡ true → startsAfter n s ≡ []
   done-starts n s v d =
-      ap (λ t. outcomeStarts (move L t .outcome)) (stateAfter-done n s v d)
-      ∙ ap (λ (m : Moved). outcomeStarts (m .outcome)) (kept-done L s g v d)
+      ap (λ t. toldBy (move L t .outcome) .starts) (stateAfter-done n s v d)
+      ∙ ap (λ (m : Moved). toldBy (m .outcome) .starts) (kept-done L s g v d)
 
   starts-zero : (s : State) → starts L 0 s ≡ []
   unfolding starts
@@ -133,10 +133,10 @@ module _ (L : View) (g : Good L) where
   starts-first : (s : State) → Kept L s → starts L 1 s ≡ startsAfter 0 s
   starts-first s v = go (allFinished L s) refl
     where
-      now : (m : Moved) → move L s ≡ m → startsAfter 0 s ≡ outcomeStarts (m .outcome)
+      now : (m : Moved) → move L s ≡ m → startsAfter 0 s ≡ toldBy (m .outcome) .starts
       now m e =
-          ap (λ t. outcomeStarts (move L t .outcome)) (stateAfter-zero s)
-          ∙ ap (λ (w : Moved). outcomeStarts (w .outcome)) e
+          ap (λ t. toldBy (move L t .outcome) .starts) (stateAfter-zero s)
+          ∙ ap (λ (w : Moved). toldBy (w .outcome) .starts) e
 
       by : Turn L s → starts L 1 s ≡ startsAfter 0 s
       by (starting i c e) =
@@ -193,7 +193,7 @@ module _ (L : View) (g : Good L) where
       ap (λ m. starts L m fresh) (add-suc n d)
       ∙ (starts-next (n + d) fresh (fresh-kept L g)
       ∙ (ap (λ l. starts L (n + d) fresh ++ l)
-      (ap (λ (o : Outcome). outcomeStarts o) (run-done (n + d) (omega arith)))
+      (ap (λ (o : Outcome). toldBy o .starts) (run-done (n + d) (omega arith)))
       ∙ (append-nil (starts L (n + d) fresh) ∙ starts-enough d n h)))
 
   starts-from-bound : (n : ℕ) → tightBound L ≤ n → starts L n fresh ≡ starts L (tightBound L) fresh

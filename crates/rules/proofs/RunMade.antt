@@ -14,7 +14,7 @@ use Rattle.load.specs.Load.{shown}
 use Rattle.load.specs.View.{View}
 use Rattle.rules.specs.declared.Slot.{Slot}
 use Rattle.rules.specs.State.{State, fresh}
-use Rattle.rules.specs.Outcomes.{outcomeStarts}
+use Rattle.rules.specs.Outcomes.{toldBy}
 use Rattle.rules.specs.Move.{allFinished, move}
 use Rattle.rules.specs.Run.{stateAfter, starts, schedule}
 use Rattle.rules.specs.Slots.{slotAt, slotEnd}
@@ -30,14 +30,14 @@ use Rattle.rules.proofs.WholeLaws.{Whole}
 module _ (L : View) (g : Good L) where
   -- a move adds its start
   move-made : (s : State) (slots : List Slot) → Kept L s → Made L s slots
-      → Made L (move L s .then) (slots ++ outcomeStarts (move L s .outcome))
+      → Made L (move L s .then) (slots ++ toldBy (move L s .outcome) .starts)
   move-made s slots v m = go (allFinished L s) refl
     where
-      by : Turn L s → Made L (move L s .then) (slots ++ outcomeStarts (move L s .outcome))
+      by : Turn L s → Made L (move L s .then) (slots ++ toldBy (move L s .outcome) .starts)
       by (starting i c e) = rw e (start-made L s i slots g (v .invariant .plan) c m)
       by (idles none e) = rw e (rw (append-nil slots) (tick-made L s slots m))
 
-      go : (b : Bool) → allFinished L s ≡ b → Made L (move L s .then) (slots ++ outcomeStarts (move L s .outcome))
+      go : (b : Bool) → allFinished L s ≡ b → Made L (move L s .then) (slots ++ toldBy (move L s .outcome) .starts)
       go true d = rw (kept-done L s g v d) (rw (append-nil slots) m)
       go false d = by (kept-turn L s g v d)
 

@@ -12,10 +12,10 @@ use Rattle.counting.specs.Sums.{bit, countTo}
 use Rattle.counting.proofs.SumLaws.{sumTo-ext}
 use Rattle.load.specs.Load.{shown}
 use Rattle.load.specs.View.{View, isFree}
+use Rattle.load.specs.Acceptable.{windowOf as windowAt}
 use Rattle.rules.specs.declared.Slot.{Slot}
 use Rattle.rules.specs.Slots.{noSlot, slotAt, rowOf, stepOf, slotEnd}
 use Rattle.rules.specs.ScheduleRules.{NamesStep}
-use Rattle.rules.proofs.Good.{windowAt}
 
 -- how many of the slots before place k are of a row, counted from 1
 abbrev pub ofRow : List Slot → ℕ → ℕ → ℕ

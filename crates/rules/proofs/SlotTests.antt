@@ -9,22 +9,21 @@ use native.Mathlib.Omega.{arith}
 use lib.Dec.{eqb, ltb}
 use lib.ListN.{length}
 use borrow.Author.Tests.{eqb-true, le-ltb, eq-eqb}
-use Rattle.counting.specs.Lists.{firstIn}
 use Rattle.counting.proofs.TestLaws.{and-left, and-right, and-both}
-use Rattle.counting.proofs.PlaceLaws.{false-anyIn, Stands, firstIn-stands}
+use Rattle.counting.proofs.MemberLaws.{First, true-anyIn, false-anyIn, anyIn-true}
 use Rattle.refusals.specs.declared.Refusal.the-variants.{RowLate}
 use Rattle.refusals.specs.declared.Checked.the-variants.{Good, Refused}
 use Rattle.refusals.specs.FirstMet.{firstMet}
 use Rattle.load.specs.declared.Window.{Window}
 use Rattle.load.specs.Load.{lastMoment, shown, noWindow}
 use Rattle.load.specs.View.{View}
+use Rattle.load.specs.Acceptable.{windowOf as windowAt}
 use Rattle.load.specs.Faults.{outside}
 use Rattle.rules.specs.declared.Slot.{Slot}
 use Rattle.rules.specs.Ready.{release}
 use Rattle.rules.specs.Slots.{noSlot, slotAt, rowOf, stepOf, slotEnd, isFor, slotFor}
 use Rattle.rules.specs.Check.{namesNoStep, notNext, overlaps, startsEarly, endsWindowLate, endsRowLate, slotTests}
 use Rattle.rules.specs.ScheduleRules.{NamesStep, HasSlot}
-use Rattle.rules.proofs.Good.{windowAt}
 use Rattle.rules.proofs.SlotLaws.{ofRow, IsSlot}
 use Rattle.rules.proofs.WholeLaws.{Whole, names, later, each, slot-is}
 
@@ -38,7 +37,10 @@ pub record Looked (slots : List Slot) (row step : ℕ) : Type 0 where
 
 looked : (slots : List Slot) (i j : ℕ) → HasSlot slots i j → Looked slots (shown i) (shown j)
 unfolding slotFor
-looked slots i j h = go (firstIn-stands (isFor (shown i) (shown j)) noSlot slots (h .place) (h .below) right)
+looked slots i j h =
+    go
+    (anyIn-true (isFor (shown i) (shown j)) noSlot slots
+    (true-anyIn (isFor (shown i) (shown j)) noSlot slots (h .place) (h .below) right))
   where
     right : isFor (shown i) (shown j) (slotAt slots (h .place)) ≡ true
     right =
@@ -46,8 +48,7 @@ looked slots i j h = go (firstIn-stands (isFor (shown i) (shown j)) noSlot slots
         (eq-eqb (slotAt slots (h .place) .row) (shown i) (h .its-row))
         (eq-eqb (slotAt slots (h .place) .step) (shown j) (h .its-step))
 
-    go : Stands (isFor (shown i) (shown j)) noSlot slots (firstIn (isFor (shown i) (shown j)) noSlot slots)
-        → Looked slots (shown i) (shown j)
+    go : First (isFor (shown i) (shown j)) noSlot slots → Looked slots (shown i) (shown j)
     go s =
         record {
           place = s .place;

@@ -9,11 +9,11 @@ use Rattle.counting.specs.Sums.{sumTo}
 use Rattle.counting.proofs.ChangeLaws.{sumTo-none}
 use Rattle.load.specs.Load.{shown}
 use Rattle.load.specs.View.{View}
+use Rattle.load.specs.Acceptable.{windowOf as windowAt}
 use Rattle.rules.specs.declared.Slot.{Slot}
 use Rattle.rules.specs.State.{State, fresh}
 use Rattle.rules.specs.Move.{ticked}
 use Rattle.rules.specs.Slots.{slotAt, slotEnd}
-use Rattle.rules.proofs.Good.{windowAt}
 use Rattle.rules.proofs.SlotLaws.{ofRow, Fits}
 
 pub record Made (L : View) (s : State) (slots : List Slot) : Type 0 where

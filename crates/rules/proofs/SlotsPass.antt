@@ -13,10 +13,10 @@ use Rattle.refusals.specs.declared.Checked.the-variants.{Good, Refused}
 use Rattle.refusals.specs.FirstMet.{firstMet, firstFaultTo, andThen}
 use Rattle.refusals.proofs.FirstMetLaws.{good-firstFaultTo}
 use Rattle.load.specs.View.{View, stepsInAll}
+use Rattle.load.specs.Acceptable.{windowOf as windowAt}
 use Rattle.rules.specs.declared.Slot.{Slot}
 use Rattle.rules.specs.Slots.{slotAt, rowOf, slotEnd}
 use Rattle.rules.specs.Check.{endsRowLate, slotTests, checkSlots}
-use Rattle.rules.proofs.Good.{windowAt}
 use Rattle.rules.proofs.WholeLaws.{Whole}
 use Rattle.rules.proofs.SlotTests.{slot-late}
 

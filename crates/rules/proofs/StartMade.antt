@@ -14,12 +14,13 @@ use Rattle.counting.proofs.SumLaws.{sumTo-next}
 use Rattle.counting.proofs.ChangeLaws.{sumTo-change}
 use Rattle.load.specs.Load.{shown}
 use Rattle.load.specs.View.{View, embedded}
+use Rattle.load.specs.Acceptable.{windowOf as windowAt}
 use Rattle.rules.specs.declared.Slot.{Slot}
 use Rattle.rules.specs.State.{State, opensAt, isOpen}
 use Rattle.rules.specs.Plan.{planPasses}
 use Rattle.rules.specs.Move.{started, startedFull, nextSlot}
 use Rattle.rules.specs.Slots.{slotAt, slotEnd}
-use Rattle.rules.proofs.Good.{Good, windowAt}
+use Rattle.rules.proofs.Good.{Good}
 use Rattle.rules.proofs.WindowsOpen.{opensAt-embedded}
 use Rattle.rules.proofs.MoveLaws.{
   CanStart,

@@ -1,20 +1,20 @@
 -- A window is open once so many steps are finished exactly when the next step is embedded, in every view; and the
 -- window that is open stands at a place of the row's list.
 use Prim.Native.Nat.{ℕ, _≤_, _<_}
-use mathlib.Core.Bool.{Bool, true, false, _&&_}
-use mathlib.Core.Path.{_≡_, refl, sym, _∙_}
-use native.Mathlib.Decide.{ℕ-discrete, decLt}
-use native.Mathlib.Omega.{arith}
+use mathlib.Core.Bool.{true}
+use mathlib.Core.Path.{_≡_, _∙_}
 use lib.Dec.{leb, ltb}
 use lib.ListN.{length}
-use borrow.Author.Tests.{leb-true, ltb-true, lt-ltb, le-ltb, le-leb, lt-leb, eq-eqb, ne-eqb}
+use borrow.Author.Tests.{leb-true, ltb-true}
 use Rattle.counting.proofs.TestLaws.{and-left, and-right}
-use Rattle.counting.proofs.PlaceLaws.{anyIn-stands, anyIn-ext}
+use Rattle.counting.proofs.MemberLaws.{anyIn-true}
 use Rattle.load.specs.declared.Window.{Window}
-use Rattle.load.specs.Load.{shown, noWindow}
-use Rattle.load.specs.View.{View, inWindow, embeddedIn, embedded}
+use Rattle.load.specs.Load.{noWindow}
+use Rattle.load.specs.View.{View, embedded}
+use Rattle.load.specs.Acceptable.{windowOf as windowAt}
+use Rattle.load.proofs.WindowLaws.{open-embedded}
 use Rattle.rules.specs.State.{openWith, opensAt}
-use Rattle.rules.proofs.Good.{openAt, windowAt}
+use Rattle.rules.proofs.Good.{openAt}
 
 -- a window that is open with f steps finished, as facts
 pub record Open (f : ℕ) (w : Window) : Type 0 where
@@ -28,38 +28,9 @@ openWith-true f w e =
       going = ltb-true f (w .last) (and-right (leb (w .first) f) (ltb f (w .last)) e);
     }
 
-openWith-embeddedIn : (f : ℕ) (w : Window) → openWith f w ≡ embeddedIn (shown f) w
-openWith-embeddedIn f w =
-    elim (decLt f (w .first)) [
-      | yes l ↦ rw (lt-leb (w .first) f l) (sym (not-begun l))
-      | no l ↦
-          rw (
-            le-leb (w .first) f (omega arith),
-            le-leb (w .first) (shown f) (omega arith),
-            ne-eqb (shown f) (w .first) (λ e. l (omega arith)),
-          )
-          (going (decLt f (w .last)))
-    ]
-  where
-    not-begun : f < w .first → embeddedIn (shown f) w ≡ false
-    not-begun l =
-        elim (ℕ-discrete (shown f) (w .first)) [
-          | yes e ↦ rw (eq-eqb (shown f) (w .first) e) (both (inWindow (shown f) w))
-          | no e ↦ rw (lt-leb (w .first) (shown f) (omega arith))
-        ]
-      where
-        both : (b : Bool) → (b && false) ≡ false
-        both true = refl
-        both false = refl
-
-    going : Dec (f < w .last) → ltb f (w .last) ≡ (leb (shown f) (w .last) && true)
-    going (yes l) = rw (lt-ltb f (w .last) l, le-leb (shown f) (w .last) (omega arith))
-    going (no l) = rw (le-ltb f (w .last) (omega arith), lt-leb (shown f) (w .last) (omega arith))
-
 pub opensAt-embedded : (L : View) (i f : ℕ) → opensAt L i f ≡ embedded L i f
-unfolding opensAt embedded
-opensAt-embedded L i f =
-    anyIn-ext (openWith f) (embeddedIn (shown f)) (L .windows i) (openWith-embeddedIn f)
+unfolding opensAt
+opensAt-embedded L i f = open-embedded L i f
 
 -- the place of the window that is open
 pub record OpenPlace (L : View) (i f : ℕ) : Type 0 where
@@ -71,7 +42,7 @@ pub record OpenPlace (L : View) (i f : ℕ) : Type 0 where
 pub embedded-place : (L : View) (i f : ℕ) → embedded L i f ≡ true → OpenPlace L i f
 unfolding openAt opensAt
 embedded-place L i f e =
-    let s = anyIn-stands (openWith f) noWindow (L .windows i) (opensAt-embedded L i f ∙ e) in
+    let s = anyIn-true (openWith f) noWindow (L .windows i) (opensAt-embedded L i f ∙ e) in
     record {
       place = s .place;
       below = s .below;
