@@ -1,5 +1,5 @@
--- Demand 3: the run of a good load ends by its bound, keeps all rules of a schedule, and each row ends by its row
--- bound; so where no margin is negative the schedule keeps its deadlines and passes the check.
+-- Demand 3: the run of an acceptable load ends by its bound, keeps all rules of a schedule, and each row ends by its
+-- row bound; so where no margin is negative the schedule keeps its deadlines and passes the check.
 use Prim.Native.Nat.{ℕ, zero, suc, _-_, _≤_, _<_}
 use mathlib.Core.Bool.{Bool, true, false, cond, not}
 use mathlib.Core.Path.{_≡_, refl}
@@ -11,7 +11,11 @@ use borrow.Author.Tests.{not-true, ltb-false}
 use Rattle.counting.proofs.TestLaws.{allTo-true, true-false}
 use Rattle.refusals.specs.declared.Refusal.{Refusal}
 use Rattle.refusals.specs.declared.Checked.the-variants as found
-use Rattle.load.specs.View.{View, isFree}
+use Rattle.load.specs.declared.Load.{Load}
+use Rattle.load.specs.View.{View, viewOf, isFree}
+use Rattle.load.specs.Check.{checkLoad}
+use Rattle.load.specs.Acceptable.{Acceptable}
+use Rattle.load.proofs.AcceptableLaws.{check-acceptable}
 use Rattle.rules.specs.declared.Outcome.the-variants.{Done, Refused}
 use Rattle.rules.specs.Bound.{bound}
 use Rattle.rules.specs.Margins.{rowBound, margin, isNegative, verdict}
@@ -19,10 +23,11 @@ use Rattle.rules.specs.State.{fresh}
 use Rattle.rules.specs.Move.{move}
 use Rattle.rules.specs.Run.{stateAfter, starts, enoughMoves, schedule}
 use Rattle.rules.specs.Slots.{slotAt, rowOf, stepOf, slotEnd}
-use Rattle.rules.specs.Check.{checkSlots}
+use Rattle.rules.specs.Check.{checkSlots, checkSchedule}
 use Rattle.rules.specs.ScheduleRules.{SlotRules, ScheduleRules}
 use Rattle.rules.proofs.TightBound.{tightBound, tightBound-le}
 use Rattle.rules.proofs.Good.{Good}
+use Rattle.rules.proofs.GoodLaws.{acceptable-good}
 use Rattle.rules.proofs.ClockBound.{tightBound-fits}
 use Rattle.rules.proofs.RunLaws.{run-done, run-answers, run-clock, schedule-whole}
 use Rattle.rules.proofs.WholeLaws.{Whole, slot-is, free-last, rules-hold}
@@ -102,8 +107,8 @@ module _ (L : View) (g : Good L) where
         verdict-true L v (rowOf (slotAt (schedule L) k)) (omega (arith, mine .row-from, mine .row-to)),
       )
 
-  pub demand3 : Demand3 L
-  demand3 =
+  pub good-demand3 : Demand3 L
+  good-demand3 =
       record {
         moves = tightBound L;
         moves-few = omega (arith, tightBound-fits L g);
@@ -120,3 +125,15 @@ module _ (L : View) (g : Good L) where
             record { slots-keep = rules-hold L (schedule L) w (g .first-last); deadlines = in-time v };
         passes = λ v. check-good L (schedule L) w (g .first-last) (g .first-least) (in-time v);
       }
+
+pub demand3 : (L : View) → Acceptable L → Demand3 L
+demand3 L ok = good-demand3 L (acceptable-good L ok)
+
+-- a load in memory that is not refused
+module _ (load : Load) (accepted : checkLoad load ≡ found.Good) where
+  pub accepted-demand3 : Demand3 (viewOf load)
+  accepted-demand3 = demand3 (viewOf load) (check-acceptable load accepted)
+
+  pub accepted-passes : verdict (viewOf load) ≡ true → checkSchedule load (schedule (viewOf load)) ≡ found.Good
+  unfolding checkSchedule
+  accepted-passes v = rw (accepted, accepted-demand3 .passes v)

@@ -9,9 +9,11 @@ pub mod MarginLaws
 pub mod SameBound
 pub mod Good
 pub mod WindowsOpen
+pub mod GoodLaws
 pub mod MoveLaws
 pub mod PlanLaws
 pub mod StackLaws
+pub mod PlanSooner
 pub mod StartPasses
 pub mod ShapeLaws
 pub mod Invariant

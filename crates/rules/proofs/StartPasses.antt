@@ -1,5 +1,5 @@
 -- Which starts pass the plan: the first row of the stack once it is ready, whose plan afterwards is the plan before, or
--- its tail; and any row while no window is open. And a step that ends early keeps the plan.
+-- its tail; and any row while no window is open.
 use Prim.Native.Nat.{ℕ, suc, _+_, _≤_, _<_}
 use mathlib.Core.Bool.{Bool, true, false, _&&_, cond}
 use mathlib.Core.List.{List, [], _∷_}
@@ -21,7 +21,7 @@ use Rattle.rules.specs.Plan.{due, stack, finish, inTime, planPasses}
 use Rattle.rules.specs.Move.{started, startedFull, passes}
 use Rattle.rules.proofs.Good.{Good}
 use Rattle.rules.proofs.WindowsOpen.{opensAt-embedded}
-use Rattle.rules.proofs.MoveLaws.{started-clock, started-finished-same, openingAfter-kept, openingAfter-new}
+use Rattle.rules.proofs.MoveLaws.{started-clock, openingAfter-kept, openingAfter-new}
 use Rattle.rules.proofs.PlanLaws.{SameJob, inTime-ext, inTime-next, inTime-none}
 use Rattle.rules.proofs.StackLaws.{
   due-is,
@@ -30,15 +30,12 @@ use Rattle.rules.proofs.StackLaws.{
   stack-ext,
   stack-none,
   isOpen-other,
+  isOpen-same,
   job-other,
   released-same,
   windowLeft-same,
   due-same,
 }
-
--- the row that starts, afterwards
-isOpen-same : (L : View) (s : State) (k long : ℕ) → isOpen L (started L s k long) k ≡ opensAt L k (suc (s .finished k))
-isOpen-same L s k long = ap (opensAt L k) (started-finished-same L s k long)
 
 -- the first row of the stack is open
 pub head-there : (L : View) (s : State) (r : ℕ) (rest : List ℕ) → stack L s ≡ r ∷ rest
