@@ -22,7 +22,7 @@ use Rattle.rules.specs.Margins.{rowBound, margin, isNegative, verdict}
 use Rattle.rules.specs.State.{fresh}
 use Rattle.rules.specs.Move.{move}
 use Rattle.rules.specs.Run.{stateAfter, starts, enoughMoves, schedule}
-use Rattle.rules.specs.Slots.{slotAt, rowOf, stepOf, slotEnd}
+use Rattle.rules.specs.Slots.{slotAt, rowOf, stepOf, slotEnd, lastEnd}
 use Rattle.rules.specs.Check.{checkSlots, checkSchedule}
 use Rattle.rules.specs.ScheduleRules.{SlotRules, ScheduleRules}
 use Rattle.rules.proofs.TightBound.{tightBound, tightBound-le}
@@ -30,6 +30,7 @@ use Rattle.rules.proofs.Good.{Good}
 use Rattle.rules.proofs.GoodLaws.{acceptable-good}
 use Rattle.rules.proofs.ClockBound.{tightBound-fits}
 use Rattle.rules.proofs.RunLaws.{run-done, run-answers, run-clock, schedule-whole}
+use Rattle.rules.proofs.RunEnd.{schedule-ends}
 use Rattle.rules.proofs.WholeLaws.{Whole, slot-is, free-last, rules-hold}
 use Rattle.rules.proofs.RunMade.{finished-all, schedule-is-whole, last-ends}
 use Rattle.rules.proofs.SlotsPass.{GoodOrLate, check-late, check-good}
@@ -45,6 +46,8 @@ pub record Demand3 (L : View) : Type 0 where
   pub answers : (n : ℕ) (refusal : Refusal) → move L (stateAfter L n fresh) .outcome ≡ Refused refusal → ⊥
   -- and the clock is never past the bound
   pub in-bound : (n : ℕ) → stateAfter L n fresh .clock ≤ bound L
+  -- the last step ends with the run, and so by the bound
+  pub last-end : (n : ℕ) → moves ≤ n → lastEnd L (schedule L) ≡ stateAfter L n fresh .clock
   -- each step is scheduled once, and nothing else; phases, order, waits and windows are kept, and no two slots overlap
   pub rules : SlotRules L (schedule L)
   -- a free step starts when every row has finished all its steps of lower number
@@ -116,6 +119,7 @@ module _ (L : View) (g : Good L) where
         all-starts = schedule-whole L g;
         answers = run-answers L g;
         in-bound = λ n. omega (arith, run-clock L g n, tightBound-le L);
+        last-end = schedule-ends L g;
         rules = rules-hold L (schedule L) w (g .first-last);
         rows = rows-end;
         free-steps = λ k h lk lh free low.

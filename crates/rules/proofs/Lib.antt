@@ -27,6 +27,7 @@ pub mod SlotLaws
 pub mod SlotsMade
 pub mod NewSlot
 pub mod StartMade
+pub mod RunEnd
 pub mod WholeLaws
 pub mod RunMade
 pub mod SlotTests
