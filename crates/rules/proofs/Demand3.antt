@@ -32,7 +32,7 @@ use Rattle.rules.proofs.ClockBound.{tightBound-fits}
 use Rattle.rules.proofs.RunLaws.{run-done, run-answers, run-clock, schedule-whole}
 use Rattle.rules.proofs.RunEnd.{schedule-ends}
 use Rattle.rules.proofs.WholeLaws.{Whole, slot-is, free-last, rules-hold}
-use Rattle.rules.proofs.RunMade.{finished-all, schedule-is-whole, last-ends}
+use Rattle.rules.proofs.RunMade.{finished-all, schedule-is-whole, schedule-lower, last-ends}
 use Rattle.rules.proofs.SlotsPass.{GoodOrLate, check-late, check-good}
 use Rattle.rules.proofs.CutRun.{row-in-bound}
 
@@ -123,7 +123,7 @@ module _ (L : View) (g : Good L) where
         rules = rules-hold L (schedule L) w (g .first-last);
         rows = rows-end;
         free-steps = λ k h lk lh free low.
-            w .fits k lk .after h (free-last L (schedule L) w k h lk lh free low);
+            w .fits k lk .after h (free-last L (schedule L) w (schedule-lower L g) k h lk lh free low);
         checked = check-late L (schedule L) w (g .first-last) (g .first-least);
         deadlines = λ v.
             record { slots-keep = rules-hold L (schedule L) w (g .first-last); deadlines = in-time v };

@@ -26,7 +26,7 @@ use Rattle.rules.proofs.MoveLaws.{CanStart}
 use Rattle.rules.proofs.StackLaws.{due-is, windowLeft-is, plan-in-time}
 use Rattle.rules.proofs.Invariant.{isFree-embedded}
 use Rattle.rules.proofs.TickLaws.{allowed-free}
-use Rattle.rules.proofs.SlotLaws.{IsSlot, Fits, slotEnd-is}
+use Rattle.rules.proofs.SlotLaws.{AfterLower, IsSlot, Fits, slotEnd-is}
 use Rattle.counting.proofs.MemberLaws.{true-anyIn}
 use Rattle.rules.proofs.SlotsMade.{Made}
 
@@ -129,10 +129,12 @@ module _ (L : View) (s : State) (i : ℕ) (slots : List Slot) (g : Good L) (plan
             omega (arith, ap (L .phase) er, ap (λ f. release L i f (s .end i)) e, c .ready));
         wait = new-wait;
         window = new-window;
-        low = λ r j k a free lk.
-            (let er : r ≡ i = omega (arith, a .its-row) in
-            let ej : j ≡ s .finished i = omega (arith, a .its-step) in
-            let shut : embedded L i (s .finished i) ≡ false =
-            sym (ap₂ (embedded L) er ej) ∙ isFree-embedded L r j free in
-            omega (arith, m .count k lk, allowed-free L s i (c .allowed) shut k lk));
       }
+
+  pub new-lower : AfterLower L slots n x
+  new-lower r j k a free lk =
+      let er : r ≡ i = omega (arith, a .its-row) in
+      let ej : j ≡ s .finished i = omega (arith, a .its-step) in
+      let shut : embedded L i (s .finished i) ≡ false =
+      sym (ap₂ (embedded L) er ej) ∙ isFree-embedded L r j free in
+      omega (arith, m .count k lk, allowed-free L s i (c .allowed) shut k lk)

@@ -23,6 +23,7 @@ use Rattle.rules.proofs.Good.{Good}
 use Rattle.rules.proofs.MoveLaws.{Turn, starts as starting, idles}
 use Rattle.rules.proofs.MoveKeeps.{Kept, fresh-kept, kept-done, kept-turn}
 use Rattle.rules.proofs.RunLaws.{stateAfter-next, run-kept, run-finished, starts-next, schedule-whole}
+use Rattle.rules.proofs.SlotLaws.{AfterLower}
 use Rattle.rules.proofs.SlotsMade.{Made, fresh-made, tick-made}
 use Rattle.rules.proofs.StartMade.{start-made}
 use Rattle.rules.proofs.WholeLaws.{Whole}
@@ -83,6 +84,9 @@ module _ (L : View) (g : Good L) where
             schedule-made .in-all
             ∙ sumTo-ext (last .finished) (L .steps) (L .rows) (finished-all (tightBound L) (omega arith));
       }
+
+  pub schedule-lower : (k : ℕ) → k < length (schedule L) → AfterLower L (schedule L) k (slotAt (schedule L) k)
+  schedule-lower = schedule-made .lower
 
   -- a row's last step ends when the state says
   pub last-ends : (k i : ℕ) → k < length (schedule L) → i < L .rows → slotAt (schedule L) k .row ≡ shown i

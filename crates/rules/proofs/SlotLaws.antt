@@ -42,9 +42,11 @@ pub record Fits (L : View) (slots : List Slot) (k : ℕ) (x : Slot) : Type 0 whe
   pub window : (h i p : ℕ) → h < k → i < L .rows → p < length (L .windows i) → slotAt slots h .row ≡ shown i
       → x .row ≡ shown i → slotAt slots h .step ≡ windowAt L i p .first → x .step ≡ windowAt L i p .last
       → slotEnd L x ≤ slotAt slots h .start + windowAt L i p .limit
-  -- free, after all lower steps of all rows
-  pub low : (i j r : ℕ) → IsSlot i j x → isFree L i j ≡ true → r < L .rows
-      → min j (L .steps r) ≤ ofRow slots (shown r) k
+
+-- a slot at place k of a free step stands after all lower steps of all rows
+abbrev pub AfterLower : View → List Slot → ℕ → Slot → Type 0
+AfterLower L slots k x =
+    (i j r : ℕ) → IsSlot i j x → isFree L i j ≡ true → r < L .rows → min j (L .steps r) ≤ ofRow slots (shown r) k
 
 -- the end of a slot, by its step
 pub slotEnd-is : (L : View) (i j : ℕ) (x : Slot) → IsSlot i j x → slotEnd L x ≡ x .start + L .cost i j
@@ -82,5 +84,8 @@ module _ (slots : List Slot) (x : Slot) where
             rw (slotAt-before h (omega arith))
             (f .window h i p lh li lp (rw (slotAt-before h (omega arith)) at a) b
             (rw (slotAt-before h (omega arith)) at c) d);
-        low = λ i j r a b lr. rw (ofRow-before (shown r) k l) (f .low i j r a b lr);
       }
+
+  pub lower-before : (L : View) (k : ℕ) (y : Slot) → k ≤ length slots → AfterLower L slots k y
+      → AfterLower L (slots ++ x ∷ []) k y
+  lower-before L k y l f i j r a b lr = rw (ofRow-before (shown r) k l) (f i j r a b lr)

@@ -14,10 +14,11 @@ use Rattle.rules.specs.declared.Slot.{Slot}
 use Rattle.rules.specs.State.{State, fresh}
 use Rattle.rules.specs.Move.{ticked}
 use Rattle.rules.specs.Slots.{slotAt, slotEnd}
-use Rattle.rules.proofs.SlotLaws.{ofRow, Fits}
+use Rattle.rules.proofs.SlotLaws.{AfterLower, ofRow, Fits}
 
 pub record Made (L : View) (s : State) (slots : List Slot) : Type 0 where
   pub fits : (k : ℕ) → k < length slots → Fits L slots k (slotAt slots k)
+  pub lower : (k : ℕ) → k < length slots → AfterLower L slots k (slotAt slots k)
   pub count : (i : ℕ) → i < L .rows → ofRow slots (shown i) (length slots) ≡ s .finished i
   pub in-all : length slots ≡ sumTo (s .finished) (L .rows)
   pub ended : (h : ℕ) → h < length slots → slotEnd L (slotAt slots h) ≤ s .clock
@@ -35,6 +36,7 @@ unfolding fresh sumTo
 fresh-made L =
     record {
       fits = λ k l. absurd (omega arith);
+      lower = λ k l. absurd (omega arith);
       count = λ i l. refl;
       in-all = sym (sumTo-none (λ i. 0) (L .rows) (λ i l. refl));
       ended = λ h l. absurd (omega arith);
@@ -48,6 +50,7 @@ unfolding ticked
 tick-made L s slots m =
     record {
       fits = m .fits;
+      lower = m .lower;
       count = m .count;
       in-all = m .in-all;
       ended = λ h l. omega (arith, m .ended h l);

@@ -44,9 +44,11 @@ use Rattle.rules.proofs.SlotLaws.{
   length-last,
   ofRow-before,
   fits-before,
+  AfterLower,
+  lower-before,
 }
 use Rattle.rules.proofs.SlotsMade.{Made}
-use Rattle.rules.proofs.NewSlot.{window-opens, new-fits}
+use Rattle.rules.proofs.NewSlot.{window-opens, new-fits, new-lower}
 
 -- an old slot, or the new one
 data Which (slots : List Slot) (x : Slot) (h : ℕ) : Type 0 where
@@ -102,6 +104,16 @@ module _ (L : View) (s : State) (i : ℕ) (slots : List Slot) (g : Good L) (plan
           rw e
           (subst (λ y. Fits L more y x) (sym q)
           (fits-before slots x L n x (omega arith) (new-fits L s i slots g plan c m)))
+
+  lower-after : (k : ℕ) → k < length more → AfterLower L more k (slotAt more k)
+  lower-after k l = go (which slots x k l)
+    where
+      go : Which slots x k → AfterLower L more k (slotAt more k)
+      go (old q e) = rw e (lower-before slots x L k (slotAt slots k) (omega arith) (m .lower k q))
+      go (new q e) =
+          rw e
+          (subst (λ y. AfterLower L more y x) (sym q)
+          (lower-before slots x L n x (omega arith) (new-lower L s i slots g plan c m)))
 
   new-end : slotEnd L x ≡ s .clock + d
   new-end = slotEnd-is L i (s .finished i) x (record { its-row = refl; its-step = refl })
@@ -195,6 +207,7 @@ module _ (L : View) (s : State) (i : ℕ) (slots : List Slot) (g : Good L) (plan
   start-made =
       record {
         fits = fits-after;
+        lower = lower-after;
         count = count-after;
         in-all =
             omega (

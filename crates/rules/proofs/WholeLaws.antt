@@ -17,7 +17,7 @@ use Rattle.load.specs.Acceptable.{windowOf as windowAt}
 use Rattle.rules.specs.declared.Slot.{Slot}
 use Rattle.rules.specs.Slots.{slotAt, rowOf, stepOf, slotEnd}
 use Rattle.rules.specs.ScheduleRules.{NamesStep, HasSlot, SameRow, windowOf, SlotRules}
-use Rattle.rules.proofs.SlotLaws.{ofRow, IsSlot, Fits}
+use Rattle.rules.proofs.SlotLaws.{AfterLower, ofRow, IsSlot, Fits}
 
 pub record Whole (L : View) (slots : List Slot) : Type 0 where
   pub fits : (k : ℕ) → k < length slots → Fits L slots k (slotAt slots k)
@@ -146,15 +146,16 @@ module _ (L : View) (slots : List Slot) (w : Whole L slots) where
       (sym (r .same) ∙ mine .its-row) first last
 
   -- a free step stands after all lower steps of all rows
-  pub free-last : (k h : ℕ) → k < length slots → h < length slots
+  pub free-last : ((k : ℕ) → k < length slots → AfterLower L slots k (slotAt slots k))
+      → (k h : ℕ) → k < length slots → h < length slots
       → isFree L (rowOf (slotAt slots k)) (stepOf (slotAt slots k)) ≡ true
       → slotAt slots h .step < slotAt slots k .step → h < k
-  free-last k h lk lh free low =
+  free-last lower k h lk lh free low =
       let mine = slot-is L (slotAt slots k) (names k lk) in
       let its = slot-is L (slotAt slots h) (names h lh) in
       let r = rowOf (slotAt slots h) in
       let lr : r < L .rows = omega (arith, names h lh .row-from, names h lh .row-to) in
-      let below = w .fits k lk .low (rowOf (slotAt slots k)) (stepOf (slotAt slots k)) r mine free lr in
+      let below = lower k lk (rowOf (slotAt slots k)) (stepOf (slotAt slots k)) r mine free lr in
       elim (decLt h k) [
         | yes l ↦ l
         | no l ↦
