@@ -31,7 +31,8 @@ use Rattle.rules.proofs.GoodLaws.{acceptable-good}
 use Rattle.rules.proofs.ClockBound.{tightBound-fits}
 use Rattle.rules.proofs.RunLaws.{run-done, run-answers, run-clock, schedule-whole}
 use Rattle.rules.proofs.RunEnd.{schedule-ends}
-use Rattle.rules.proofs.WholeLaws.{Whole, slot-is, free-last, rules-hold}
+use Rattle.rules.proofs.WholeLaws.{Whole, free-last, rules-hold}
+use Rattle.rules.proofs.NextLaws.{slot-is}
 use Rattle.rules.proofs.RunMade.{finished-all, schedule-is-whole, schedule-lower, last-ends}
 use Rattle.rules.proofs.SlotsPass.{GoodOrLate, check-late, check-good}
 use Rattle.rules.proofs.CutRun.{row-in-bound}

@@ -28,7 +28,10 @@ pub mod SlotsMade
 pub mod NewSlot
 pub mod StartMade
 pub mod RunEnd
+pub mod NextLaws
+pub mod RowCounts
 pub mod WholeLaws
+pub mod RulesWhole
 pub mod RunMade
 pub mod SlotTests
 pub mod SlotsPass

@@ -25,7 +25,8 @@ use Rattle.rules.specs.Slots.{noSlot, slotAt, rowOf, stepOf, slotEnd, is
 use Rattle.rules.specs.Check.{namesNoStep, notNext, overlaps, startsEarly, endsWindowLate, endsRowLate, slotTests}
 use Rattle.rules.specs.ScheduleRules.{NamesStep, HasSlot}
 use Rattle.rules.proofs.SlotLaws.{ofRow, IsSlot}
-use Rattle.rules.proofs.WholeLaws.{Whole, names, later, each, slot-is}
+use Rattle.rules.proofs.WholeLaws.{Whole, names, each}
+use Rattle.rules.proofs.NextLaws.{later, slot-is}
 
 -- the slot that a row and a step are looked up by stands in the list
 pub record Looked (slots : List Slot) (row step : ℕ) : Type 0 where
@@ -35,7 +36,7 @@ pub record Looked (slots : List Slot) (row step : ℕ) : Type 0 where
   pub its-row : slotAt slots place .row ≡ row
   pub its-step : slotAt slots place .step ≡ step
 
-looked : (slots : List Slot) (i j : ℕ) → HasSlot slots i j → Looked slots (shown i) (shown j)
+pub looked : (slots : List Slot) (i j : ℕ) → HasSlot slots i j → Looked slots (shown i) (shown j)
 unfolding slotFor
 looked slots i j h =
     go
@@ -113,7 +114,7 @@ module _ (L : View) (slots : List Slot) (w : Whole L slots)
 
     before : found .place < k
     before =
-        later L slots w (found .place) k
+        later slots (λ h lh. w .fits h lh .next) (found .place) k
         (record { first = found .below; second = l; same = found .its-row ∙ sym (is .its-row) })
         (omega (arith, found .its-step))
 

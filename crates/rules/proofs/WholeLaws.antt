@@ -1,106 +1,34 @@
 -- A list of slots that fit one behind the other and are as many for each row as it has steps: each step stands there
 -- once, the steps of a row in order, and all rules of a schedule hold but the rows' deadlines.
-use Prim.Native.Nat.{ℕ, zero, suc, _+_, _≤_, _<_}
-use mathlib.Core.Bool.{Bool, true, false}
+use Prim.Native.Nat.{ℕ, suc, _+_, _≤_, _<_}
+use mathlib.Core.Bool.{true}
 use mathlib.Core.List.{List}
-use mathlib.Core.Path.{_≡_, refl, ap, sym, _∙_}
-use native.Mathlib.Decide.{ℕ-discrete, decLt}
+use mathlib.Core.Path.{_≡_, ap, sym, _∙_}
+use native.Mathlib.Decide.{decLt}
 use native.Mathlib.Omega.{arith}
 use lib.Dec.{eqb}
 use lib.ListN.{length}
-use borrow.Author.Tests.{eqb-true, eq-eqb}
-use Rattle.counting.specs.Sums.{sumTo, bit, countTo}
-use Rattle.counting.proofs.ChangeLaws.{sumTo-more, sumTo-more-term}
+use borrow.Author.Tests.{eqb-true}
 use Rattle.load.specs.Load.{shown}
 use Rattle.load.specs.View.{View, isFree, stepsInAll}
 use Rattle.load.specs.Acceptable.{windowOf as windowAt}
 use Rattle.rules.specs.declared.Slot.{Slot}
 use Rattle.rules.specs.Slots.{slotAt, rowOf, stepOf, slotEnd}
 use Rattle.rules.specs.ScheduleRules.{NamesStep, HasSlot, SameRow, windowOf, SlotRules}
-use Rattle.rules.proofs.SlotLaws.{AfterLower, ofRow, IsSlot, Fits}
+use Rattle.rules.proofs.NextLaws.{countTo-ranked, slot-is, ofRow-mono, EachNext, in-order, later, once}
+use Rattle.rules.proofs.SlotLaws.{AfterLower, ofRow, Fits}
 
 pub record Whole (L : View) (slots : List Slot) : Type 0 where
   pub fits : (k : ℕ) → k < length slots → Fits L slots k (slotAt slots k)
   pub count : (i : ℕ) → i < L .rows → ofRow slots (shown i) (length slots) ≡ L .steps i
   pub in-all : length slots ≡ stepsInAll L
 
--- the place below n at which the numbers that have p are j
-pub record Ranked (p : ℕ → Bool) (n j : ℕ) : Type 0 where
-  pub place : ℕ
-  pub below : place < n
-  pub has : p place ≡ true
-  pub rank : countTo p place ≡ j
-
-pub countTo-ranked : (p : ℕ → Bool) (n j : ℕ) → j < countTo p n → Ranked p n j
-unfolding sumTo
-countTo-ranked p zero j h = absurd (omega arith)
-countTo-ranked p (suc n) j h =
-    elim (decLt j (countTo p n)) [
-      | yes l ↦
-          (let r = countTo-ranked p n j l in
-          record { place = r .place; below = omega (arith, r .below); has = r .has; rank = r .rank })
-      | no l ↦ last (p n) refl h (omega arith)
-    ]
-  where
-    last : (b : Bool) → p n ≡ b → j < countTo p n + bit b → countTo p n ≤ j → Ranked p (suc n) j
-    last true e q l = record { place = n; below = omega arith; has = e; rank = omega arith }
-    last false e q l = absurd (omega arith)
-
--- a slot's own row and step
-pub slot-is : (L : View) (x : Slot) → NamesStep L x → IsSlot (rowOf x) (stepOf x) x
-slot-is L x e = record { its-row = omega (arith, e .row-from); its-step = omega (arith, e .step-from) }
-
-module _ (slots : List Slot) (row : ℕ) where
-  pub ofRow-mono : (k h : ℕ) → k ≤ h → ofRow slots row k ≤ ofRow slots row h
-  ofRow-mono k h l = sumTo-more (λ y. bit (eqb (slotAt slots y .row) row)) k h l
-
-  pub ofRow-lt : (k h : ℕ) → k < h → slotAt slots k .row ≡ row → ofRow slots row k < ofRow slots row h
-  ofRow-lt k h l e =
-      let one : bit (eqb (slotAt slots k .row) row) ≡ 1 = ap bit (eq-eqb (slotAt slots k .row) row e) in
-      omega (arith, sumTo-more-term (λ y. bit (eqb (slotAt slots y .row) row)) k h l)
-
 module _ (L : View) (slots : List Slot) (w : Whole L slots) where
   pub names : (k : ℕ) → k < length slots → NamesStep L (slotAt slots k)
   names k l = w .fits k l .names
 
-  -- the steps of a row stand in order, and once
-  pub in-order : (k h : ℕ) → SameRow slots k h → k < h → slotAt slots k .step < slotAt slots h .step
-  in-order k h r l =
-      omega (
-        arith,
-        w .fits k (r .first) .next,
-        w .fits h (r .second) .next,
-        ofRow-lt slots (slotAt slots k .row) k h l refl,
-        ap (λ row. ofRow slots row h) (r .same),
-      )
-
-  pub later : (k h : ℕ) → SameRow slots k h → slotAt slots k .step < slotAt slots h .step → k < h
-  later k h r l =
-      elim (decLt k h) [
-        | yes q ↦ q
-        | no q ↦ elim (ℕ-discrete k h) [
-          | yes e ↦ absurd (omega (arith, ap (λ y. slotAt slots y .step) e))
-          | no e ↦
-              absurd (omega (
-                arith,
-                in-order h k (record { first = r .second; second = r .first; same = sym (r .same) }) (omega arith),
-              ))
-        ]
-      ]
-
-  pub once : (k h : ℕ) → SameRow slots k h → slotAt slots k .step ≡ slotAt slots h .step → k ≡ h
-  once k h r e =
-      elim (ℕ-discrete k h) [
-        | yes q ↦ q
-        | no q ↦ elim (decLt k h) [
-          | yes l ↦ absurd (omega (arith, in-order k h r l))
-          | no l ↦
-              absurd (omega (
-                arith,
-                in-order h k (record { first = r .second; second = r .first; same = sym (r .same) }) (omega arith),
-              ))
-        ]
-      ]
+  next : EachNext slots
+  next k l = w .fits k l .next
 
   -- each step has its slot
   pub each : (i j : ℕ) → i < L .rows → j < L .steps i → HasSlot slots i j
@@ -128,7 +56,7 @@ module _ (L : View) (slots : List Slot) (w : Whole L slots) where
   waits k h r e =
       let mine = slot-is L (slotAt slots k) (names k (r .first)) in
       w .fits h (r .second) .wait k (rowOf (slotAt slots k)) (stepOf (slotAt slots k))
-      (later k h r (omega arith)) mine
+      (later slots next k h r (omega arith)) mine
       (record { its-row = sym (r .same) ∙ mine .its-row; its-step = omega (arith, mine .its-step) })
 
   -- a window is kept
@@ -142,7 +70,7 @@ module _ (L : View) (slots : List Slot) (w : Whole L slots) where
       let mine = slot-is L (slotAt slots k) (names k (r .first)) in
       let i = rowOf (slotAt slots k) in
       let li : i < L .rows = omega (arith, names k (r .first) .row-from, names k (r .first) .row-to) in
-      w .fits h (r .second) .window k i p (later k h r (omega (arith, long i p li lp))) li lp (mine .its-row)
+      w .fits h (r .second) .window k i p (later slots next k h r (omega (arith, long i p li lp))) li lp (mine .its-row)
       (sym (r .same) ∙ mine .its-row) first last
 
   -- a free step stands after all lower steps of all rows
@@ -177,8 +105,8 @@ module _ (L : View) (slots : List Slot) (w : Whole L slots) where
       record {
         only = names;
         each = each;
-        once = once;
-        in-order = in-order;
+        once = once slots next;
+        in-order = in-order slots next;
         no-overlap = λ k l. w .fits (suc k) l .after k (omega arith);
         phases = λ k l e.
             w .fits k l .phase (rowOf (slotAt slots k))
