@@ -35,6 +35,8 @@ pub mod RulesWhole
 pub mod RunMade
 pub mod SlotTests
 pub mod SlotsPass
+pub mod CheckWhole
+pub mod CheckLaws
 pub mod CutWindows
 pub mod CutGood
 pub mod CutPlan

@@ -84,7 +84,9 @@ module _ (L : View) (slots : List Slot) (rules : SlotRules L slots) where
       let li : rowOf (slotAt slots k) < L .rows = omega (arith, n .row-from, n .row-to) in
       is .its-step
       ∙ ap shown
-      (sym (ap (λ row. ofRow slots row k) (is .its-row) ∙ ofRow-step (stepOf (slotAt slots k)) (rowOf (slotAt slots k)) k li l is))
+      (sym
+      (ap (λ row. ofRow slots row k) (is .its-row)
+      ∙ ofRow-step (stepOf (slotAt slots k)) (rowOf (slotAt slots k)) k li l is))
 
   -- each row has as many slots as steps
   rules-count : (i : ℕ) → i < L .rows → ofRow slots (shown i) (length slots) ≡ L .steps i
