@@ -1,11 +1,13 @@
 // A load held in memory, by value. Identifiers and box numbers come from separate registers, so
 // each has a type of its own, and a row cannot be built with the two exchanged.
+mod chains;
 pub mod faults;
 pub mod parts;
 pub mod ranges;
 
 pub use faults::check_fields;
 pub use faults::check_step;
+pub use faults::check_window;
 pub use parts::row_at;
 pub use parts::step_at;
 pub use parts::window_at;

@@ -1,5 +1,4 @@
 -- `is_outside` says what the two tests of a range say.
-use borrow.Author.Needs.{needs}
 use borrow.Author.Tests.{lt-ltb, le-ltb}
 use Rattle.load.proofs.faults.is_outside.Statement.{statement}
 use Rattle.load.proofs.faults.is_outside.Tie as tie
