@@ -1,4 +1,5 @@
 -- Laws of finite sums, tests, lists, searches and sorting, over any length.
 pub mod SumLaws
 pub mod TestLaws
+pub mod FromLaws
 pub mod ListLaws

@@ -5,6 +5,7 @@ pub mod faults;
 pub mod parts;
 pub mod ranges;
 pub mod taken;
+mod zeros;
 
 pub use faults::check_fields;
 pub use faults::check_step;
