@@ -9,22 +9,17 @@ use lib.IntN.{pos, negsuc, _-ℤ_}
 use lib.ListN.{length}
 use borrow.Author.Tests.{not-true, ltb-false}
 use Rattle.counting.proofs.TestLaws.{allTo-true, true-false}
-use Rattle.refusals.specs.declared.Refusal.{Refusal}
 use Rattle.refusals.specs.declared.Checked.the-variants as found
 use Rattle.load.specs.declared.Load.{Load}
-use Rattle.load.specs.View.{View, viewOf, isFree}
+use Rattle.load.specs.View.{View, viewOf}
 use Rattle.load.specs.Check.{checkLoad}
 use Rattle.load.specs.Acceptable.{Acceptable}
 use Rattle.load.proofs.AcceptableLaws.{check-acceptable}
-use Rattle.rules.specs.declared.Outcome.the-variants.{Done, Refused}
-use Rattle.rules.specs.Bound.{bound}
 use Rattle.rules.specs.Margins.{rowBound, margin, isNegative, verdict}
-use Rattle.rules.specs.State.{fresh}
-use Rattle.rules.specs.Move.{move}
-use Rattle.rules.specs.Run.{stateAfter, starts, enoughMoves, schedule}
-use Rattle.rules.specs.Slots.{slotAt, rowOf, stepOf, slotEnd, lastEnd}
-use Rattle.rules.specs.Check.{checkSlots, checkSchedule}
-use Rattle.rules.specs.ScheduleRules.{SlotRules, ScheduleRules}
+use Rattle.rules.specs.Run.{schedule}
+use Rattle.rules.specs.Slots.{slotAt, rowOf, slotEnd}
+use Rattle.rules.specs.Check.{checkSchedule}
+use Rattle.rules.specs.Demand3.{Demand3}
 use Rattle.rules.proofs.TightBound.{tightBound, tightBound-le}
 use Rattle.rules.proofs.Good.{Good}
 use Rattle.rules.proofs.GoodLaws.{acceptable-good}
@@ -34,36 +29,8 @@ use Rattle.rules.proofs.RunEnd.{schedule-ends}
 use Rattle.rules.proofs.WholeLaws.{Whole, free-last, rules-hold}
 use Rattle.rules.proofs.NextLaws.{slot-is}
 use Rattle.rules.proofs.RunMade.{finished-all, schedule-is-whole, schedule-lower, last-ends}
-use Rattle.rules.proofs.SlotsPass.{GoodOrLate, check-late, check-good}
+use Rattle.rules.proofs.SlotsPass.{check-late, check-good}
 use Rattle.rules.proofs.CutRun.{row-in-bound}
-
-pub record Demand3 (L : View) : Type 0 where
-  -- the run ends with Done after so many moves, and the schedule is its starts, whatever moves follow
-  pub moves : ℕ
-  pub moves-few : moves < enoughMoves
-  pub done : move L (stateAfter L moves fresh) .outcome ≡ Done
-  pub all-starts : (n : ℕ) → moves ≤ n → schedule L ≡ starts L n fresh
-  -- no move of it is refused
-  pub answers : (n : ℕ) (refusal : Refusal) → move L (stateAfter L n fresh) .outcome ≡ Refused refusal → ⊥
-  -- and the clock is never past the bound
-  pub in-bound : (n : ℕ) → stateAfter L n fresh .clock ≤ bound L
-  -- the last step ends with the run, and so by the bound
-  pub last-end : (n : ℕ) → moves ≤ n → lastEnd L (schedule L) ≡ stateAfter L n fresh .clock
-  -- each step is scheduled once, and nothing else; phases, order, waits and windows are kept, and no two slots overlap
-  pub rules : SlotRules L (schedule L)
-  -- a free step starts when every row has finished all its steps of lower number
-  pub free-steps : (k h : ℕ) → k < length (schedule L) → h < length (schedule L)
-      → isFree L (rowOf (slotAt (schedule L) k)) (stepOf (slotAt (schedule L) k)) ≡ true
-      → slotAt (schedule L) h .step < slotAt (schedule L) k .step
-      → slotEnd L (slotAt (schedule L) h) ≤ slotAt (schedule L) k .start
-  -- each row's last step ends by its row bound
-  pub rows : (k : ℕ) → k < length (schedule L) → slotAt (schedule L) k .step ≡ L .steps (rowOf (slotAt (schedule L) k))
-      → slotEnd L (slotAt (schedule L) k) ≤ rowBound L (rowOf (slotAt (schedule L) k))
-  -- the check of the schedule meets nothing but a row that ends late
-  pub checked : GoodOrLate (checkSlots L (schedule L))
-  -- where no margin is negative, deadlines are kept, and the check says yes
-  pub deadlines : verdict L ≡ true → ScheduleRules L (schedule L)
-  pub passes : verdict L ≡ true → checkSlots L (schedule L) ≡ found.Good
 
 -- a margin that is not negative
 difference-le : (d b : ℕ) → isNegative (pos d -ℤ pos b) ≡ false → b ≤ d

@@ -18,12 +18,8 @@ use Rattle.rules.specs.declared.Slot.{Slot}
 use Rattle.rules.specs.Slots.{slotAt, rowOf, slotEnd}
 use Rattle.rules.specs.Check.{endsRowLate, slotTests, checkSlots}
 use Rattle.rules.proofs.WholeLaws.{Whole}
+use Rattle.rules.specs.Demand3.{GoodOrLate, good, late}
 use Rattle.rules.proofs.SlotTests.{slot-late}
-
--- Good, or 17
-pub data GoodOrLate (c : Checked) : Type 0 where
-  good : c ≡ Good → GoodOrLate c
-  late : c ≡ Refused RowLate → GoodOrLate c
 
 firstFaultTo-late : (f : ℕ → Checked) (n : ℕ) → ((k : ℕ) → k < n → GoodOrLate (f k)) → GoodOrLate (firstFaultTo f n)
 unfolding firstFaultTo
