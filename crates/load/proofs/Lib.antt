@@ -1,0 +1,2 @@
+-- Laws of a load's parts and of its check, and sameness of results.
+pub mod ChainLaws
