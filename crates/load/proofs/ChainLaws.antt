@@ -2,7 +2,7 @@
 use Prim.Native.Nat.{ℕ, _+_, _-_, _<_}
 use mathlib.Core.Path.{_≡_, ap}
 use native.Mathlib.Omega.{arith}
-use Rattle.counting.specs.Sums.{sumTo, sumFrom}
+use Rattle.counting.specs.Sums.{sumFrom}
 use Rattle.counting.proofs.SumLaws.{sumTo-add, sumTo-next}
 use Rattle.load.specs.View.{chain}
 

@@ -1,5 +1,5 @@
-// The chain of a window: all its costs, and the waits between them. A step past the last place counts
-// as zeros.
+// The chain of a window: all its costs, and the waits between them. Past the last place a step is
+// one of zeros.
 use crate::Row;
 use crate::Window;
 use crate::parts::step_at;
@@ -9,7 +9,7 @@ ghost use Rattle.counting.specs.Sums.{sumFrom};
 ghost use Rattle.load.specs.Load.{stepAt};
 ghost use Rattle.load.specs.Faults.{chainOf};
 
-// Adds the costs of the steps from place a on and below place b, each with the wait that follows it.
+// Adds the steps from place a on and below place b: their costs, and the wait that follows each.
 fn ticks_between(row: Row, a: usize, b: usize) -> u32
     requires { ⌜ (a ≤ b) × (b ≤ 255) ⌝ }
     ensures { λ r. ⌜ r ≡ sumFrom (λ j. stepAt row j .cost + stepAt row j .wait) a b ⌝ }

@@ -4,6 +4,7 @@ mod chains;
 pub mod faults;
 pub mod parts;
 pub mod ranges;
+pub mod taken;
 
 pub use faults::check_fields;
 pub use faults::check_step;
@@ -16,6 +17,8 @@ pub use parts::zero_row;
 pub use ranges::MOST_ROWS;
 pub use ranges::MOST_STEPS;
 pub use ranges::MOST_WINDOWS;
+pub use taken::box_taken;
+pub use taken::identifier_taken;
 
 // A logger's identifier, 1 to 4,294,967,295.
 pub struct Identifier(pub u32);
