@@ -3,5 +3,6 @@ pub mod Records
 pub mod Writing
 pub mod Places
 pub mod Reading
-pub mod ReadingSteps
+pub mod RoundTrip
 pub mod Calls
+pub mod ReadingSteps

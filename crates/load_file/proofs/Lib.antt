@@ -1,0 +1,11 @@
+-- Laws of load files: what stands at a place, lengths, and the two round trips.
+pub mod RecordLaws
+pub mod FieldLaws
+pub mod PlaceLaws
+pub mod CheckLaws
+pub mod ZeroLaws
+pub mod FaultLaws
+pub mod WrittenFile
+pub mod ReadFile
+pub mod ByteLaws
+pub mod RoundTrip
