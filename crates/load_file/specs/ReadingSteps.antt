@@ -1,27 +1,20 @@
 -- What the parts of the reading call give: definitions that only its code cites. To be read after
 -- Reading.
 use Prim.Native.Nat.{ℕ, _+_, _*_}
-use mathlib.Core.List.{List, _++_}
+use mathlib.Core.List.{List}
 use lib.ListN.{getD}
 use Rattle.counting.specs.Lists.{filled}
 use Rattle.words.specs.LittleEndian.{numberAt}
-use Rattle.refusals.specs.declared.Checked.{Checked}
-use Rattle.refusals.specs.FirstMet.{firstMet}
 use Rattle.load.specs.declared.Step.{Step}
 use Rattle.load.specs.declared.Window.{Window}
 use Rattle.load.specs.declared.Row.{Row}
 use Rattle.load.specs.Load.{mostSteps, mostWindows, noStep, noWindow}
 use Rattle.load_file.specs.Records.{Kind, stepKind, windowKind}
 use Rattle.load_file.specs.Places.{stepIn, windowIn, stepsSaid, windowsSaid}
-use Rattle.load_file.specs.Reading.{dueTests}
 
 -- the kind of record with a mark and a size
 abbrev pub kindOf : List ℕ → ℕ → Kind
 kindOf mark size = record { mark₁ = getD mark 0 0; mark₂ = getD mark 1 0; size = size }
-
--- what a record that is due at a place is refused for
-unfoldable pub dueFault : List ℕ → ℕ → List ℕ → ℕ → Checked
-dueFault mark size bs at = firstMet (dueTests (kindOf mark size) bs at)
 
 -- n step records from a place on, and zeros in the places behind them
 abbrev pub stepsFrom : List ℕ → ℕ → ℕ → List Step

@@ -1,6 +1,8 @@
 // The load file: what a reading gives. The reading and writing calls come with their proofs.
 mod marks;
-mod reading_parts;
+mod read;
+mod read_parts;
+mod read_row;
 
 use load::Load;
 use refusals::Checked;

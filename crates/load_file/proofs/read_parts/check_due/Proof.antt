@@ -1,22 +1,18 @@
 -- `check_due` asks in order whether the file holds the record and whether each byte of its mark is the kind's.
 use borrow.Author.Needs.{needs}
 use borrow.Author.Tests.{lt-ltb, le-ltb, eq-eqb, ne-eqb}
-use Rattle.load_file.specs.ReadingSteps.{dueFault}
-use Rattle.load_file.proofs.reading_parts.check_due.Statement.{statement}
-use Rattle.load_file.proofs.reading_parts.check_due.Tie as tie
+use Rattle.load_file.proofs.read_parts.check_due.Statement.{statement}
+use Rattle.load_file.proofs.read_parts.check_due.Tie as tie
 
 short : tie.Need-returns
-unfolding dueFault
 short c = rw (lt-ltb _ _ (c .if1 .taken))
 
 first-differs : tie.Need-returns-2
-unfolding dueFault
 first-differs c =
     let at1 = c .before .before in
     simp (le-ltb _ _ (at1 .if1 .left), ← c .before .byte-at .ensures, ne-eqb _ _ (c .if2 .taken))
 
 second-differs : tie.Need-returns-3
-unfolding dueFault
 second-differs c =
     let at2 = c .before .before in
     let at1 = at2 .before .before in
@@ -29,7 +25,6 @@ second-differs c =
     )
 
 good : tie.Need-returns-4
-unfolding dueFault
 good c =
     let at2 = c .before .before in
     let at1 = at2 .before .before in

@@ -1,7 +1,7 @@
 -- `step_in` reads the two numbers of the record.
 use borrow.Author.Needs.{needs}
-use Rattle.load_file.proofs.reading_parts.step_in.Statement.{statement}
-use Rattle.load_file.proofs.reading_parts.step_in.Tie as tie
+use Rattle.load_file.proofs.read_parts.step_in.Statement.{statement}
+use Rattle.load_file.proofs.read_parts.step_in.Tie as tie
 
 is-step : tie.Need-returns
 is-step c = rw (c .number16-at2 .ensures, c .before .number16-at .ensures)

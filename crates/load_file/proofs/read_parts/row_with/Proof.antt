@@ -1,8 +1,8 @@
 -- `row_with` reads the six fields of the row's own record.
 use borrow.Author.Needs.{needs}
 use Rattle.load_file.specs.ReadingSteps.{rowWith}
-use Rattle.load_file.proofs.reading_parts.row_with.Statement.{statement}
-use Rattle.load_file.proofs.reading_parts.row_with.Tie as tie
+use Rattle.load_file.proofs.read_parts.row_with.Statement.{statement}
+use Rattle.load_file.proofs.read_parts.row_with.Tie as tie
 
 is-row : tie.Need-returns
 unfolding rowWith

@@ -1,15 +1,14 @@
 -- `steps_from` stores one step a turn: before turn j the first j places hold the steps of the file, the others zeros.
 use Prim.Native.Nat.{_+_, _*_, _-_, _≤_, _<_}
-use mathlib.Core.Path.{_≡_, sym, _∙_, ap, ap₂}
+use mathlib.Core.Path.{_≡_, sym, _∙_, ap}
 use native.Mathlib.Omega.{arith}
-use lib.ListN.{set}
 use borrow.Author.Needs.{needs}
-use Rattle.counting.proofs.ListLaws.{filled-none, filled-length, set-filled}
+use Rattle.counting.proofs.ListLaws.{filled-none, set-next}
 use Rattle.load.specs.Load.{mostSteps, noStep}
 use Rattle.load_file.specs.Places.{stepIn}
 use Rattle.load_file.specs.ReadingSteps.{stepsFrom}
-use Rattle.load_file.proofs.reading_parts.steps_from.Statement.{statement}
-use Rattle.load_file.proofs.reading_parts.steps_from.Tie as tie
+use Rattle.load_file.proofs.read_parts.steps_from.Statement.{statement}
+use Rattle.load_file.proofs.read_parts.steps_from.Tie as tie
 
 abbrev Inv-loop : tie.InvT-loop
 Inv-loop bytes from count steps₀ j₀ steps j = (j ≤ count) × (steps ≡ stepsFrom bytes from j)
@@ -22,9 +21,6 @@ starts c =
     let start = c .before .args in
     (search needs, sym (filled-none (λ j. stepIn (start .bytes .now) (start .from + 6 * j)) mostSteps noStep))
 
-stored : tie.Need-array-set-from-steps Inv-loop μ-loop
-stored c = ?
-
 goes-on : tie.Need-loop-again Inv-loop μ-loop
 goes-on c =
     let at = c .before .before in
@@ -33,8 +29,8 @@ goes-on c =
     let l : j < mostSteps = omega arith in
     (
       search needs,
-      ap₂ (λ list part. set list j part) (at .loop .inv .1) (c .step-in .ensures)
-      ∙ set-filled (λ j. stepIn (start .bytes .now) (start .from + 6 * j)) j mostSteps noStep l,
+      set-next (λ j. stepIn (start .bytes .now) (start .from + 6 * j)) j mostSteps noStep _ _ l (at .loop .inv .1)
+      (c .step-in .ensures),
     )
 
 ends : tie.Need-returns Inv-loop μ-loop
@@ -54,7 +50,7 @@ steps-from-spec =
     (λ c. search needs)
     (λ c κs. search needs)
     (λ c. search needs)
-    stored
+    (λ c. omega arith)
     (λ c. search needs)
     (λ c. search needs)
     goes-on

@@ -16,13 +16,15 @@ use words::number16_at;
 use words::number32_at;
 ghost use mathlib.Core.Path.{_≡_};
 ghost use Prim.Native.Nat.{_+_, _≤_};
+ghost use Rattle.refusals.specs.FirstMet.{firstMet};
 ghost use Rattle.load_file.specs.Places.{stepIn, windowIn, rowFrom, stepsSaid, windowsSaid};
-ghost use Rattle.load_file.specs.ReadingSteps.{dueFault, stepsFrom, windowsFrom, rowWith};
+ghost use Rattle.load_file.specs.Reading.{dueTests};
+ghost use Rattle.load_file.specs.ReadingSteps.{kindOf, stepsFrom, windowsFrom, rowWith};
 
 // Checks a record that is due at a place: that the file holds it whole, and then its mark.
 pub fn check_due(bytes: &[u8], at: usize, mark: [u8; 2], size: usize) -> Checked
-    requires { ⌜ (at ≤ 4096) × (size ≤ 20) ⌝ }
-    ensures { λ r. ⌜ r ≡ dueFault mark size (now (bytes .entry)) at ⌝ }
+    requires { ⌜ (at ≤ 8192) × (size ≤ 20) ⌝ }
+    ensures { λ r. ⌜ r ≡ firstMet (dueTests (kindOf mark size) (now (bytes .entry)) at) ⌝ }
 {
     if bytes.len() < at + size {
         return Checked::Refused(Refusal::FileShort);
@@ -38,7 +40,7 @@ pub fn check_due(bytes: &[u8], at: usize, mark: [u8; 2], size: usize) -> Checked
 
 // Gives the step that the record at a place spells.
 fn step_in(bytes: &[u8], at: usize) -> Step
-    requires { ⌜ at ≤ 4096 ⌝ }
+    requires { ⌜ at ≤ 8192 ⌝ }
     ensures { λ r. ⌜ r ≡ stepIn (now (bytes .entry)) at ⌝ }
 {
     Step {
@@ -49,7 +51,7 @@ fn step_in(bytes: &[u8], at: usize) -> Step
 
 // Gives the steps of so many records from a place on, and zeros in the places behind them.
 fn steps_from(bytes: &[u8], from: usize, count: usize) -> [Step; MOST_STEPS]
-    requires { ⌜ (from ≤ 4000) × (count ≤ 8) ⌝ }
+    requires { ⌜ (from ≤ 8000) × (count ≤ 8) ⌝ }
     ensures { λ r. ⌜ r ≡ stepsFrom (now (bytes .entry)) from count ⌝ }
 {
     let mut steps = [Step { cost: 0, wait: 0 }; MOST_STEPS];
@@ -61,7 +63,7 @@ fn steps_from(bytes: &[u8], from: usize, count: usize) -> [Step; MOST_STEPS]
 
 // Gives the window that the record at a place spells.
 fn window_in(bytes: &[u8], at: usize) -> Window
-    requires { ⌜ at ≤ 4096 ⌝ }
+    requires { ⌜ at ≤ 8192 ⌝ }
     ensures { λ r. ⌜ r ≡ windowIn (now (bytes .entry)) at ⌝ }
 {
     Window {
@@ -73,7 +75,7 @@ fn window_in(bytes: &[u8], at: usize) -> Window
 
 // Gives the windows of so many records from a place on, and zeros in the places behind them.
 fn windows_from(bytes: &[u8], from: usize, count: usize) -> [Window; MOST_WINDOWS]
-    requires { ⌜ (from ≤ 4000) × (count ≤ 4) ⌝ }
+    requires { ⌜ (from ≤ 8000) × (count ≤ 4) ⌝ }
     ensures { λ r. ⌜ r ≡ windowsFrom (now (bytes .entry)) from count ⌝ }
 {
     let mut windows = [Window {
@@ -94,7 +96,7 @@ pub fn row_with(
     step: [Step; MOST_STEPS],
     window: [Window; MOST_WINDOWS],
 ) -> Row
-    requires { ⌜ at ≤ 4096 ⌝ }
+    requires { ⌜ at ≤ 8192 ⌝ }
     ensures { λ r. ⌜ r ≡ rowWith (now (bytes .entry)) at step window ⌝ }
 {
     Row {

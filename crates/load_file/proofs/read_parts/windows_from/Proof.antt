@@ -1,15 +1,14 @@
 -- `windows_from` stores one window a turn: before turn k the first k places hold the windows of the file, the others zeros.
 use Prim.Native.Nat.{_+_, _*_, _-_, _≤_, _<_}
-use mathlib.Core.Path.{_≡_, sym, _∙_, ap, ap₂}
+use mathlib.Core.Path.{_≡_, sym, _∙_, ap}
 use native.Mathlib.Omega.{arith}
-use lib.ListN.{set}
 use borrow.Author.Needs.{needs}
-use Rattle.counting.proofs.ListLaws.{filled-none, filled-length, set-filled}
+use Rattle.counting.proofs.ListLaws.{filled-none, set-next}
 use Rattle.load.specs.Load.{mostWindows, noWindow}
 use Rattle.load_file.specs.Places.{windowIn}
 use Rattle.load_file.specs.ReadingSteps.{windowsFrom}
-use Rattle.load_file.proofs.reading_parts.windows_from.Statement.{statement}
-use Rattle.load_file.proofs.reading_parts.windows_from.Tie as tie
+use Rattle.load_file.proofs.read_parts.windows_from.Statement.{statement}
+use Rattle.load_file.proofs.read_parts.windows_from.Tie as tie
 
 abbrev Inv-loop : tie.InvT-loop
 Inv-loop bytes from count windows₀ k₀ windows k = (k ≤ count) × (windows ≡ windowsFrom bytes from k)
@@ -22,9 +21,6 @@ starts c =
     let start = c .before .args in
     (search needs, sym (filled-none (λ k. windowIn (start .bytes .now) (start .from + 6 * k)) mostWindows noWindow))
 
-stored : tie.Need-array-set-from-windows Inv-loop μ-loop
-stored c = ?
-
 goes-on : tie.Need-loop-again Inv-loop μ-loop
 goes-on c =
     let at = c .before .before in
@@ -33,8 +29,8 @@ goes-on c =
     let l : k < mostWindows = omega arith in
     (
       search needs,
-      ap₂ (λ list part. set list k part) (at .loop .inv .1) (c .window-in .ensures)
-      ∙ set-filled (λ k. windowIn (start .bytes .now) (start .from + 6 * k)) k mostWindows noWindow l,
+      set-next (λ k. windowIn (start .bytes .now) (start .from + 6 * k)) k mostWindows noWindow _ _ l (at .loop .inv .1)
+      (c .window-in .ensures),
     )
 
 ends : tie.Need-returns Inv-loop μ-loop
@@ -54,7 +50,7 @@ windows-from-spec =
     (λ c. search needs)
     (λ c κs. search needs)
     (λ c. search needs)
-    stored
+    (λ c. omega arith)
     (λ c. search needs)
     (λ c. search needs)
     goes-on

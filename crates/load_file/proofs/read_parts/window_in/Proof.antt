@@ -1,7 +1,7 @@
 -- `window_in` reads the two bytes and the number of the record.
 use borrow.Author.Needs.{needs}
-use Rattle.load_file.proofs.reading_parts.window_in.Statement.{statement}
-use Rattle.load_file.proofs.reading_parts.window_in.Tie as tie
+use Rattle.load_file.proofs.read_parts.window_in.Statement.{statement}
+use Rattle.load_file.proofs.read_parts.window_in.Tie as tie
 
 is-window : tie.Need-returns
 is-window c =
