@@ -1,5 +1,6 @@
 // The parts of a load file, as they are read: whether a record that is due stands at a place, and
 // what it spells. A byte past the end reads as 0.
+use crate::marks::ROW_SIZE;
 use crate::marks::STEP_SIZE;
 use crate::marks::WINDOW_SIZE;
 use load::BoxNumber;
@@ -17,6 +18,7 @@ use words::number32_at;
 ghost use mathlib.Core.Path.{_≡_};
 ghost use Prim.Native.Nat.{_+_, _≤_};
 ghost use Rattle.refusals.specs.FirstMet.{firstMet};
+ghost use Rattle.load.specs.Load.{zeroRow};
 ghost use Rattle.load_file.specs.Places.{stepIn, windowIn, rowFrom, stepsSaid, windowsSaid};
 ghost use Rattle.load_file.specs.Reading.{dueTests};
 ghost use Rattle.load_file.specs.ReadingSteps.{kindOf, stepsFrom, windowsFrom, rowWith};
@@ -90,7 +92,7 @@ fn windows_from(bytes: &[u8], from: usize, count: usize) -> [Window; MOST_WINDOW
 }
 
 // Gives the row whose own record stands at a place, with these steps and windows.
-pub fn row_with(
+fn row_with(
     bytes: &[u8],
     at: usize,
     step: [Step; MOST_STEPS],
@@ -109,4 +111,34 @@ pub fn row_with(
         step,
         window,
     }
+}
+
+// Gives the row whose own record stands at a place, with steps and windows of zeros.
+pub fn fields_from(bytes: &[u8], at: usize) -> Row
+    requires { ⌜ at ≤ 8000 ⌝ }
+    ensures { λ r. ⌜ r ≡ rowWith (now (bytes .entry)) at (zeroRow .step) (zeroRow .window) ⌝ }
+{
+    let zeros = load::zero_row();
+    let step = zeros.step;
+    let window = zeros.window;
+    row_with(bytes, at, step, window)
+}
+
+// Gives the row whose record stands at a place, with its steps and windows, of which the record
+// announces no more than a row has.
+pub fn row_from(bytes: &[u8], at: usize) -> Row
+    requires { ⌜ at ≤ 7000 ⌝ }
+    requires { ⌜ (stepsSaid (now bytes) at ≤ 8) × (windowsSaid (now bytes) at ≤ 4) ⌝ }
+    ensures { λ r. ⌜ r ≡ rowFrom (now (bytes .entry)) at ⌝ }
+{
+    let steps = byte_at(bytes, at + 18) as usize;
+    let windows = byte_at(bytes, at + 19) as usize;
+    let from = at + ROW_SIZE;
+    let behind = from + STEP_SIZE * steps;
+    row_with(
+        bytes,
+        at,
+        steps_from(bytes, from, steps),
+        windows_from(bytes, behind, windows),
+    )
 }
