@@ -5,8 +5,12 @@ use crate::marks::END_MARK;
 use crate::marks::END_SIZE;
 use crate::marks::HEADER_MARK;
 use crate::marks::HEADER_SIZE;
+use crate::marks::ROW_SIZE;
+use crate::marks::STEP_SIZE;
 use crate::marks::VERSION;
+use crate::marks::WINDOW_SIZE;
 use crate::read_parts::check_due;
+use crate::read_row::read_row;
 use load::BoxNumber;
 use load::Identifier;
 use load::Load;
@@ -17,11 +21,15 @@ use refusals::Refusal;
 use words::byte_at;
 use words::number16_at;
 ghost use mathlib.Core.Path.{_≡_};
-ghost use Prim.Native.Nat.{_+_, _≤_};
+ghost use Prim.Native.Nat.{_+_, _*_, _≤_};
+ghost use Rattle.refusals.specs.declared.Checked.the-variants.{Refused};
 ghost use Rattle.refusals.specs.FirstMet.{firstMet};
+ghost use Rattle.load.specs.Load.{zeroLoad};
 ghost use Rattle.load.specs.View.{viewOf, stepsInAll};
-ghost use Rattle.load_file.specs.Places.{loadIn};
+ghost use Rattle.load_file.specs.Places.{rowsSaid, loadIn};
 ghost use Rattle.load_file.specs.Reading.{headerTests, endTests};
+ghost use Rattle.load_file.specs.Calls.{ReadLoad};
+ghost use Rattle.load_file.specs.ReadingSteps.{readRows};
 
 // Checks the header: 1, 2 for its mark and its version, 3 for its row count.
 fn check_header(bytes: &[u8]) -> Checked
@@ -58,4 +66,69 @@ fn check_end(bytes: &[u8], at: usize, steps: u16) -> Checked
         return Checked::Refused(Refusal::EndDiffers);
     }
     Checked::Good
+}
+
+// Gives what a refused reading gives.
+fn no_load(refusal: Refusal) -> Reading
+    ensures { λ r. ⌜ r ≡ record { answer = Refused refusal; load = zeroLoad } ⌝ }
+{
+    Reading {
+        answer: Checked::Refused(refusal),
+        load: load::zero_load(),
+    }
+}
+
+// Gives the place behind a row whose own record stands at a place.
+fn place_behind(at: usize, row: Row) -> usize
+    requires { ⌜ at ≤ 4096 ⌝ }
+    ensures { λ r. ⌜ r ≡ at + 20 + 6 * row .steps + 6 * row .windows ⌝ }
+{
+    at + ROW_SIZE + STEP_SIZE * row.steps as usize + WINDOW_SIZE * row.windows as usize
+}
+
+// Reads the rows behind the header, of which it announces at most 24, and then the end record:
+// gives the first refusal that is met and the all-zero load, or Good and the load.
+fn read_rows(bytes: &[u8], rows: u8) -> Reading
+    requires { ⌜ (rows ≡ rowsSaid (now bytes)) × (rows ≤ 24) ⌝ }
+    ensures { λ r. ⌜ r ≡ readRows (now (bytes .entry)) ⌝ }
+{
+    let mut identifiers = [Identifier(0); MOST_ROWS];
+    let mut boxes = [BoxNumber(0); MOST_ROWS];
+    let zeros = load::zero_row();
+    let mut read = [zeros; MOST_ROWS];
+    let mut at = HEADER_SIZE;
+    let mut steps: u16 = 0;
+    let count = rows as usize;
+    for i in 0..count {
+        let reading = read_row(bytes, at, identifiers, boxes, i);
+        let answer = reading.answer;
+        match answer {
+            Checked::Good => {}
+            Checked::Refused(refusal) => return no_load(refusal),
+        }
+        let row = reading.row;
+        identifiers[i] = row.identifier;
+        boxes[i] = row.box_number;
+        read[i] = row;
+        steps += row.steps as u16;
+        at = place_behind(at, row);
+    }
+    match check_end(bytes, at, steps) {
+        Checked::Good => Reading {
+            answer: Checked::Good,
+            load: Load { rows, row: read },
+        },
+        Checked::Refused(refusal) => no_load(refusal),
+    }
+}
+
+// Reads a load file: gives the first refusal that is met, 1 to 8, and the all-zero load, or Good
+// and the load.
+pub fn read_load(bytes: &[u8]) -> Reading
+    ensures { λ r. ⌜ ReadLoad (now (bytes .entry)) r ⌝ }
+{
+    match check_header(bytes) {
+        Checked::Good => read_rows(bytes, byte_at(bytes, 3)),
+        Checked::Refused(refusal) => no_load(refusal),
+    }
 }

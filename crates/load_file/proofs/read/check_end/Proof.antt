@@ -1,61 +1,95 @@
+-- `check_end` asks the count of steps, and whether bytes follow, behind the tests of its record.
+use Prim.Native.Nat.{ℕ, _+_}
+use mathlib.Core.Bool.{Bool, not}
+use mathlib.Core.List.{List, [], _∷_}
+use mathlib.Core.Path.{_≡_}
+use lib.Dec.{eqb, ltb}
+use lib.ListN.{length}
 use borrow.Author.Needs.{needs}
+use borrow.Author.Tests.{lt-ltb, le-ltb, eq-eqb, ne-eqb}
+use Rattle.words.specs.LittleEndian.{numberAt}
+use Rattle.refusals.specs.declared.Refusal.{Refusal}
+use Rattle.refusals.specs.declared.Refusal.the-variants.{EndDiffers}
+use Rattle.refusals.specs.FirstMet.{firstMet}
+use Rattle.load.specs.View.{viewOf, stepsInAll}
+use Rattle.load_file.specs.Records.{endKind}
+use Rattle.load_file.specs.Places.{loadIn}
+use Rattle.load_file.specs.Reading.{dueTests, endTests}
+use Rattle.load_file.proofs.ReadingLaws.{behind-refused, behind-good}
 use Rattle.load_file.proofs.read.check_end.Statement.{statement}
 use Rattle.load_file.proofs.read.check_end.Tie as tie
-use Rattle.load_file.proofs.read.check_end.Reads as reads
-use Rattle.load_file.proofs.read.check_end.Lts as lts
-use Rattle.load_file.proofs.read_parts.check_due.Reads as check-due-reads
-use Rattle.words.proofs.number16_at.Reads as number16-at-reads
 
--- src/read.rt:50:11
-check-due-requires : tie.Need-check-due-requires
-check-due-requires c κs = search needs
+-- the end record's own tests
+abbrev own : List ℕ → ℕ → List (Bool × Refusal)
+own bs at =
+    (not (eqb (numberAt 2 bs (at + 2)) (stepsInAll (viewOf (loadIn bs)))), EndDiffers)
+    ∷ (ltb (at + endKind .size) (length bs), EndDiffers)
+    ∷ []
 
-enum-told : tie.Need-enum-told
-enum-told c = search needs
+refused : tie.Need-returns
+unfolding endTests
+refused c =
+    let due = c .before .before .before in
+    let start = due .before .before .args in
+    let bs = start .bytes .now in
+    behind-refused (dueTests endKind bs (start .at)) (own bs (start .at)) (due .check-due .ensures)
+    (c .before .refusal .given .1)
 
--- src/read.rt:52:26
-enum-known-refusal : tie.Need-enum-known-refusal
-enum-known-refusal c = search needs
+-- behind a record that is there and has its mark, its own tests are left
+passed : (c : tie.After-enum-told)
+    → let start = c .before .before .before .before .args in
+    let bs = start .bytes .now in
+    firstMet (own bs (start .at)) ≡ firstMet (endTests bs (start .at))
+unfolding endTests
+passed c =
+    let due = c .before .before in
+    let start = due .before .before .args in
+    let bs = start .bytes .now in
+    behind-good (dueTests endKind bs (start .at)) (own bs (start .at)) (due .check-due .ensures) (c .enum-told .given .1)
 
--- src/read.rt:52:38
-returns : tie.Need-returns
-returns c = ?
+miscounted : tie.Need-returns-2
+miscounted c =
+    let told = c .before .before in
+    let start = told .before .before .before .before in
+    simp (← c .before .number16-at .ensures, ← start .pre .1, ne-eqb _ _ (c .if1 .taken)) at (passed told)
 
--- src/read.rt:54:27
-add-number16-at : tie.Need-add-number16-at
-add-number16-at c = search needs
+longer : tie.Need-returns-3
+longer c =
+    let at1 = c .before in
+    let told = at1 .before .before in
+    let start = told .before .before .before .before in
+    simp (
+      ← at1 .before .number16-at .ensures,
+      ← start .pre .1,
+      eq-eqb _ _ (at1 .if1 .left),
+      lt-ltb _ _ (c .if2 .taken),
+    ) at
+    (passed told)
 
--- src/read.rt:54:8
-number16-at-requires : tie.Need-number16-at-requires
-number16-at-requires c κs = search needs
-
--- src/read.rt:55:9
-returns-2 : tie.Need-returns-2
-returns-2 c = ?
-
--- src/read.rt:57:8
-add-if2 : tie.Need-add-if2
-add-if2 c = search needs
-
--- src/read.rt:58:9
-returns-3 : tie.Need-returns-3
-returns-3 c = ?
-
--- src/read.rt:45:1
-returns-4 : tie.Need-returns-4
-returns-4 c = ?
+good : tie.Need-returns-4
+good c =
+    let at1 = c .before in
+    let told = at1 .before .before in
+    let start = told .before .before .before .before in
+    simp (
+      ← at1 .before .number16-at .ensures,
+      ← start .pre .1,
+      eq-eqb _ _ (at1 .if1 .left),
+      le-ltb _ _ (c .if2 .left),
+    ) at
+    (passed told)
 
 pub check-end-spec : {M : Type 1} → statement M
 check-end-spec =
     tie.close
     (tie.spec
-    check-due-requires
-    enum-told
-    enum-known-refusal
-    returns
-    add-number16-at
-    number16-at-requires
-    returns-2
-    add-if2
-    returns-3
-    returns-4)
+    (λ c κs. search needs)
+    (λ c. search needs)
+    (λ c. search needs)
+    refused
+    (λ c. search needs)
+    (λ c κs. search needs)
+    miscounted
+    (λ c. search needs)
+    longer
+    good)
