@@ -107,8 +107,10 @@ fn read_rows(bytes: &[u8], rows: u8) -> Reading
             Checked::Refused(refusal) => return no_load(refusal),
         }
         let row = reading.row;
-        identifiers[i] = row.identifier;
-        boxes[i] = row.box_number;
+        let identifier = row.identifier;
+        identifiers[i] = identifier;
+        let box_number = row.box_number;
+        boxes[i] = box_number;
         read[i] = row;
         steps += row.steps as u16;
         at = place_behind(at, row);
