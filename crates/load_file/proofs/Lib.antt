@@ -11,3 +11,4 @@ pub mod ByteLaws
 pub mod RoundTrip
 pub mod ReadingLaws
 pub mod ReadingRowsLaws
+pub mod ReadCallLaws

@@ -15,13 +15,8 @@ use Rattle.refusals.specs.declared.Refusal.{Refusal}
 use Rattle.refusals.specs.declared.Checked.{Checked}
 use Rattle.refusals.specs.declared.Checked.the-variants.{Good, Refused}
 use Rattle.refusals.specs.FirstMet.{firstMet, andThen, firstFaultTo}
-use Rattle.refusals.proofs.FirstMetLaws.{
-  andThen-good-first,
-  andThen-good-second,
-  firstMet-append,
-  firstMet-append-refused,
-  firstMet-append-good,
-}
+use Rattle.refusals.proofs.FirstMetLaws.{firstMet-append-refused, firstMet-append-good}
+use Rattle.refusals.proofs.UnmetLaws.{append-good-first, append-good-second}
 use Rattle.load.specs.declared.Identifier.{Identifier}
 use Rattle.load.specs.declared.BoxNumber.{BoxNumber}
 use Rattle.load.specs.declared.Step.{Step}
@@ -117,10 +112,7 @@ module _ (bs : List ℕ) (at : ℕ) where
         let front = dueTests rowKind bs at in
         let fields = rowTests (rowFrom bs at) in
         let taken = takenTests (loadIn bs) i (rowFrom bs at) in
-        andThen-good-second (firstMet front) (firstMet fields)
-        (sym (firstMet-append front fields)
-        ∙ andThen-good-first (firstMet (front ++ fields)) (firstMet taken)
-        (sym (firstMet-append (front ++ fields) taken) ∙ h))
+        append-good-second front fields (append-good-first (front ++ fields) taken h)
 
     pub own-steps-le : ownFault bs i at ≡ Good → stepsSaid bs at ≤ mostSteps
     unfolding rowFrom

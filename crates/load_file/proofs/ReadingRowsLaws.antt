@@ -6,6 +6,7 @@ use mathlib.Core.Path.{_≡_, refl, sym, ap, ap₂, _∙_}
 use native.Mathlib.Numerals.{add-one}
 use native.Mathlib.Omega.{arith}
 use lib.ListN.{set, replicate}
+use borrow.Author.Tests.{ltb-false}
 use Rattle.counting.specs.Sums.{sumTo}
 use Rattle.counting.specs.Lists.{filled}
 use Rattle.counting.proofs.SumLaws.{sumTo-zero, sumTo-next}
@@ -21,13 +22,14 @@ use Rattle.refusals.proofs.FirstMetLaws.{
   firstFaultTo-next,
   firstFaultTo-refused,
 }
+use Rattle.refusals.proofs.UnmetLaws.{good-unmet}
 use Rattle.load.specs.declared.Identifier.{Identifier}
 use Rattle.load.specs.declared.BoxNumber.{BoxNumber}
 use Rattle.load.specs.declared.Row.{Row}
 use Rattle.load.specs.Load.{mostRows, zeroRow, zeroLoad}
 use Rattle.load_file.specs.declared.read_row.RowReading.{RowReading}
 use Rattle.load_file.specs.Places.{stepsSaid, windowsSaid, rowFrom, rowPlace, placeBehind, rowsSaid, loadIn}
-use Rattle.load_file.specs.Reading.{rowFaultAt, endTests}
+use Rattle.load_file.specs.Reading.{headerTests, rowFaultAt, endTests, fileFault, readLoad}
 use Rattle.load_file.specs.ReadingSteps.{RowsBefore, ownFault, readRow, rowsFault, readRows}
 use Rattle.load_file.proofs.ReadingLaws.{rowFaultAt-parts, own-steps-le, own-windows-le}
 
@@ -190,3 +192,22 @@ module _ (bs : List ℕ) where
         ap (λ at. firstMet (endTests bs at)) (sym place) ∙ e in
         let w : rowsFault bs ≡ Good = rowsFault-parts ∙ rw (h, z) in
         rw w
+
+  fileFault-parts : fileFault bs ≡ andThen (firstMet (headerTests bs)) (rowsFault bs)
+  unfolding fileFault rowsFault
+  fileFault-parts = refl
+
+  -- the header is refused, or is not
+  pub readLoad-header : (r : Refusal) → firstMet (headerTests bs) ≡ Refused r
+      → record { answer = Refused r; load = zeroLoad } ≡ readLoad bs
+  unfolding readLoad
+  readLoad-header r e = let h : fileFault bs ≡ Refused r = fileFault-parts ∙ rw e in rw h
+
+  module _ (e : firstMet (headerTests bs) ≡ Good) where
+    pub readLoad-rows : readRows bs ≡ readLoad bs
+    unfolding readLoad readRows
+    readLoad-rows = let h : fileFault bs ≡ rowsFault bs = fileFault-parts ∙ rw e in rw h
+
+    pub header-rows-le : rowsSaid bs ≤ mostRows
+    unfolding headerTests
+    header-rows-le = ltb-false mostRows (rowsSaid bs) (good-unmet (headerTests bs) e .1 .1 .1 .1 .0)

@@ -1,54 +1,39 @@
+-- `read_load` finds the faults of the header, and behind a Good header, which announces at most 24 rows, those of the
+-- rows and of the end record.
+use mathlib.Core.Path.{_≡_, sym, _∙_}
 use borrow.Author.Needs.{needs}
+use Rattle.refusals.specs.declared.Checked.the-variants.{Good}
+use Rattle.refusals.specs.FirstMet.{firstMet}
+use Rattle.load_file.specs.Reading.{headerTests}
+use Rattle.load_file.proofs.ReadingRowsLaws.{readLoad-header, readLoad-rows, header-rows-le}
 use Rattle.load_file.proofs.read.read_load.Statement.{statement}
 use Rattle.load_file.proofs.read.read_load.Tie as tie
-use Rattle.load_file.proofs.read.read_load.Reads as reads
-use Rattle.load_file.proofs.read.read_load.Lts as lts
-use Rattle.load_file.proofs.read.check_header.Reads as check-header-reads
-use Rattle.load_file.proofs.read.no_load.Reads as no-load-reads
-use Rattle.load_file.proofs.read.read_rows.Reads as read-rows-reads
-use Rattle.words.proofs.byte_at.Reads as byte-at-reads
 
--- src/read.rt:132:11
-check-header-requires : tie.Need-check-header-requires
-check-header-requires c κs = search needs
+header-good : (c : tie.After-enum-told)
+    → firstMet (headerTests (c .before .before .before .before .args .bytes .now)) ≡ Good
+header-good c = sym (c .before .before .check-header .ensures) ∙ c .enum-told .given .1
 
--- src/read.rt:133:43
-enum-told : tie.Need-enum-told
-enum-told c = search needs
+few : tie.Need-read-rows-requires
+few c κs = (c .byte-at .ensures, rw (c .byte-at .ensures) (header-rows-le _ (header-good (c .before))))
 
--- src/read.rt:133:43
-byte-at-requires : tie.Need-byte-at-requires
-byte-at-requires c κs = search needs
+rows : tie.Need-returns
+rows c = c .read-rows .ensures ∙ readLoad-rows _ (header-good (c .before .before))
 
--- src/read.rt:133:26
-read-rows-requires : tie.Need-read-rows-requires
-read-rows-requires c κs = search needs
-
--- src/read.rt:134:26
-enum-known-refusal : tie.Need-enum-known-refusal
-enum-known-refusal c = search needs
-
--- src/read.rt:134:38
-no-load-requires : tie.Need-no-load-requires
-no-load-requires c κs = search needs
-
--- src/read.rt:129:1
-returns : tie.Need-returns
-returns c = search needs
-
--- src/read.rt:129:1
-returns-2 : tie.Need-returns-2
-returns-2 c = search needs
+refused : tie.Need-returns-2
+refused c =
+    let told = c .before .before in
+    c .no-load .ensures
+    ∙ readLoad-header _ _ (sym (told .before .before .check-header .ensures) ∙ told .refusal .given .1)
 
 pub read-load-spec : {M : Type 1} → statement M
 read-load-spec =
     tie.close
     (tie.spec
-    check-header-requires
-    enum-told
-    byte-at-requires
-    read-rows-requires
-    enum-known-refusal
-    no-load-requires
-    returns
-    returns-2)
+    (λ c κs. search needs)
+    (λ c. search needs)
+    (λ c κs. search needs)
+    few
+    (λ c. search needs)
+    (λ c κs. search needs)
+    rows
+    refused)
