@@ -2,3 +2,4 @@
 pub mod SumLaws
 pub mod TestLaws
 pub mod ListLaws
+pub mod PieceLaws

@@ -3,4 +3,5 @@ pub mod Records
 pub mod Writing
 pub mod Places
 pub mod Reading
+pub mod RoundTrip
 pub mod Calls
