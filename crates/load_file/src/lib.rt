@@ -1,4 +1,7 @@
 // The load file: what a reading gives. The reading and writing calls come with their proofs.
+mod records;
+mod writing;
+
 use load::Load;
 use refusals::Checked;
 
