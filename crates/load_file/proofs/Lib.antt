@@ -2,3 +2,10 @@
 pub mod RecordLaws
 pub mod FieldLaws
 pub mod PlaceLaws
+pub mod CheckLaws
+pub mod ZeroLaws
+pub mod FaultLaws
+pub mod WrittenFile
+pub mod ReadFile
+pub mod ByteLaws
+pub mod RoundTrip
