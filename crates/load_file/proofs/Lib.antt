@@ -9,3 +9,4 @@ pub mod WrittenFile
 pub mod ReadFile
 pub mod ByteLaws
 pub mod RoundTrip
+pub mod WritingLaws

@@ -8,15 +8,19 @@ use crate::records::WINDOW_SIZE;
 use crate::records::row_record;
 use crate::records::step_record;
 use crate::records::window_record;
+use load::Load;
 use load::Row;
+use refusals::Checked;
 ghost use mathlib.Core.Path.{_≡_};
 ghost use Prim.Native.Nat.{_+_, _*_, _≤_};
 ghost use lib.ListN.{length};
 ghost use lib.Seq.{sets};
 ghost use Rattle.counting.specs.Lists.{joinTo};
-ghost use Rattle.load.specs.Load.{mostSteps, mostWindows, stepAt, windowAt};
+ghost use Rattle.load.specs.Load.{mostSteps, mostWindows, rowAt, stepAt, windowAt};
+ghost use Rattle.load.specs.View.{viewOf, stepsInAll};
+ghost use Rattle.load.specs.Check.{checkLoad};
 ghost use Rattle.load_file.specs.Records.{stepRecord, windowRecord};
-ghost use Rattle.load_file.specs.Writing.{rowBytes};
+ghost use Rattle.load_file.specs.Writing.{rowBytes, loadBytes};
 
 // Writes the records of a row's steps from a place on.
 fn write_steps(out: &mut [u8], at: usize, row: Row)
@@ -40,4 +44,64 @@ fn write_windows(out: &mut [u8], at: usize, row: Row)
         let record = window_record(row.window[k]);
         words::overwrite(out, at + WINDOW_SIZE * k, &record);
     }
+}
+
+// Writes a row with its steps and then its windows from a place on.
+fn write_row(out: &mut [u8], at: usize, row: Row)
+    requires { ⌜ (at ≤ 2216) × (row .steps ≤ mostSteps) × (row .windows ≤ mostWindows) ⌝ }
+    ensures { λ _. ⌜ now (out .exit) ≡ sets (now (out .entry)) at (rowBytes row) ⌝ }
+{
+    let record = row_record(row);
+    words::overwrite(out, at, &record);
+    let steps_at = at + ROW_SIZE;
+    write_steps(out, steps_at, row);
+    write_windows(out, steps_at + STEP_SIZE * row.steps as usize, row);
+}
+
+// Gives how many bytes a row has with its steps and its windows.
+fn row_size(row: Row) -> usize
+    ensures { λ r. ⌜ r ≡ length (rowBytes row) ⌝ }
+{
+    ROW_SIZE + STEP_SIZE * row.steps as usize + WINDOW_SIZE * row.windows as usize
+}
+
+// Gives how many bytes the file of a load has.
+fn file_size(load: Load) -> usize
+    requires { ⌜ checkLoad load ≡ Checked.Good ⌝ }
+    ensures { λ r. ⌜ r ≡ length (loadBytes load) ⌝ }
+{
+    let mut size = HEADER_SIZE + END_SIZE;
+    for i in 0..load.rows as usize {
+        size += row_size(load.row[i]);
+    }
+    size
+}
+
+// Gives how many steps a load has.
+fn steps_in(load: Load) -> u16
+    requires { ⌜ checkLoad load ≡ Checked.Good ⌝ }
+    ensures { λ r. ⌜ r ≡ stepsInAll (viewOf load) ⌝ }
+{
+    let mut steps: u16 = 0;
+    for i in 0..load.rows as usize {
+        let row = load.row[i];
+        steps += row.steps as u16;
+    }
+    steps
+}
+
+// Writes the rows of a load behind the header, and gives the place behind them.
+fn write_rows(out: &mut [u8], load: Load) -> usize
+    requires { ⌜ checkLoad load ≡ Checked.Good ⌝ }
+    ensures { λ r. ⌜ r ≡ 4 + length (joinTo (λ i. rowBytes (rowAt load i)) (load .rows)) ⌝ }
+    ensures { λ r. ⌜ now (out .exit)
+        ≡ sets (now (out .entry)) 4 (joinTo (λ i. rowBytes (rowAt load i)) (load .rows)) ⌝ }
+{
+    let mut at = HEADER_SIZE;
+    for i in 0..load.rows as usize {
+        let row = load.row[i];
+        write_row(out, at, row);
+        at += row_size(row);
+    }
+    at
 }

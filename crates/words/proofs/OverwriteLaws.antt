@@ -39,6 +39,13 @@ module _ {A : Type 0} where
       → sets (sets out at xs) next ys ≡ sets out at (xs ++ ys)
   sets-behind out at next xs ys e = ap (λ n. sets (sets out at xs) n ys) e ∙ sets-append out at xs ys
 
+  -- the same, of the outputs as they are after each piece
+  pub sets-more : (out so-far after : List A) (at next : ℕ) (xs ys : List A)
+      → next ≡ at + length xs → so-far ≡ sets out at xs → after ≡ sets so-far next ys
+      → after ≡ sets out at (xs ++ ys)
+  sets-more out so-far after at next xs ys e p q =
+      q ∙ ap (λ l. sets l next ys) p ∙ sets-behind out at next xs ys e
+
   -- from the front on
   pub sets-front : (out xs : List A) → length xs ≤ length out → sets out 0 xs ≡ xs ++ drop (length xs) out
   sets-front out xs h = let e : 0 + length xs ≡ length xs = omega arith in rw e at (sets-eq xs out 0 (omega arith))
@@ -52,10 +59,7 @@ module _ {A : Type 0} where
       → next ≡ at + length (joinTo f n) → so-far ≡ sets out at (joinTo f n) → after ≡ sets so-far next (f n)
       → after ≡ sets out at (joinTo f (n + 1))
   sets-joined-next f out so-far after at next n e p q =
-      q
-      ∙ ap (λ l. sets l next (f n)) p
-      ∙ sets-behind out at next (joinTo f n) (f n) e
-      ∙ ap (sets out at) (sym (joinTo-next f n))
+      sets-more out so-far after at next (joinTo f n) (f n) e p q ∙ ap (sets out at) (sym (joinTo-next f n))
 
   -- the same, of pieces of one length, where the next was made beforehand
   pub sets-same-next : (f : ℕ → List A) (size : ℕ) → ((i : ℕ) → length (f i) ≡ size)
