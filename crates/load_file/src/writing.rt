@@ -5,6 +5,8 @@ use crate::records::HEADER_SIZE;
 use crate::records::ROW_SIZE;
 use crate::records::STEP_SIZE;
 use crate::records::WINDOW_SIZE;
+use crate::records::end_record;
+use crate::records::header_record;
 use crate::records::row_record;
 use crate::records::step_record;
 use crate::records::window_record;
@@ -12,14 +14,14 @@ use load::Load;
 use load::Row;
 use refusals::Checked;
 ghost use mathlib.Core.Path.{_≡_};
-ghost use Prim.Native.Nat.{_+_, _*_, _≤_};
+ghost use Prim.Native.Nat.{_+_, _≤_};
 ghost use lib.ListN.{length};
 ghost use lib.Seq.{sets};
 ghost use Rattle.counting.specs.Lists.{joinTo};
 ghost use Rattle.load.specs.Load.{mostSteps, mostWindows, rowAt, stepAt, windowAt};
 ghost use Rattle.load.specs.View.{viewOf, stepsInAll};
 ghost use Rattle.load.specs.Check.{checkLoad};
-ghost use Rattle.load_file.specs.Records.{stepRecord, windowRecord};
+ghost use Rattle.load_file.specs.Records.{headerKind, stepRecord, windowRecord};
 ghost use Rattle.load_file.specs.Writing.{rowBytes, loadBytes};
 
 // Writes the records of a row's steps from a place on.
@@ -93,9 +95,9 @@ fn steps_in(load: Load) -> u16
 // Writes the rows of a load behind the header, and gives the place behind them.
 fn write_rows(out: &mut [u8], load: Load) -> usize
     requires { ⌜ checkLoad load ≡ Checked.Good ⌝ }
-    ensures { λ r. ⌜ r ≡ 4 + length (joinTo (λ i. rowBytes (rowAt load i)) (load .rows)) ⌝ }
+    ensures { λ r. ⌜ r ≡ headerKind .size + length (joinTo (λ i. rowBytes (rowAt load i)) (load .rows)) ⌝ }
     ensures { λ r. ⌜ now (out .exit)
-        ≡ sets (now (out .entry)) 4 (joinTo (λ i. rowBytes (rowAt load i)) (load .rows)) ⌝ }
+        ≡ sets (now (out .entry)) (headerKind .size) (joinTo (λ i. rowBytes (rowAt load i)) (load .rows)) ⌝ }
 {
     let mut at = HEADER_SIZE;
     for i in 0..load.rows as usize {
@@ -104,4 +106,16 @@ fn write_rows(out: &mut [u8], load: Load) -> usize
         at += row_size(row);
     }
     at
+}
+
+// Writes the file of a load at the output's front.
+fn write_file(out: &mut [u8], load: Load)
+    requires { ⌜ checkLoad load ≡ Checked.Good ⌝ }
+    ensures { λ _. ⌜ now (out .exit) ≡ sets (now (out .entry)) 0 (loadBytes load) ⌝ }
+{
+    let header = header_record(load.rows);
+    words::overwrite(out, 0, &header);
+    let at = write_rows(out, load);
+    let end = end_record(steps_in(load));
+    words::overwrite(out, at, &end);
 }
