@@ -2,5 +2,6 @@
 pub mod SumLaws
 pub mod TestLaws
 pub mod RangeLaws
+pub mod FromLaws
 pub mod ListLaws
 pub mod PieceLaws
