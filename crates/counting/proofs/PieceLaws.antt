@@ -101,8 +101,17 @@ module _ {A : Type 0} where
       ∙ ap (λ r. piece ++ r) (drop-of-length-le list {i = 0 + length piece} (omega arith))
       ∙ append-nil piece
 
-  -- pieces one behind the other: a place for each, and each place behind the piece before it. That a place is behind
-  -- may rest on what stands there.
+  -- pieces one behind the other: a place for each, and each place behind the piece before it
+  pub joined-place : (f : ℕ → List A) (place : ℕ → ℕ) (n : ℕ)
+      → ((i : ℕ) → i < n → place (suc i) ≡ place i + length (f i))
+      → place n ≡ place 0 + length (joinTo f n)
+  unfolding joinTo
+  joined-place f place zero behind = omega arith
+  joined-place f place (suc n) behind =
+      let before : place n ≡ place 0 + length (joinTo f n) = joined-place f place n (λ i l. behind i (omega arith)) in
+      rw length-append (omega (arith, behind n (omega arith)))
+
+  -- that a place is behind may rest on what stands there
   module _ (f : ℕ → List A) (place : ℕ → ℕ) (list : List A) where
     pub record Joined (n : ℕ) : Type 0 where
       pub place-is : place n ≡ place 0 + length (joinTo f n)
@@ -124,20 +133,13 @@ module _ {A : Type 0} where
               λ i l. elim (ℕ-discrete i n) [ yes e ↦ rw e last | no e ↦ before .each i (omega arith) ];
         }
 
-    pub joined-place : (n : ℕ) → ((i : ℕ) → i < n → place (suc i) ≡ place i + length (f i))
-        → place n ≡ place 0 + length (joinTo f n)
-    unfolding joinTo
-    joined-place zero behind = omega arith
-    joined-place (suc n) behind =
-        let before : place n ≡ place 0 + length (joinTo f n) = joined-place n (λ i l. behind i (omega arith)) in
-        rw length-append (omega (arith, behind n (omega arith)))
-
     pub joined-stands : (n : ℕ) → ((i : ℕ) → i < n → place (suc i) ≡ place i + length (f i))
         → ((i : ℕ) → i < n → Stands (f i) list (place i)) → Stands (joinTo f n) list (place 0)
     unfolding joinTo
     joined-stands zero behind each = nothing-stands list (place 0)
     joined-stands (suc n) behind each =
-        append-stands (joinTo f n) (f n) list (place 0) (place n) (joined-place n (λ i l. behind i (omega arith)))
+        append-stands (joinTo f n) (f n) list (place 0) (place n)
+        (joined-place f place n (λ i l. behind i (omega arith)))
         (joined-stands n (λ i l. behind i (omega arith)) (λ i l. each i (omega arith)))
         (each n (omega arith))
 

@@ -65,20 +65,18 @@ joined f (suc n) h = then (joined f n (λ i l. h i (omega arith))) (h n (omega a
 module _ (row : Row) (held : HeldRow row) where
   own-piece : Piece (rowRecord row)
   own-piece =
-      let registers = then (number 4 (row .identifier .0)) (number 4 (row .«box_number» .0)) in
       two-then (omega arith) (omega arith)
-      (then (then (then registers (number 4 (row .phase))) (number 4 (row .deadline)))
-      (two-then (held .steps-fit) (held .windows-fit) none))
+      (then (then (then (then (number _ _) (number _ _)) (number _ _)) (number _ _))
+      (two-then (omega (arith, held .steps-fit)) (omega (arith, held .windows-fit)) none))
 
   step-piece : (j : ℕ) → Piece (stepRecord (stepAt row j))
-  step-piece j =
-      two-then (omega arith) (omega arith) (then (number 2 (stepAt row j .cost)) (number 2 (stepAt row j .wait)))
+  step-piece j = two-then (omega arith) (omega arith) (then (number _ _) (number _ _))
 
   window-piece : (k : ℕ) → k < mostWindows → Piece (windowRecord (windowAt row k))
   window-piece k l =
       let w = held .each-window k l in
       two-then (omega arith) (omega arith)
-      (two-then (w .first-fits) (w .last-fits) (number 2 (windowAt row k .limit)))
+      (two-then (omega (arith, w .first-fits)) (omega (arith, w .last-fits)) (number _ _))
 
   row-piece : row .windows ≤ mostWindows → Piece (rowBytes row)
   unfolding rowBytes
@@ -91,10 +89,11 @@ module _ (row : Row) (held : HeldRow row) where
 pub loadBytes-bytes : (load : Load) → Held load → LoadGood load → Bytes (loadBytes load)
 unfolding loadBytes
 loadBytes-bytes load held good =
+    let fits : load .rows < 256 = held .rows-fit in
     let header : Piece (headerRecord (load .rows)) =
-    two-then (omega arith) (omega arith) (two-then (omega arith) (held .rows-fit) none) in
+    two-then (omega arith) (omega arith) (two-then (omega (arith, fits)) (omega (arith, fits)) none) in
     let end : Piece (endRecord (stepsInAll (viewOf load))) =
-    two-then (omega arith) (omega arith) (number 2 (stepsInAll (viewOf load))) in
+    two-then (omega arith) (omega arith) (number _ _) in
     let row : (i : ℕ) → i < load .rows → Piece (rowBytes (rowAt load i)) =
     λ i l.
     row-piece (rowAt load i) (held .each-row i (omega (arith, good .few-rows)))

@@ -1,43 +1,23 @@
 -- What the check of a load in memory asks, part by part: its finding is Good exactly when each part's is, and an
 -- unused place is the zero part.
 use Prim.Native.Nat.{ℕ, _≤_, _<_}
-use mathlib.Core.Bool.{Bool, true, false, not, _&&_}
-use mathlib.Core.List.{List, [], _∷_}
-use mathlib.Core.Path.{_≡_, refl, ap, sym, _∙_}
-use native.Mathlib.Omega.{arith}
-use lib.Dec.{eqb, ltb}
-use borrow.Author.Tests.{ltb-false, le-ltb, eqb-true, not-false}
-use Rattle.counting.specs.Sums.{allFrom, allTo}
-use Rattle.counting.proofs.TestLaws.{and-left, and-right, and-both, or-right}
-use Rattle.counting.proofs.RangeLaws.{allFrom-true}
-use Rattle.counting.proofs.ListLaws.{filled-none}
-use Rattle.counting.proofs.PieceLaws.{filled-is}
+use mathlib.Core.Bool.{Bool, true, not}
+use mathlib.Core.List.{[], _∷_}
+use mathlib.Core.Path.{_≡_, ap}
+use lib.Dec.{ltb}
+use borrow.Author.Tests.{ltb-false, le-ltb, not-false}
+use Rattle.counting.specs.Sums.{allFrom}
+use Rattle.counting.proofs.TestLaws.{or-right}
 use Rattle.refusals.specs.declared.Refusal.the-variants.{OutOfRange}
 use Rattle.refusals.specs.declared.Checked.the-variants.{Good}
-use Rattle.refusals.specs.FirstMet.{firstMet, firstFaultTo}
 use Rattle.refusals.proofs.FirstMetLaws.{firstFaultTo-good, good-firstFaultTo}
 use Rattle.refusals.proofs.UnmetLaws.{good-unmet, unmet-good, good-allGood, allGood-good}
-use Rattle.load.specs.declared.Step.{Step}
-use Rattle.load.specs.declared.Window.{Window}
 use Rattle.load.specs.declared.Row.{Row}
 use Rattle.load.specs.declared.Load.{Load}
-use Rattle.load.specs.Load.{
-  mostRows,
-  mostSteps,
-  mostWindows,
-  noStep,
-  noWindow,
-  zeroRow,
-  rowAt,
-  stepAt,
-  windowAt,
-}
+use Rattle.load.specs.Load.{mostRows, mostSteps, mostWindows, rowAt}
 use Rattle.load.specs.Faults.{rowTests}
 use Rattle.load.specs.Check.{
   allZero,
-  isZeroStep,
-  isZeroWindow,
-  zeroFields,
   zeroStepsFrom,
   zeroWindowsFrom,
   isZeroRow,
@@ -48,7 +28,6 @@ use Rattle.load.specs.Check.{
   rowFault,
   checkLoad,
 }
-use Rattle.load_file.specs.RoundTrip.{HeldRow}
 
 allZero-good : (b : Bool) → allZero b ≡ Good → b ≡ true
 allZero-good b h = not-false b (good-unmet ((not b, OutOfRange) ∷ []) h .0)
@@ -82,13 +61,12 @@ module _ (load : Load) (i : ℕ) (row : Row) where
   pub good-rowFault : RowGood load i row → rowFault load i row ≡ Good
   unfolding rowFault
   good-rowFault r =
+      let steps = good-firstFaultTo (checkStep row) (row .steps) (r .each-step-good) in
+      let no-steps = good-allZero (zeroStepsFrom row (row .steps)) (r .steps-zero) in
+      let windows = good-firstFaultTo (checkWindow row) (row .windows) (r .each-window-good) in
+      let no-windows = good-allZero (zeroWindowsFrom row (row .windows)) (r .windows-zero) in
       allGood-good (_ ∷ _ ∷ _ ∷ _ ∷ _ ∷ _ ∷ [])
-      (r .fields-good,
-      (r .taken-good,
-      (good-firstFaultTo (checkStep row) (row .steps) (r .each-step-good),
-      (good-allZero (zeroStepsFrom row (row .steps)) (r .steps-zero),
-      (good-firstFaultTo (checkWindow row) (row .windows) (r .each-window-good),
-      (good-allZero (zeroWindowsFrom row (row .windows)) (r .windows-zero), tt))))))
+      (r .fields-good, (r .taken-good, (steps, (no-steps, (windows, (no-windows, tt))))))
 
 -- what the check asks of a load
 pub record LoadGood (load : Load) : Type 0 where
@@ -103,7 +81,8 @@ module _ (load : Load) where
       let g = good-allGood (_ ∷ _ ∷ _ ∷ []) h in
       let zeros : Bool = allFrom (λ i. isZeroRow (rowAt load i)) (load .rows) mostRows in
       record {
-        few-rows = ltb-false mostRows (load .rows) (good-unmet ((ltb mostRows (load .rows), OutOfRange) ∷ []) (g .0) .0);
+        few-rows =
+            ltb-false mostRows (load .rows) (good-unmet ((ltb mostRows (load .rows), OutOfRange) ∷ []) (g .0) .0);
         each-row-good =
             λ i l.
             rowFault-good load i (rowAt load i)
@@ -114,12 +93,14 @@ module _ (load : Load) where
   pub good-checkLoad : LoadGood load → checkLoad load ≡ Good
   unfolding checkLoad
   good-checkLoad g =
-      let zeros : Bool = allFrom (λ i. isZeroRow (rowAt load i)) (load .rows) mostRows in
-      allGood-good (_ ∷ _ ∷ _ ∷ [])
-      (unmet-good ((ltb mostRows (load .rows), OutOfRange) ∷ []) (le-ltb mostRows (load .rows) (g .few-rows), tt),
-      (good-firstFaultTo (λ i. rowFault load i (rowAt load i)) (load .rows)
-      (λ i l. good-rowFault load i (rowAt load i) (g .each-row-good i l)),
-      (good-allZero zeros (g .rows-zero), tt)))
+      let few = le-ltb mostRows (load .rows) (g .few-rows) in
+      let count = unmet-good ((ltb mostRows (load .rows), OutOfRange) ∷ []) (few, tt) in
+      let rows =
+      good-firstFaultTo (λ i. rowFault load i (rowAt load i)) (load .rows)
+      (λ i l. good-rowFault load i (rowAt load i) (g .each-row-good i l)) in
+      let no-rows =
+      good-allZero (allFrom (λ i. isZeroRow (rowAt load i)) (load .rows) mostRows) (g .rows-zero) in
+      allGood-good (_ ∷ _ ∷ _ ∷ []) (count, (rows, (no-rows, tt)))
 
 -- a row's own fields: so many steps and windows have places
 module _ (row : Row) (h : checkFields row ≡ Good) where

@@ -1,17 +1,12 @@
 -- What the reading of a file asks, part by part: its finding is Good exactly when each record is due where it stands
 -- and passes the tests that the check in memory has.
 use Prim.Native.Nat.{ℕ, _+_, _≤_, _<_}
-use mathlib.Core.Bool.{Bool, not}
 use mathlib.Core.List.{List, [], _∷_, _++_}
-use mathlib.Core.Path.{_≡_, ap}
-use lib.Dec.{eqb, ltb}
+use mathlib.Core.Path.{_≡_}
 use lib.ListN.{length}
-use borrow.Author.Tests.{ltb-false, le-ltb, eqb-true, eq-eqb, not-false}
+use borrow.Author.Tests.{ltb-false, le-ltb}
 use Rattle.words.specs.LittleEndian.{byteAt, numberAt}
-use Rattle.refusals.specs.declared.Refusal.{Refusal}
-use Rattle.refusals.specs.declared.Refusal.the-variants.{MarkDiffers, OutOfRange, EndDiffers}
 use Rattle.refusals.specs.declared.Checked.the-variants.{Good}
-use Rattle.refusals.specs.FirstMet.{firstMet}
 use Rattle.refusals.proofs.FirstMetLaws.{firstFaultTo-good, good-firstFaultTo}
 use Rattle.refusals.proofs.UnmetLaws.{
   good-unmet,
@@ -46,7 +41,15 @@ use Rattle.load_file.specs.Reading.{
   endTests,
   fileFault,
 }
-use Rattle.load_file.proofs.RecordLaws.{Due, good-due, due-good}
+use Rattle.load_file.proofs.RecordLaws.{
+  differs-false,
+  eq-differs,
+  Due,
+  unmet-due,
+  due-unmet,
+  good-due,
+  due-good,
+}
 
 -- what the reading asks of row i, whose record stands at a place
 pub record RowAccepted (bs : List ℕ) (i at : ℕ) : Type 0 where
@@ -91,18 +94,21 @@ module _ (bs : List ℕ) (i at : ℕ) where
   unfolding rowFaultAt stepFaultIn windowFaultIn
   good-rowFaultAt r =
       let row = rowFrom bs at in
-      allGood-good (_ ∷ _ ∷ _ ∷ [])
-      (append-good-both (dueTests rowKind bs at ++ rowTests row) (takenTests (loadIn bs) i row)
-      (append-good-both (dueTests rowKind bs at) (rowTests row) (due-good rowKind bs at (r .due)) (r .fields-good))
-      (r .taken-good),
-      (good-firstFaultTo (stepFaultIn bs at) (stepsSaid bs at)
+      let fields =
+      append-good-both (dueTests rowKind bs at) (rowTests row) (due-good rowKind bs at (r .due)) (r .fields-good) in
+      let own =
+      append-good-both (dueTests rowKind bs at ++ rowTests row) (takenTests (loadIn bs) i row) fields (r .taken-good) in
+      let steps =
+      good-firstFaultTo (stepFaultIn bs at) (stepsSaid bs at)
       (λ j l.
       append-good-both (dueTests stepKind bs (stepPlace at j)) (stepTests row j)
-      (due-good stepKind bs (stepPlace at j) (r .each-step-due j l)) (r .each-step-good j l)),
-      (good-firstFaultTo (windowFaultIn bs at) (windowsSaid bs at)
+      (due-good stepKind bs (stepPlace at j) (r .each-step-due j l)) (r .each-step-good j l)) in
+      let windows =
+      good-firstFaultTo (windowFaultIn bs at) (windowsSaid bs at)
       (λ k l.
       append-good-both (dueTests windowKind bs (windowPlace bs at k)) (windowTests row k)
-      (due-good windowKind bs (windowPlace bs at k) (r .each-window-due k l)) (r .each-window-good k l)), tt)))
+      (due-good windowKind bs (windowPlace bs at k) (r .each-window-due k l)) (r .each-window-good k l)) in
+      allGood-good (_ ∷ _ ∷ _ ∷ []) (own, (steps, (windows, tt)))
 
 -- where the end record stands
 abbrev pub endPlace : List ℕ → ℕ
@@ -118,51 +124,41 @@ pub record FileAccepted (bs : List ℕ) : Type 0 where
   pub count-is : numberAt 2 bs (endPlace bs + 2) ≡ stepsInAll (viewOf (loadIn bs))
   pub no-more : length bs ≤ endPlace bs + 4
 
--- the tests of the header, and of the end record, that come behind those of its kind
-abbrev headerOwn : List ℕ → List (Bool × Refusal)
-headerOwn bs = (not (eqb (byteAt bs 2) version), MarkDiffers) ∷ (ltb mostRows (rowsSaid bs), OutOfRange) ∷ []
-
-abbrev endOwn : List ℕ → List (Bool × Refusal)
-endOwn bs =
-    (not (eqb (numberAt 2 bs (endPlace bs + 2)) (stepsInAll (viewOf (loadIn bs)))), EndDiffers)
-    ∷ (ltb (endPlace bs + 4) (length bs), EndDiffers)
-    ∷ []
-
 module _ (bs : List ℕ) where
   pub fileFault-good : fileFault bs ≡ Good → FileAccepted bs
   unfolding fileFault headerTests endTests
   fileFault-good h =
       let g = good-allGood (_ ∷ _ ∷ _ ∷ []) h in
-      let head-due = append-good-first (dueTests headerKind bs 0) (headerOwn bs) (g .0) in
-      let head = good-unmet (headerOwn bs) (append-good-second (dueTests headerKind bs 0) (headerOwn bs) (g .0)) in
+      let head = good-unmet (headerTests bs) (g .0) in
       let row = firstFaultTo-good (λ i. rowFaultAt bs i (rowPlace bs i)) (rowsSaid bs) (g .1 .0) in
-      let due : List (Bool × Refusal) = dueTests endKind bs (endPlace bs) in
-      let tail-due = append-good-first due (endOwn bs) (g .1 .1 .0) in
-      let tail = good-unmet (endOwn bs) (append-good-second due (endOwn bs) (g .1 .1 .0)) in
+      let tail = good-unmet (endTests bs (endPlace bs)) (g .1 .1 .0) in
       let said : ℕ = numberAt 2 bs (endPlace bs + 2) in
       let count : ℕ = stepsInAll (viewOf (loadIn bs)) in
       record {
-        header-due = good-due headerKind bs 0 head-due;
-        version-is = eqb-true (byteAt bs 2) version (not-false (eqb (byteAt bs 2) version) (head .0));
-        few-rows = ltb-false mostRows (rowsSaid bs) (head .1 .0);
+        header-due = unmet-due headerKind bs 0 (head .0, (head .1 .0, (head .1 .1 .0, tt)));
+        version-is = differs-false (byteAt bs 2) version (head .1 .1 .1 .0);
+        few-rows = ltb-false mostRows (rowsSaid bs) (head .1 .1 .1 .1 .0);
         each-row = λ i l. rowFaultAt-good bs i (rowPlace bs i) (row i l);
-        end-due = good-due endKind bs (endPlace bs) tail-due;
-        count-is = eqb-true said count (not-false (eqb said count) (tail .0));
-        no-more = ltb-false (endPlace bs + 4) (length bs) (tail .1 .0);
+        end-due = unmet-due endKind bs (endPlace bs) (tail .0, (tail .1 .0, (tail .1 .1 .0, tt)));
+        count-is = differs-false said count (tail .1 .1 .1 .0);
+        no-more = ltb-false (endPlace bs + 4) (length bs) (tail .1 .1 .1 .1 .0);
       }
 
   pub good-fileFault : FileAccepted bs → fileFault bs ≡ Good
   unfolding fileFault headerTests endTests
   good-fileFault f =
       let said : ℕ = numberAt 2 bs (endPlace bs + 2) in
-      let count : ℕ = stepsInAll (viewOf (loadIn bs)) in
-      allGood-good (_ ∷ _ ∷ _ ∷ [])
-      (append-good-both (dueTests headerKind bs 0) (headerOwn bs) (due-good headerKind bs 0 (f .header-due))
-      (unmet-good (headerOwn bs)
-      (ap not (eq-eqb (byteAt bs 2) version (f .version-is)), (le-ltb mostRows (rowsSaid bs) (f .few-rows), tt))),
-      (good-firstFaultTo (λ i. rowFaultAt bs i (rowPlace bs i)) (rowsSaid bs)
-      (λ i l. good-rowFaultAt bs i (rowPlace bs i) (f .each-row i l)),
-      (append-good-both (dueTests endKind bs (endPlace bs)) (endOwn bs)
-      (due-good endKind bs (endPlace bs) (f .end-due))
-      (unmet-good (endOwn bs)
-      (ap not (eq-eqb said count (f .count-is)), (le-ltb (endPlace bs + 4) (length bs) (f .no-more), tt))), tt)))
+      let head = due-unmet headerKind bs 0 (f .header-due) in
+      let same-version = eq-differs (byteAt bs 2) version (f .version-is) in
+      let few = le-ltb mostRows (rowsSaid bs) (f .few-rows) in
+      let header =
+      unmet-good (headerTests bs) (head .0, (head .1 .0, (head .1 .1 .0, (same-version, (few, tt))))) in
+      let rows =
+      good-firstFaultTo (λ i. rowFaultAt bs i (rowPlace bs i)) (rowsSaid bs)
+      (λ i l. good-rowFaultAt bs i (rowPlace bs i) (f .each-row i l)) in
+      let tail = due-unmet endKind bs (endPlace bs) (f .end-due) in
+      let same-count = eq-differs said (stepsInAll (viewOf (loadIn bs))) (f .count-is) in
+      let no-more = le-ltb (endPlace bs + 4) (length bs) (f .no-more) in
+      let end =
+      unmet-good (endTests bs (endPlace bs)) (tail .0, (tail .1 .0, (tail .1 .1 .0, (same-count, (no-more, tt))))) in
+      allGood-good (_ ∷ _ ∷ _ ∷ []) (header, (rows, (end, tt)))

@@ -1,8 +1,8 @@
 -- The five records of a load file, both ways: the fields that are read where a record stands are the record's, and
 -- the record of the fields that are read stands where they are read.
 use Prim.Native.Nat.{ℕ, _+_, _^_, _≤_, _<_}
-use mathlib.Core.List.{List, [], _∷_, _++_, append-assoc, append-nil}
-use mathlib.Core.Path.{_≡_, refl, sym}
+use mathlib.Core.List.{List, [], _∷_, _++_, append-assoc}
+use mathlib.Core.Path.{_≡_, refl}
 use native.Mathlib.Omega.{arith}
 use lib.ListN.{length, length-append}
 use Rattle.counting.proofs.PieceLaws.{Stands, nothing-stands, cons-stands, stands-head, stands-tail}
@@ -64,7 +64,7 @@ module _ (bs : List ℕ) (at : ℕ) where
         let rest : List ℕ = littleEndian 2 (s .wait) in
         let fields = record-fields stepKind bs at (littleEndian 2 (s .cost) ++ rest) h in
         let behind = number-behind 2 rest bs (at + 2) (at + 4) (omega arith) (s .cost) fields in
-        let c = number-first 2 rest bs (at + 2) (at + 4) (omega arith) (s .cost) (held .cost-fits) fields in
+        let c = number-first 2 rest bs (at + 2) (s .cost) (held .cost-fits) fields in
         let w = number-read 2 bs (at + 4) (s .wait) (held .wait-fits) behind in
         λ i. record { cost = c i; wait = w i }
 
@@ -130,20 +130,21 @@ module _ (bs : List ℕ) (at : ℕ) where
         let counts : List ℕ = row .steps ∷ row .windows ∷ [] in
         let from-deadline : List ℕ = littleEndian 4 (row .deadline) ++ counts in
         let from-phase : List ℕ = littleEndian 4 (row .phase) ++ from-deadline in
-        let from-box : List ℕ = littleEndian 4 (row .«box_number» .0) ++ from-phase in
+        let box : ℕ = row .«box_number» .0 in
+        let from-box : List ℕ = littleEndian 4 box ++ from-phase in
         let identifier : ℕ = row .identifier .0 in
         let h₁ : Stands (littleEndian 4 identifier ++ from-box) bs (at + 2) =
         simp append-assoc at (record-fields rowKind bs at _ h) in
         let h₂ = number-behind 4 from-box bs (at + 2) (at + 6) (omega arith) identifier h₁ in
-        let h₃ = number-behind 4 from-phase bs (at + 6) (at + 10) (omega arith) (row .«box_number» .0) h₂ in
+        let h₃ = number-behind 4 from-phase bs (at + 6) (at + 10) (omega arith) box h₂ in
         let h₄ = number-behind 4 from-deadline bs (at + 10) (at + 14) (omega arith) (row .phase) h₃ in
         let h₅ = number-behind 4 counts bs (at + 14) (at + 18) (omega arith) (row .deadline) h₄ in
         let h₆ = stands-tail (row .steps) (row .windows ∷ []) bs (at + 18) (at + 19) (omega arith) h₅ in
         record {
-          identifier-read = number-first 4 from-box bs (at + 2) (at + 6) (omega arith) identifier (held .identifier-fits) h₁;
-          box-read = number-first 4 from-phase bs (at + 6) (at + 10) (omega arith) (row .«box_number» .0) (held .box-fits) h₂;
-          phase-read = number-first 4 from-deadline bs (at + 10) (at + 14) (omega arith) (row .phase) (held .phase-fits) h₃;
-          deadline-read = number-first 4 counts bs (at + 14) (at + 18) (omega arith) (row .deadline) (held .deadline-fits) h₄;
+          identifier-read = number-first 4 from-box bs (at + 2) identifier (held .identifier-fits) h₁;
+          box-read = number-first 4 from-phase bs (at + 6) box (held .box-fits) h₂;
+          phase-read = number-first 4 from-deadline bs (at + 10) (row .phase) (held .phase-fits) h₃;
+          deadline-read = number-first 4 counts bs (at + 14) (row .deadline) (held .deadline-fits) h₄;
           steps-read = stands-head (row .steps) (row .windows ∷ []) bs (at + 18) 0 h₅;
           windows-read = stands-head (row .windows) [] bs (at + 19) 0 h₆;
         }

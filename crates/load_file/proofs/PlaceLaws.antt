@@ -1,7 +1,7 @@
 -- Where the parts of a row and of a file stand, and how long they are: a row's bytes stand at a place exactly when
 -- its own record, its steps and its windows stand at theirs.
-use Prim.Native.Nat.{ℕ, zero, suc, _+_, _*_, _≤_, _<_}
-use mathlib.Core.List.{List, [], _∷_, _++_}
+use Prim.Native.Nat.{ℕ, suc, _+_, _*_, _≤_, _<_}
+use mathlib.Core.List.{List, _++_}
 use mathlib.Core.Path.{_≡_, refl, ap, sym, _∙_}
 use native.Mathlib.Omega.{arith}
 use lib.ListN.{length, length-append}
@@ -200,7 +200,7 @@ module _ (bs : List ℕ) (load : Load) where
   parts-file behind f =
       let head : List ℕ = headerRecord (load .rows) in
       let tail : List ℕ = endRecord (stepsInAll (viewOf load)) in
-      let at-end = end-place (joined-place (λ i. rowBytes (rowAt load i)) (rowPlace bs) bs (load .rows) behind) in
+      let at-end = end-place (joined-place (λ i. rowBytes (rowAt load i)) (rowPlace bs) (load .rows) behind) in
       stands-whole (head ++ rowsBytes ++ tail) bs
       (omega (arith, f .no-more, length-append (head ++ rowsBytes) tail, endRecord-length (stepsInAll (viewOf load))))
       (append-stands (head ++ rowsBytes) tail bs 0 (rowPlace bs (load .rows)) at-end

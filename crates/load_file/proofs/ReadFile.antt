@@ -1,18 +1,16 @@
 -- Reading then writing: an accepted file's load is held as its types say, passes the check, since the reading made
 -- the same tests and unused places are zero, and is written as the file, record by record.
-use Prim.Native.Nat.{ℕ, suc, _+_, _*_, _≤_, _<_}
+use Prim.Native.Nat.{ℕ, suc, _+_, _≤_, _<_}
 use mathlib.Core.List.{List}
-use mathlib.Core.Path.{_≡_, refl, ap, sym, _∙_}
+use mathlib.Core.Path.{_≡_, refl, ap, _∙_}
 use native.Mathlib.Decide.{decLt}
 use native.Mathlib.Omega.{arith}
 use lib.ListN.{length}
 use Rattle.counting.proofs.RangeLaws.{true-allFrom}
 use Rattle.counting.proofs.ListLaws.{filled-length, getD-filled, getD-unfilled}
 use Rattle.counting.proofs.PieceLaws.{Stands}
-use Rattle.words.specs.LittleEndian.{numberAt, Bytes}
+use Rattle.words.specs.LittleEndian.{Bytes}
 use Rattle.words.proofs.LittleEndianLaws.{numberAt-lt}
-use Rattle.load.specs.declared.Row.{Row}
-use Rattle.load.specs.declared.Load.{Load}
 use Rattle.load.specs.Load.{
   mostRows,
   mostSteps,
@@ -48,7 +46,7 @@ use Rattle.load_file.proofs.FieldLaws.{
   row-stands,
   header-stands,
 }
-use Rattle.load_file.proofs.PlaceLaws.{parts-row, row-behind, FileStands, parts-file}
+use Rattle.load_file.proofs.PlaceLaws.{parts-row, row-behind, parts-file}
 use Rattle.load_file.proofs.CheckLaws.{RowGood, LoadGood, fields-steps-le, fields-windows-le}
 use Rattle.load_file.proofs.ZeroLaws.{
   unused-steps,
@@ -74,24 +72,24 @@ module _ (bs : List ℕ) (at : ℕ) where
         windows-read = refl;
       }
 
-  step-used : (j : ℕ) → j < stepsSaid bs at → stepAt (rowFrom bs at) j ≡ stepIn bs (stepPlace at j)
-  unfolding rowFrom
-  step-used j l = getD-filled (λ j. stepIn bs (stepPlace at j)) (stepsSaid bs at) mostSteps j noStep noStep l
-
   step-unused : (j : ℕ) → stepsSaid bs at ≤ j → j < mostSteps → stepAt (rowFrom bs at) j ≡ noStep
   unfolding rowFrom
   step-unused j from l =
       getD-unfilled (λ j. stepIn bs (stepPlace at j)) (stepsSaid bs at) mostSteps j noStep noStep from l
 
-  window-used : (k : ℕ) → k < windowsSaid bs at → windowAt (rowFrom bs at) k ≡ windowIn bs (windowPlace bs at k)
+  step-used : (j : ℕ) → j < stepsSaid bs at → stepAt (rowFrom bs at) j ≡ stepIn bs (stepPlace at j)
   unfolding rowFrom
-  window-used k l =
-      getD-filled (λ k. windowIn bs (windowPlace bs at k)) (windowsSaid bs at) mostWindows k noWindow noWindow l
+  step-used j l = getD-filled (λ j. stepIn bs (stepPlace at j)) (stepsSaid bs at) mostSteps j noStep noStep l
 
   window-unused : (k : ℕ) → windowsSaid bs at ≤ k → k < mostWindows → windowAt (rowFrom bs at) k ≡ noWindow
   unfolding rowFrom
   window-unused k from l =
       getD-unfilled (λ k. windowIn bs (windowPlace bs at k)) (windowsSaid bs at) mostWindows k noWindow noWindow from l
+
+  window-used : (k : ℕ) → k < windowsSaid bs at → windowAt (rowFrom bs at) k ≡ windowIn bs (windowPlace bs at k)
+  unfolding rowFrom
+  window-used k l =
+      getD-filled (λ k. windowIn bs (windowPlace bs at k)) (windowsSaid bs at) mostWindows k noWindow noWindow l
 
 -- a row that the reading passes
 module _ (bs : List ℕ) (b : Bytes bs) (i at : ℕ) (r : RowAccepted bs i at) where

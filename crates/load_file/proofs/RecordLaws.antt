@@ -1,17 +1,16 @@
 -- Each record kind, both ways: where a record stands its kind is due there and its fields are read from there; and
 -- where a kind is due, the record of the fields read there stands there.
 use Prim.Native.Nat.{ℕ, zero, suc, _+_, _*_, _^_, _≤_, _<_}
-use mathlib.Core.Bool.{not}
-use mathlib.Core.List.{List, [], _∷_, _++_, append-assoc}
+use mathlib.Core.Bool.{false, not}
+use mathlib.Core.List.{List, [], _∷_, _++_}
 use mathlib.Core.Path.{_≡_, refl, ap, ap₂, sym, _∙_}
 use native.Mathlib.Omega.{arith}
-use lib.Dec.{eqb, ltb}
-use lib.ListN.{length, take, drop, length-append, length-take, take-append-drop}
+use lib.Dec.{eqb}
+use lib.ListN.{length, drop, take-append-drop}
 use lib.Seq.{drop-drop, getD-drop}
 use borrow.Author.Tests.{ltb-false, le-ltb, eqb-true, eq-eqb, not-false}
 use Rattle.counting.proofs.PieceLaws.{
   Stands,
-  nothing-stands,
   append-stands,
   stands-first,
   stands-second,
@@ -24,7 +23,7 @@ use Rattle.words.specs.LittleEndian.{littleEndian, byteAt, numberAt, Bytes}
 use Rattle.words.proofs.LittleEndianLaws.{littleEndian-length, littleEndian-read, numberAt-written}
 use Rattle.refusals.specs.declared.Checked.the-variants.{Good}
 use Rattle.refusals.specs.FirstMet.{firstMet}
-use Rattle.refusals.proofs.UnmetLaws.{good-unmet, unmet-good}
+use Rattle.refusals.proofs.UnmetLaws.{Unmet, good-unmet, unmet-good}
 use Rattle.load_file.specs.Records.{Kind, recordOf}
 use Rattle.load_file.specs.Reading.{dueTests}
 
@@ -58,11 +57,12 @@ module _ (width : ℕ) (bs : List ℕ) (at : ℕ) where
       }
 
 -- a number, and behind it a piece
-module _ (width : ℕ) (rest bs : List ℕ) (at there : ℕ) (e : there ≡ at + width) where
-  pub number-first : (n : ℕ) → n < 256 ^ width → Stands (littleEndian width n ++ rest) bs at
-      → numberAt width bs at ≡ n
-  number-first n l h = number-read width bs at n l (stands-first (littleEndian width n) rest bs at h)
+pub number-first : (width : ℕ) (rest bs : List ℕ) (at n : ℕ) → n < 256 ^ width
+    → Stands (littleEndian width n ++ rest) bs at → numberAt width bs at ≡ n
+number-first width rest bs at n l h =
+    number-read width bs at n l (stands-first (littleEndian width n) rest bs at h)
 
+module _ (width : ℕ) (rest bs : List ℕ) (at there : ℕ) (e : there ≡ at + width) where
   pub number-behind : (n : ℕ) → Stands (littleEndian width n ++ rest) bs at → Stands rest bs there
   number-behind n h = stands-second (littleEndian width n) rest bs at there (rw littleEndian-length e) h
 
@@ -72,6 +72,13 @@ module _ (width : ℕ) (rest bs : List ℕ) (at there : ℕ) (e : there ≡ at +
       append-stands (littleEndian width (numberAt width bs at)) rest bs at there (rw littleEndian-length e)
       (number-stands width bs at b (omega arith)) h
 
+-- the test that two numbers differ
+pub differs-false : (a b : ℕ) → not (eqb a b) ≡ false → a ≡ b
+differs-false a b h = eqb-true a b (not-false (eqb a b) h)
+
+pub eq-differs : (a b : ℕ) → a ≡ b → not (eqb a b) ≡ false
+eq-differs a b e = ap not (eq-eqb a b e)
+
 -- a record of a kind is due at a place, and it is there
 pub record Due (kind : Kind) (bs : List ℕ) (at : ℕ) : Type 0 where
   pub inside : at + kind .size ≤ length bs
@@ -79,21 +86,26 @@ pub record Due (kind : Kind) (bs : List ℕ) (at : ℕ) : Type 0 where
   pub second-mark : byteAt bs (at + 1) ≡ kind .mark₂
 
 module _ (kind : Kind) (bs : List ℕ) (at : ℕ) where
-  pub good-due : firstMet (dueTests kind bs at) ≡ Good → Due kind bs at
-  good-due h =
-      let u = good-unmet (dueTests kind bs at) h in
+  pub unmet-due : Unmet (dueTests kind bs at) → Due kind bs at
+  unmet-due u =
       record {
         inside = ltb-false (length bs) (at + kind .size) (u .0);
-        first-mark = eqb-true (byteAt bs at) (kind .mark₁) (not-false (eqb (byteAt bs at) (kind .mark₁)) (u .1 .0));
-        second-mark = eqb-true (byteAt bs (at + 1)) (kind .mark₂) (not-false (eqb (byteAt bs (at + 1)) (kind .mark₂)) (u .1 .1 .0));
+        first-mark = differs-false (byteAt bs at) (kind .mark₁) (u .1 .0);
+        second-mark = differs-false (byteAt bs (at + 1)) (kind .mark₂) (u .1 .1 .0);
       }
 
+  pub due-unmet : Due kind bs at → Unmet (dueTests kind bs at)
+  due-unmet d =
+      let short = le-ltb (length bs) (at + kind .size) (d .inside) in
+      let first = eq-differs (byteAt bs at) (kind .mark₁) (d .first-mark) in
+      let second = eq-differs (byteAt bs (at + 1)) (kind .mark₂) (d .second-mark) in
+      (short, (first, (second, tt)))
+
+  pub good-due : firstMet (dueTests kind bs at) ≡ Good → Due kind bs at
+  good-due h = unmet-due (good-unmet (dueTests kind bs at) h)
+
   pub due-good : Due kind bs at → firstMet (dueTests kind bs at) ≡ Good
-  due-good d =
-      unmet-good (dueTests kind bs at)
-      (le-ltb (length bs) (at + kind .size) (d .inside),
-      (ap not (eq-eqb (byteAt bs at) (kind .mark₁) (d .first-mark)),
-      (ap not (eq-eqb (byteAt bs (at + 1)) (kind .mark₂) (d .second-mark)), tt)))
+  due-good d = unmet-good (dueTests kind bs at) (due-unmet d)
 
   -- the mark, and behind it the fields
   module _ (fields : List ℕ) where
@@ -112,7 +124,8 @@ module _ (kind : Kind) (bs : List ℕ) (at : ℕ) where
         stands-tail (kind .mark₂) fields bs (at + 1) (at + 2) (omega arith)
         (stands-tail (kind .mark₁) (kind .mark₂ ∷ fields) bs at (at + 1) refl h)
 
-    pub record-stands : 2 ≤ kind .size → Due kind bs at → Stands fields bs (at + 2) → Stands (recordOf kind fields) bs at
+    pub record-stands : 2 ≤ kind .size → Due kind bs at → Stands fields bs (at + 2)
+        → Stands (recordOf kind fields) bs at
     record-stands l d h =
         let i : at + kind .size ≤ length bs = d .inside in
         cons-stands (kind .mark₁) (kind .mark₂ ∷ fields) bs at (at + 1) refl 0 (omega arith) (d .first-mark)

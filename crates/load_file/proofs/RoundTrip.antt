@@ -40,7 +40,11 @@ unfolding readLoad
 good-readLoad bs load h = ap (λ r. r .answer) h
 
 -- an accepted file reads to exactly one load
-pub AcceptedFile-unique : (bs : List ℕ) (load other : Load) → AcceptedFile bs load → AcceptedFile bs other → load ≡ other
+reads-load : (bs : List ℕ) → Bytes bs → readLoad bs .answer ≡ Good → AcceptedFile bs (readLoad bs .load)
+reads-load bs b h = record { bytes = b; reads = λ i. record { answer = h i; load = readLoad bs .load } }
+
+pub AcceptedFile-unique : (bs : List ℕ) (load other : Load) → AcceptedFile bs load → AcceptedFile bs other
+    → load ≡ other
 AcceptedFile-unique bs load other a c = ap (λ r. r .load) (sym (a .reads) ∙ c .reads)
 
 loadIn-is : (bs : List ℕ) (load : Load) → readLoad bs ≡ accepted load → loadIn bs ≡ load
@@ -74,7 +78,13 @@ written-reads bs load w =
     }
 
 pub round-trip : RoundTrip
-round-trip = record { read-write = accepted-written; write-read = written-reads }
+round-trip =
+    record {
+      some-load = reads-load;
+      one-load = AcceptedFile-unique;
+      read-write = accepted-written;
+      write-read = written-reads;
+    }
 
 -- an accepted file's load is written back to the same bytes
 pub read-write : (bs : List ℕ) (load : Load) → Bytes bs → readLoad bs ≡ accepted load → loadBytes load ≡ bs
@@ -96,6 +106,7 @@ pub loadBytes-le : (load : Load) → checkLoad load ≡ Good → length (loadByt
 loadBytes-le load h =
     let g = checkLoad-good load h in
     loadBytes-length-le load (g .few-rows)
-    (λ i l.
-    (fields-steps-le (rowAt load i) (g .each-row-good i l .fields-good),
-    fields-windows-le (rowAt load i) (g .each-row-good i l .fields-good)))
+    (λ i l. (
+      fields-steps-le (rowAt load i) (g .each-row-good i l .fields-good),
+      fields-windows-le (rowAt load i) (g .each-row-good i l .fields-good),
+    ))

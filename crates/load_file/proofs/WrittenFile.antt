@@ -1,16 +1,13 @@
 -- Writing then reading: the file of a load that passes the check spells that load, and the reading refuses nothing,
 -- since each of its tests is one that the check made, or says that a record stands where it was written.
-use Prim.Native.Nat.{ℕ, suc, _+_, _*_, _^_, _≤_, _<_}
+use Prim.Native.Nat.{ℕ, _+_, _*_, _^_, _≤_, _<_}
 use mathlib.Core.List.{List}
-use mathlib.Core.Path.{_≡_, refl, ap, ap₂, sym, _∙_}
+use mathlib.Core.Path.{_≡_, ap, ap₂, _∙_}
 use native.Mathlib.Omega.{arith}
-use lib.ListN.{length}
-use Rattle.counting.specs.Sums.{sumTo}
 use Rattle.counting.specs.Lists.{filled}
 use Rattle.counting.proofs.SumLaws.{sumTo-le}
 use Rattle.counting.proofs.RangeLaws.{allFrom-true}
 use Rattle.counting.proofs.PieceLaws.{Stands, filled-is}
-use Rattle.words.specs.LittleEndian.{byteAt, numberAt}
 use Rattle.load.specs.declared.Row.{Row}
 use Rattle.load.specs.declared.Load.{Load}
 use Rattle.load.specs.Load.{
@@ -143,10 +140,11 @@ pub stepsInAll-lt : (load : Load) → LoadGood load → stepsInAll (viewOf load)
 unfolding viewOf
 stepsInAll-lt load good =
     let few : load .rows ≤ 24 = good .few-rows in
-    omega
-    (arith,
-    sumTo-le (λ i. rowAt load i .steps) (load .rows) mostSteps
-    (λ i l. fields-steps-le (rowAt load i) (good .each-row-good i l .fields-good)))
+    omega (
+      arith,
+      sumTo-le (λ i. rowAt load i .steps) (load .rows) mostSteps
+          (λ i l. fields-steps-le (rowAt load i) (good .each-row-good i l .fields-good)),
+    )
 
 -- the file of a load that the check passes, held in memory
 module _ (bs : List ℕ) (load : Load) (held : Held load) (good : LoadGood load) (e : bs ≡ loadBytes load) where

@@ -1,5 +1,5 @@
--- Demand 2 for load files: "an accepted file reads to exactly one load, that load is written back to
--- the same bytes, and a written load reads back as itself". To be read after Writing and Reading.
+-- Demand 2 for load files: an accepted file reads to exactly one load, that load is written back to
+-- the same bytes, and a written load reads back as itself. To be read after Writing and Reading.
 use Prim.Native.Nat.{ℕ, _^_, _<_}
 use mathlib.Core.List.{List}
 use mathlib.Core.Path.{_≡_}
@@ -64,6 +64,12 @@ pub record WrittenLoad (load : Load) (bs : List ℕ) : Type 0 where
 -- the two round trips: of bytes and a load, the bytes read to the load exactly when the load is
 -- written as the bytes
 pub record RoundTrip : Type 0 where
+  -- a file that is not refused reads to a load
+  pub some-load : (bs : List ℕ) → Bytes bs → readLoad bs .answer ≡ Good
+      → AcceptedFile bs (readLoad bs .load)
+  -- and to no other
+  pub one-load : (bs : List ℕ) (load other : Load)
+      → AcceptedFile bs load → AcceptedFile bs other → load ≡ other
   -- an accepted file's load passes the check, and is written back to the same bytes
   pub read-write : (bs : List ℕ) (load : Load) → AcceptedFile bs load → WrittenLoad load bs
   -- a written load reads back as itself
