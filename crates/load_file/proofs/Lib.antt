@@ -10,3 +10,4 @@ pub mod ReadFile
 pub mod ByteLaws
 pub mod RoundTrip
 pub mod WritingLaws
+pub mod WriteCallLaws

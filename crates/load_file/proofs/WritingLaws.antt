@@ -7,7 +7,6 @@ use native.Mathlib.Omega.{arith}
 use lib.ListN.{length, length-append}
 use lib.Seq.{sets}
 use Rattle.counting.specs.Lists.{joinTo}
-use Rattle.counting.specs.Sums.{sumTo}
 use Rattle.counting.proofs.SumLaws.{sumTo-le}
 use Rattle.counting.proofs.ListLaws.{joinTo-zero, joinTo-next, joinTo-length, joinTo-length-same}
 use Rattle.words.proofs.OverwriteLaws.{sets-more}

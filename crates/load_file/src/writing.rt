@@ -1,5 +1,5 @@
-// Writes a load as its file: the header, then each row with its steps and then its windows, then the
-// end record. Refuses a load that its check refuses, and an output that is shorter than the file.
+// Writes a load as its file: the header, then each row with its steps and then its windows, then
+// the end record. Refuses a load that its check refuses, and an output shorter than the file.
 use crate::records::END_SIZE;
 use crate::records::HEADER_SIZE;
 use crate::records::ROW_SIZE;
@@ -13,6 +13,7 @@ use crate::records::window_record;
 use load::Load;
 use load::Row;
 use refusals::Checked;
+use refusals::Refusal;
 ghost use mathlib.Core.Path.{_≡_};
 ghost use Prim.Native.Nat.{_+_, _≤_};
 ghost use lib.ListN.{length};
@@ -23,12 +24,14 @@ ghost use Rattle.load.specs.View.{viewOf, stepsInAll};
 ghost use Rattle.load.specs.Check.{checkLoad};
 ghost use Rattle.load_file.specs.Records.{headerKind, stepRecord, windowRecord};
 ghost use Rattle.load_file.specs.Writing.{rowBytes, loadBytes};
+ghost use Rattle.load_file.specs.Calls.{WriteLoad};
 
 // Writes the records of a row's steps from a place on.
 fn write_steps(out: &mut [u8], at: usize, row: Row)
     requires { ⌜ (at ≤ 4096) × (row .steps ≤ mostSteps) ⌝ }
     ensures { λ _. ⌜ now (out .exit)
-        ≡ sets (now (out .entry)) at (joinTo (λ j. stepRecord (stepAt row j)) (row .steps)) ⌝ }
+        ≡ sets (now (out .entry)) at
+        (joinTo (λ j. stepRecord (stepAt row j)) (row .steps)) ⌝ }
 {
     for j in 0..row.steps as usize {
         let record = step_record(row.step[j]);
@@ -40,7 +43,8 @@ fn write_steps(out: &mut [u8], at: usize, row: Row)
 fn write_windows(out: &mut [u8], at: usize, row: Row)
     requires { ⌜ (at ≤ 4096) × (row .windows ≤ mostWindows) ⌝ }
     ensures { λ _. ⌜ now (out .exit)
-        ≡ sets (now (out .entry)) at (joinTo (λ k. windowRecord (windowAt row k)) (row .windows)) ⌝ }
+        ≡ sets (now (out .entry)) at
+        (joinTo (λ k. windowRecord (windowAt row k)) (row .windows)) ⌝ }
 {
     for k in 0..row.windows as usize {
         let record = window_record(row.window[k]);
@@ -95,9 +99,11 @@ fn steps_in(load: Load) -> u16
 // Writes the rows of a load behind the header, and gives the place behind them.
 fn write_rows(out: &mut [u8], load: Load) -> usize
     requires { ⌜ checkLoad load ≡ Checked.Good ⌝ }
-    ensures { λ r. ⌜ r ≡ headerKind .size + length (joinTo (λ i. rowBytes (rowAt load i)) (load .rows)) ⌝ }
+    ensures { λ r. ⌜ r ≡ headerKind .size
+        + length (joinTo (λ i. rowBytes (rowAt load i)) (load .rows)) ⌝ }
     ensures { λ r. ⌜ now (out .exit)
-        ≡ sets (now (out .entry)) (headerKind .size) (joinTo (λ i. rowBytes (rowAt load i)) (load .rows)) ⌝ }
+        ≡ sets (now (out .entry)) (headerKind .size)
+        (joinTo (λ i. rowBytes (rowAt load i)) (load .rows)) ⌝ }
 {
     let mut at = HEADER_SIZE;
     for i in 0..load.rows as usize {
@@ -118,4 +124,19 @@ fn write_file(out: &mut [u8], load: Load)
     let at = write_rows(out, load);
     let end = end_record(steps_in(load));
     words::overwrite(out, at, &end);
+}
+
+// Writes a load as its file. Refuses, in this order, a load that its check refuses (3 to 7) and an
+// output that is shorter than the file (9); a refusal alters no byte. Bytes past the file stay.
+pub fn write_load(load: Load, out: &mut [u8]) -> Checked
+    ensures { λ r. ⌜ WriteLoad load (now (out .entry)) r (now (out .exit)) ⌝ }
+{
+    if let Checked::Refused(refusal) = load::check_load(load) {
+        return Checked::Refused(refusal);
+    }
+    if out.len() < file_size(load) {
+        return Checked::Refused(Refusal::OutputShort);
+    }
+    write_file(out, load);
+    Checked::Good
 }

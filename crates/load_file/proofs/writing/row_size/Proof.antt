@@ -1,4 +1,4 @@
--- `load_file::writing::row_size` adds the size of the row's own record and those of its steps' and its windows' records.
+-- `load_file::writing::row_size` adds the sizes of the row's own record, of its steps' and of its windows' records.
 use mathlib.Core.Path.{sym}
 use borrow.Author.Needs.{needs}
 use Rattle.load_file.proofs.PlaceLaws.{rowBytes-length}

@@ -1,5 +1,5 @@
--- `load_file::writing::steps_in` adds row by row: after i turns the count is that of the first i rows. A checked load has
--- few enough rows and steps that the sum fits.
+-- `load_file::writing::steps_in` adds row by row: after i turns the count is that of the first i rows. A checked load
+-- has few enough rows and steps that the sum fits.
 use Prim.Native.Nat.{ℕ, _*_, _-_, _≤_}
 use mathlib.Core.Path.{_≡_, sym}
 use native.Mathlib.Omega.{arith}

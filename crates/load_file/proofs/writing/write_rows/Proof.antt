@@ -1,5 +1,5 @@
--- `load_file::writing::write_rows` writes row by row: after i turns the first i rows stand behind the header's place, and
--- the place is the one behind them. A checked load has few enough rows, steps and windows that the place fits.
+-- `load_file::writing::write_rows` writes row by row: after i turns the first i rows stand behind the header's place,
+-- and the place is the one behind them. A checked load has few enough rows, steps and windows that the place fits.
 use Prim.Native.Nat.{_+_, _-_, _≤_}
 use mathlib.Core.Path.{_≡_, refl, _∙_}
 use native.Mathlib.Omega.{arith}

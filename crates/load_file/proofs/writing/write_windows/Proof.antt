@@ -1,5 +1,5 @@
--- `load_file::writing::write_windows` writes record by record: after k turns the first k records stand in the output, one
--- behind the other.
+-- `load_file::writing::write_windows` writes record by record: after k turns the first k records stand in the output,
+-- one behind the other.
 use Prim.Native.Nat.{_-_, _≤_}
 use mathlib.Core.Path.{_≡_, refl, _∙_}
 use native.Mathlib.Omega.{arith}
