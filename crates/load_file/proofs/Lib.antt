@@ -12,3 +12,5 @@ pub mod RoundTrip
 pub mod ReadingLaws
 pub mod ReadingRowsLaws
 pub mod ReadCallLaws
+pub mod WritingLaws
+pub mod WriteCallLaws

@@ -59,7 +59,7 @@ module _ (bs : List ℕ) (i : ℕ) (identifiers : List Identifier) (boxes : List
 
   pub identifierTaken-before : (identifier : Identifier)
       → anyTo (λ k. eqb (getD identifiers k (record { 0 = 0 }) .0) (identifier .0)) (min i mostRows)
-          ≡ identifierTaken (loadIn bs) i identifier
+      ≡ identifierTaken (loadIn bs) i identifier
   identifierTaken-before identifier =
       rw (within, before .identifiers-are)
       (anyTo-ext _ _ i

@@ -105,56 +105,56 @@ module _ (bs : List ℕ) (i at : ℕ) where
 -- after one row more, in which no fault is found
 module _ (bs : List ℕ) (i : ℕ) (identifiers : List Identifier) (boxes : List BoxNumber) (rows : List Row) (at steps : ℕ)
     (so-far : RowsRead bs i identifiers boxes rows at steps) (l : i < rowsSaid bs) (most : rowsSaid bs ≤ mostRows)
-    where
-  there : rowFaultAt bs i at ≡ faultOf bs i
-  there = ap (rowFaultAt bs i) (so-far .place-is)
+  where
+    there : rowFaultAt bs i at ≡ faultOf bs i
+    there = ap (rowFaultAt bs i) (so-far .place-is)
 
-  module _ (row : Row) (e : row ≡ rowFrom bs at) (good : rowFaultAt bs i at ≡ Good) where
-    is-row : row ≡ rowFrom bs (rowPlace bs i)
-    is-row = e ∙ ap (rowFrom bs) (so-far .place-is)
+    module _ (row : Row) (e : row ≡ rowFrom bs at) (good : rowFaultAt bs i at ≡ Good) where
+      is-row : row ≡ rowFrom bs (rowPlace bs i)
+      is-row = e ∙ ap (rowFrom bs) (so-far .place-is)
 
-    steps-said : row .steps ≡ stepsSaid bs at
-    unfolding rowFrom
-    steps-said = ap (λ row. row .steps) e
+      steps-said : row .steps ≡ stepsSaid bs at
+      unfolding rowFrom
+      steps-said = ap (λ row. row .steps) e
 
-    windows-said : row .windows ≡ windowsSaid bs at
-    unfolding rowFrom
-    windows-said = ap (λ row. row .windows) e
+      windows-said : row .windows ≡ windowsSaid bs at
+      unfolding rowFrom
+      windows-said = ap (λ row. row .windows) e
 
-    pub rows-next : RowsRead bs (i + 1) (set identifiers i (row .identifier)) (set boxes i (row .«box_number»))
-        (set rows i row) (at + 20 + 6 * row .steps + 6 * row .windows) (steps + row .steps)
-    rows-next =
-        let few : i < mostRows = omega arith in
-        let at-most : stepsSaid bs at ≤ 8 = row-steps-le bs i at good in
-        let at-most-windows : windowsSaid bs at ≤ 4 = row-windows-le bs i at good in
-        let place : at ≤ 4 + 92 * i = so-far .place-le in
-        let fewer : steps ≤ 8 * i = so-far .steps-le in
-        let said = steps-said in
-        let said-windows = windows-said in
-        record {
-          no-fault = firstFaultTo-next (faultOf bs) i ∙ andThen-both _ _ (so-far .no-fault) (sym there ∙ good);
-          before =
-              record {
-                said = omega arith;
-                few = omega arith;
-                identifiers-are =
-                    set-next (λ k. rowFrom bs (rowPlace bs k) .identifier) i mostRows _ _ identifiers few
-                    (so-far .before .identifiers-are)
-                    (ap (λ row. row .identifier) is-row);
-                boxes-are =
-                    set-next (λ k. rowFrom bs (rowPlace bs k) .«box_number») i mostRows _ _ boxes few
-                    (so-far .before .boxes-are)
-                    (ap (λ row. row .«box_number») is-row);
-              };
-          rows-are = set-next (λ k. rowFrom bs (rowPlace bs k)) i mostRows zeroRow row rows few (so-far .rows-are) is-row;
-          place-is =
-              rw (steps-said, windows-said) (ap (placeBehind bs) (so-far .place-is)) ∙ sym (rowPlace-next bs i);
-          place-le = omega arith;
-          steps-are =
-              ap₂ _+_ (so-far .steps-are) (steps-said ∙ ap (stepsSaid bs) (so-far .place-is))
-              ∙ sym (sumTo-next (λ k. stepsSaid bs (rowPlace bs k)) i);
-          steps-le = omega arith;
-        }
+      pub rows-next : RowsRead bs (i + 1) (set identifiers i (row .identifier)) (set boxes i (row .«box_number»))
+          (set rows i row) (at + 20 + 6 * row .steps + 6 * row .windows) (steps + row .steps)
+      rows-next =
+          let few : i < mostRows = omega arith in
+          let at-most : stepsSaid bs at ≤ 8 = row-steps-le bs i at good in
+          let at-most-windows : windowsSaid bs at ≤ 4 = row-windows-le bs i at good in
+          let place : at ≤ 4 + 92 * i = so-far .place-le in
+          let fewer : steps ≤ 8 * i = so-far .steps-le in
+          let said = steps-said in
+          let said-windows = windows-said in
+          record {
+            no-fault = firstFaultTo-next (faultOf bs) i ∙ andThen-both _ _ (so-far .no-fault) (sym there ∙ good);
+            before =
+                record {
+                  said = omega arith;
+                  few = omega arith;
+                  identifiers-are =
+                      set-next (λ k. rowFrom bs (rowPlace bs k) .identifier) i mostRows _ _ identifiers few
+                      (so-far .before .identifiers-are)
+                      (ap (λ row. row .identifier) is-row);
+                  boxes-are =
+                      set-next (λ k. rowFrom bs (rowPlace bs k) .«box_number») i mostRows _ _ boxes few
+                      (so-far .before .boxes-are)
+                      (ap (λ row. row .«box_number») is-row);
+                };
+            rows-are = set-next (λ k. rowFrom bs (rowPlace bs k)) i mostRows zeroRow row rows few (so-far .rows-are) is-row;
+            place-is =
+                rw (steps-said, windows-said) (ap (placeBehind bs) (so-far .place-is)) ∙ sym (rowPlace-next bs i);
+            place-le = omega arith;
+            steps-are =
+                ap₂ _+_ (so-far .steps-are) (steps-said ∙ ap (stepsSaid bs) (so-far .place-is))
+                ∙ sym (sumTo-next (λ k. stepsSaid bs (rowPlace bs k)) i);
+            steps-le = omega arith;
+          }
 
 -- what a reading gives behind the header, by what it finds
 module _ (bs : List ℕ) where

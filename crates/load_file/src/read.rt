@@ -1,16 +1,16 @@
 // Reading a load file, front to back: the first faulty record decides, with 1 to 8. A refused
 // reading gives the all-zero load.
 use crate::Reading;
-use crate::marks::END_MARK;
-use crate::marks::END_SIZE;
-use crate::marks::HEADER_MARK;
-use crate::marks::HEADER_SIZE;
-use crate::marks::ROW_SIZE;
-use crate::marks::STEP_SIZE;
-use crate::marks::VERSION;
-use crate::marks::WINDOW_SIZE;
 use crate::read_parts::check_due;
 use crate::read_row::read_row;
+use crate::records::END_MARK;
+use crate::records::END_SIZE;
+use crate::records::HEADER_MARK;
+use crate::records::HEADER_SIZE;
+use crate::records::ROW_SIZE;
+use crate::records::STEP_SIZE;
+use crate::records::VERSION;
+use crate::records::WINDOW_SIZE;
 use load::BoxNumber;
 use load::Identifier;
 use load::Load;

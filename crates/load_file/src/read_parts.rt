@@ -1,8 +1,8 @@
 // The parts of a load file, as they are read: whether a record that is due stands at a place, and
 // what it spells. A byte past the end reads as 0.
-use crate::marks::ROW_SIZE;
-use crate::marks::STEP_SIZE;
-use crate::marks::WINDOW_SIZE;
+use crate::records::ROW_SIZE;
+use crate::records::STEP_SIZE;
+use crate::records::WINDOW_SIZE;
 use load::BoxNumber;
 use load::Identifier;
 use load::MOST_STEPS;

@@ -1,14 +1,14 @@
 // A row of a load file, as it is read: the tests of its own record, of its steps and of its
 // windows, in the order in which they are asked, and the row.
-use crate::marks::ROW_MARK;
-use crate::marks::ROW_SIZE;
-use crate::marks::STEP_MARK;
-use crate::marks::STEP_SIZE;
-use crate::marks::WINDOW_MARK;
-use crate::marks::WINDOW_SIZE;
 use crate::read_parts::check_due;
 use crate::read_parts::fields_from;
 use crate::read_parts::row_from;
+use crate::records::ROW_MARK;
+use crate::records::ROW_SIZE;
+use crate::records::STEP_MARK;
+use crate::records::STEP_SIZE;
+use crate::records::WINDOW_MARK;
+use crate::records::WINDOW_SIZE;
 use load::BoxNumber;
 use load::Identifier;
 use load::MOST_ROWS;

@@ -1,4 +1,5 @@
--- Laws of the first fault, and sameness of results.
+-- Laws of the first fault and of what a writing call gives, and sameness of results.
 pub mod FirstMetLaws
 pub mod UnmetLaws
+pub mod GivenLaws
 pub mod CallLaws

@@ -95,18 +95,17 @@ goes-on c =
     let told = c .before .before .before .before .before in
     let at = told .before .before .before .before in
     let start = at .before .before .before in
-    let bs = start .args .bytes .now in
-    (
+    let bs = start .args .bytes .now in (
       omega arith,
       rw (c .place-behind .ensures)
-      (rows-next bs (at .loop .i) (at .loop .identifiers) (at .loop .boxes) (at .loop .read) (at .loop .at)
-      (at .loop .steps)
-      (at .loop .inv .1)
-      (omega arith)
-      (omega arith)
-      (told .before .before .read-row .result .row)
-      (the-row told)
-      (no-fault told)),
+          (rows-next bs (at .loop .i) (at .loop .identifiers) (at .loop .boxes) (at .loop .read) (at .loop .at)
+          (at .loop .steps)
+          (at .loop .inv .1)
+          (omega arith)
+          (omega arith)
+          (told .before .before .read-row .result .row)
+          (the-row told)
+          (no-fault told)),
     )
 
 -- behind the last row
@@ -121,8 +120,7 @@ ended c =
 counted : tie.Need-check-end-requires Inv-loop μ-loop
 counted c κs =
     let bs = c .before .before .before .before .args .bytes .now in
-    let so-far = c .before .loop .inv .1 in
-    (
+    let so-far = c .before .loop .inv .1 in (
       omega arith,
       so-far .steps-are ∙ ap (sumTo (λ i. stepsSaid bs (rowPlace bs i))) (ended c) ∙ stepsInAll-read bs,
     )

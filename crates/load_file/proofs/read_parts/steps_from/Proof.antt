@@ -26,11 +26,10 @@ goes-on c =
     let at = c .before .before in
     let start = at .before .before .args in
     let j = at .loop .j in
-    let l : j < mostSteps = omega arith in
-    (
+    let l : j < mostSteps = omega arith in (
       search needs,
       set-next (λ j. stepIn (start .bytes .now) (start .from + 6 * j)) j mostSteps noStep _ _ l (at .loop .inv .1)
-      (c .step-in .ensures),
+          (c .step-in .ensures),
     )
 
 ends : tie.Need-returns Inv-loop μ-loop

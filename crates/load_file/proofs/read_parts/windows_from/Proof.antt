@@ -26,11 +26,10 @@ goes-on c =
     let at = c .before .before in
     let start = at .before .before .args in
     let k = at .loop .k in
-    let l : k < mostWindows = omega arith in
-    (
+    let l : k < mostWindows = omega arith in (
       search needs,
       set-next (λ k. windowIn (start .bytes .now) (start .from + 6 * k)) k mostWindows noWindow _ _ l (at .loop .inv .1)
-      (c .window-in .ensures),
+          (c .window-in .ensures),
     )
 
 ends : tie.Need-returns Inv-loop μ-loop

@@ -35,8 +35,7 @@ own-good c = sym (c .before .before .check-own .ensures) ∙ c .enum-told .given
 few : tie.Need-row-from-requires
 few c κs =
     let start = c .before .before .before .before .args in
-    let bs = start .bytes .now in
-    (
+    let bs = start .bytes .now in (
       omega arith,
       (own-steps-le bs (start .at) (start .i) (own-good c), own-windows-le bs (start .at) (start .i) (own-good c)),
     )
