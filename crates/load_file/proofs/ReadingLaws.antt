@@ -2,7 +2,7 @@
 -- before a row hold, and the row that its parts make.
 use Prim.Native.Nat.{ℕ, min, _≤_, _<_}
 use mathlib.Core.Bool.{Bool}
-use mathlib.Core.List.{List, [], _∷_, _++_}
+use mathlib.Core.List.{List, _++_}
 use mathlib.Core.Path.{_≡_, refl, sym, ap, _∙_}
 use native.Mathlib.Omega.{arith}
 use lib.Dec.{eqb}
@@ -14,7 +14,7 @@ use Rattle.counting.proofs.ListLaws.{getD-filled}
 use Rattle.refusals.specs.declared.Refusal.{Refusal}
 use Rattle.refusals.specs.declared.Checked.{Checked}
 use Rattle.refusals.specs.declared.Checked.the-variants.{Good, Refused}
-use Rattle.refusals.specs.FirstMet.{firstMet, andThen, firstFaultTo}
+use Rattle.refusals.specs.FirstMet.{firstMet, andThen}
 use Rattle.refusals.proofs.FirstMetLaws.{firstMet-append-refused, firstMet-append-good}
 use Rattle.refusals.proofs.UnmetLaws.{append-good-first, append-good-second}
 use Rattle.load.specs.declared.Identifier.{Identifier}
@@ -26,8 +26,8 @@ use Rattle.load.specs.View.{viewOf, stepsInAll}
 use Rattle.load.specs.Faults.{rowTests, takenTests, identifierTaken, boxTaken}
 use Rattle.load_file.specs.Records.{rowKind}
 use Rattle.load_file.specs.Places.{stepsSaid, windowsSaid, rowFrom, rowPlace, rowsSaid, loadIn}
-use Rattle.load_file.specs.Reading.{dueTests, stepFaultIn, windowFaultIn, rowFaultAt}
-use Rattle.load_file.specs.ReadingSteps.{rowWith, RowsBefore, ownFault, readRow}
+use Rattle.load_file.specs.Reading.{dueTests, rowFaultAt}
+use Rattle.load_file.specs.ReadingSteps.{rowWith, RowsBefore, ownFault, stepsFault, windowsFault, readRow}
 use Rattle.load_file.proofs.CheckLaws.{fields-steps-le, fields-windows-le}
 
 -- tests, of which the first is found, and the tests behind them
@@ -100,8 +100,7 @@ module _ (bs : List ℕ) (at : ℕ) where
     -- the parts of a row's fault, in their order
     pub rowFaultAt-parts : rowFaultAt bs i at
         ≡ andThen (ownFault bs i at)
-        (andThen (firstFaultTo (stepFaultIn bs at) (stepsSaid bs at))
-        (andThen (firstFaultTo (windowFaultIn bs at) (windowsSaid bs at)) Good))
+        (andThen (stepsFault bs at) (andThen (windowsFault bs at) Good))
     unfolding rowFaultAt ownFault
     rowFaultAt-parts = refl
 

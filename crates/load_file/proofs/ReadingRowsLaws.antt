@@ -26,12 +26,13 @@ use Rattle.refusals.proofs.UnmetLaws.{good-unmet}
 use Rattle.load.specs.declared.Identifier.{Identifier}
 use Rattle.load.specs.declared.BoxNumber.{BoxNumber}
 use Rattle.load.specs.declared.Row.{Row}
-use Rattle.load.specs.Load.{mostRows, zeroRow, zeroLoad}
+use Rattle.load.specs.Load.{mostRows, mostSteps, mostWindows, zeroRow, zeroLoad}
+use Rattle.load.specs.View.{viewOf, stepsInAll}
 use Rattle.load_file.specs.declared.read_row.RowReading.{RowReading}
 use Rattle.load_file.specs.Places.{stepsSaid, windowsSaid, rowFrom, rowPlace, placeBehind, rowsSaid, loadIn}
 use Rattle.load_file.specs.Reading.{headerTests, rowFaultAt, endTests, fileFault, readLoad}
 use Rattle.load_file.specs.ReadingSteps.{RowsBefore, ownFault, readRow, rowsFault, readRows}
-use Rattle.load_file.proofs.ReadingLaws.{rowFaultAt-parts, own-steps-le, own-windows-le}
+use Rattle.load_file.proofs.ReadingLaws.{rowFaultAt-parts, own-steps-le, own-windows-le, stepsInAll-read}
 
 -- what is found in row k, at its place
 abbrev pub faultOf : List ℕ → ℕ → Checked
@@ -78,61 +79,78 @@ rows-none bs zeros e =
       steps-le = omega arith;
     }
 
-module _ (bs : List ℕ) (i at : ℕ) where
-  -- a row in which no fault is found announces no more steps and windows than a row has
-  module _ (good : rowFaultAt bs i at ≡ Good) where
-    own-good : ownFault bs i at ≡ Good
-    own-good = andThen-good-first _ _ (sym (rowFaultAt-parts bs at i) ∙ good)
+-- what is found in a row, and what the reading behind the header gives for it
+module _ (bs : List ℕ) where
+  rowsFault-parts : rowsFault bs
+      ≡ andThen (firstFaultTo (faultOf bs) (rowsSaid bs))
+      (andThen (firstMet (endTests bs (rowPlace bs (rowsSaid bs)))) Good)
+  unfolding rowsFault
+  rowsFault-parts = refl
 
-    pub row-steps-le : stepsSaid bs at ≤ 8
-    row-steps-le = own-steps-le bs at i own-good
+  refused : {r : Refusal} → rowsFault bs ≡ Refused r → record { answer = Refused r; load = zeroLoad } ≡ readRows bs
+  unfolding readRows
+  refused h = rw h
 
-    pub row-windows-le : windowsSaid bs at ≤ 4
-    row-windows-le = own-windows-le bs at i own-good
+  good : rowsFault bs ≡ Good → record { answer = Good; load = loadIn bs } ≡ readRows bs
+  unfolding readRows
+  good h = rw h
 
-  -- what a reading of a row holds
-  module _ (r : RowReading) (e : r ≡ readRow bs i at) where
-    pub readRow-answer : r .answer ≡ rowFaultAt bs i at
+module _ {bs : List ℕ} {i : ℕ} {identifiers : List Identifier} {boxes : List BoxNumber} {rows : List Row} {at steps : ℕ}
+    (so-far : RowsRead bs i identifiers boxes rows at steps) where
+  -- row i is read
+  module _ (r : RowReading) (e : r ≡ readRow bs i at) (l : i < rowsSaid bs) (most : rowsSaid bs ≤ mostRows) where
+    answer-is : r .answer ≡ rowFaultAt bs i at
     unfolding readRow
-    readRow-answer = ap (λ r. r .answer) e
+    answer-is = ap (λ r. r .answer) e
 
-    pub readRow-row : r .answer ≡ Good → r .row ≡ rowFrom bs at
-    unfolding readRow
-    readRow-row good =
-        let h : rowFaultAt bs i at ≡ Good = sym readRow-answer ∙ good in
-        ap (λ r. r .row) e ∙ rw h
+    found : r .answer ≡ faultOf bs i
+    found = answer-is ∙ ap (rowFaultAt bs i) (so-far .place-is)
 
--- after one row more, in which no fault is found
-module _ (bs : List ℕ) (i : ℕ) (identifiers : List Identifier) (boxes : List BoxNumber) (rows : List Row) (at steps : ℕ)
-    (so-far : RowsRead bs i identifiers boxes rows at steps) (l : i < rowsSaid bs) (most : rowsSaid bs ≤ mostRows)
-  where
-    there : rowFaultAt bs i at ≡ faultOf bs i
-    there = ap (rowFaultAt bs i) (so-far .place-is)
+    -- and refused
+    pub rows-refused : {refusal : Refusal} → r .answer ≡ Refused refusal
+        → record { answer = Refused refusal; load = zeroLoad } ≡ readRows bs
+    rows-refused {refusal} h =
+        let z : firstFaultTo (faultOf bs) (rowsSaid bs) ≡ Refused refusal =
+        firstFaultTo-refused (faultOf bs) (rowsSaid bs) i refusal l (so-far .no-fault) (sym found ∙ h) in
+        refused bs (rowsFault-parts bs ∙ rw z)
 
-    module _ (row : Row) (e : row ≡ rowFrom bs at) (good : rowFaultAt bs i at ≡ Good) where
-      is-row : row ≡ rowFrom bs (rowPlace bs i)
-      is-row = e ∙ ap (rowFrom bs) (so-far .place-is)
+    -- and is Good
+    module _ (h : r .answer ≡ Good) where
+      row-is : r .row ≡ rowFrom bs at
+      unfolding readRow
+      row-is = let z : rowFaultAt bs i at ≡ Good = sym answer-is ∙ h in ap (λ r. r .row) e ∙ rw z
 
-      steps-said : row .steps ≡ stepsSaid bs at
+      in-place : r .row ≡ rowFrom bs (rowPlace bs i)
+      in-place = row-is ∙ ap (rowFrom bs) (so-far .place-is)
+
+      own-good : ownFault bs i at ≡ Good
+      own-good = andThen-good-first _ _ (sym (rowFaultAt-parts bs at i) ∙ sym answer-is ∙ h)
+
+      steps-said : r .row .steps ≡ stepsSaid bs at
       unfolding rowFrom
-      steps-said = ap (λ row. row .steps) e
+      steps-said = ap (λ row. row .steps) row-is
 
-      windows-said : row .windows ≡ windowsSaid bs at
+      windows-said : r .row .windows ≡ windowsSaid bs at
       unfolding rowFrom
-      windows-said = ap (λ row. row .windows) e
+      windows-said = ap (λ row. row .windows) row-is
 
-      pub rows-next : RowsRead bs (i + 1) (set identifiers i (row .identifier)) (set boxes i (row .«box_number»))
-          (set rows i row) (at + 20 + 6 * row .steps + 6 * row .windows) (steps + row .steps)
+      pub few-steps : r .row .steps ≤ mostSteps
+      few-steps = rw steps-said (own-steps-le bs at i own-good)
+
+      few-windows : r .row .windows ≤ mostWindows
+      few-windows = rw windows-said (own-windows-le bs at i own-good)
+
+      pub rows-next : RowsRead bs (i + 1) (set identifiers i (r .row .identifier))
+          (set boxes i (r .row .«box_number»))
+          (set rows i (r .row))
+          (at + 20 + 6 * r .row .steps + 6 * r .row .windows)
+          (steps + r .row .steps)
       rows-next =
           let few : i < mostRows = omega arith in
-          let at-most : stepsSaid bs at ≤ 8 = row-steps-le bs i at good in
-          let at-most-windows : windowsSaid bs at ≤ 4 = row-windows-le bs i at good in
-          let place : at ≤ 4 + 92 * i = so-far .place-le in
-          let fewer : steps ≤ 8 * i = so-far .steps-le in
-          let said = steps-said in
-          let said-windows = windows-said in
+          let most-steps : r .row .steps ≤ 8 = few-steps in
+          let most-windows : r .row .windows ≤ 4 = few-windows in
           record {
-            no-fault = firstFaultTo-next (faultOf bs) i ∙ andThen-both _ _ (so-far .no-fault) (sym there ∙ good);
+            no-fault = firstFaultTo-next (faultOf bs) i ∙ andThen-both _ _ (so-far .no-fault) (sym found ∙ h);
             before =
                 record {
                   said = omega arith;
@@ -140,13 +158,15 @@ module _ (bs : List ℕ) (i : ℕ) (identifiers : List Identifier) (boxes : List
                   identifiers-are =
                       set-next (λ k. rowFrom bs (rowPlace bs k) .identifier) i mostRows _ _ identifiers few
                       (so-far .before .identifiers-are)
-                      (ap (λ row. row .identifier) is-row);
+                      (ap (λ row. row .identifier) in-place);
                   boxes-are =
                       set-next (λ k. rowFrom bs (rowPlace bs k) .«box_number») i mostRows _ _ boxes few
                       (so-far .before .boxes-are)
-                      (ap (λ row. row .«box_number») is-row);
+                      (ap (λ row. row .«box_number») in-place);
                 };
-            rows-are = set-next (λ k. rowFrom bs (rowPlace bs k)) i mostRows zeroRow row rows few (so-far .rows-are) is-row;
+            rows-are =
+                set-next (λ k. rowFrom bs (rowPlace bs k)) i mostRows zeroRow (r .row) rows few (so-far .rows-are)
+                in-place;
             place-is =
                 rw (steps-said, windows-said) (ap (placeBehind bs) (so-far .place-is)) ∙ sym (rowPlace-next bs i);
             place-le = omega arith;
@@ -156,48 +176,45 @@ module _ (bs : List ℕ) (i : ℕ) (identifiers : List Identifier) (boxes : List
             steps-le = omega arith;
           }
 
--- what a reading gives behind the header, by what it finds
+  -- every row is read
+  module _ (last : i ≡ rowsSaid bs) where
+    pub steps-counted : steps ≡ stepsInAll (viewOf (loadIn bs))
+    steps-counted =
+        so-far .steps-are ∙ ap (sumTo (λ k. stepsSaid bs (rowPlace bs k))) last ∙ stepsInAll-read bs
+
+    rows-good : firstFaultTo (faultOf bs) (rowsSaid bs) ≡ Good
+    rows-good = ap (firstFaultTo (faultOf bs)) (sym last) ∙ so-far .no-fault
+
+    end-place : at ≡ rowPlace bs (rowsSaid bs)
+    end-place = so-far .place-is ∙ ap (rowPlace bs) last
+
+    -- and the end record is refused, or is Good
+    module _ {c : Checked} (found : c ≡ firstMet (endTests bs at)) where
+      end-found : firstMet (endTests bs (rowPlace bs (rowsSaid bs))) ≡ c
+      end-found = ap (λ at. firstMet (endTests bs at)) (sym end-place) ∙ sym found
+
+      pub end-refused : {refusal : Refusal} → c ≡ Refused refusal
+          → record { answer = Refused refusal; load = zeroLoad } ≡ readRows bs
+      end-refused {refusal} h =
+          let z : firstMet (endTests bs (rowPlace bs (rowsSaid bs))) ≡ Refused refusal = end-found ∙ h in
+          refused bs (rowsFault-parts bs ∙ rw (rows-good, z))
+
+      pub end-good : (count : ℕ) → count ≡ rowsSaid bs → c ≡ Good
+          → record { answer = Good; load = record { rows = count; row = rows } } ≡ readRows bs
+      unfolding loadIn
+      end-good count e h =
+          let z : firstMet (endTests bs (rowPlace bs (rowsSaid bs))) ≡ Good = end-found ∙ h in
+          let filled-rows : rows ≡ filled (λ k. rowFrom bs (rowPlace bs k)) (rowsSaid bs) mostRows zeroRow =
+          so-far .rows-are ∙ ap (λ n. filled (λ k. rowFrom bs (rowPlace bs k)) n mostRows zeroRow) last in
+          ap₂ (λ rows row. record { answer = Good; load = record { rows = rows; row = row } }) e filled-rows
+          ∙ good bs (rowsFault-parts bs ∙ rw (rows-good, z))
+
+-- the header, and what the reading of the file gives behind it
 module _ (bs : List ℕ) where
-  rowsFault-parts : rowsFault bs
-      ≡ andThen (firstFaultTo (faultOf bs) (rowsSaid bs))
-      (andThen (firstMet (endTests bs (rowPlace bs (rowsSaid bs)))) Good)
-  unfolding rowsFault
-  rowsFault-parts = refl
-
-  refused-rows : (r : Refusal) → rowsFault bs ≡ Refused r → record { answer = Refused r; load = zeroLoad } ≡ readRows bs
-  unfolding readRows
-  refused-rows r h = rw h
-
-  -- a row is refused
-  pub readRows-row : (i : ℕ) (r : Refusal) → i < rowsSaid bs → firstFaultTo (faultOf bs) i ≡ Good
-      → faultOf bs i ≡ Refused r → record { answer = Refused r; load = zeroLoad } ≡ readRows bs
-  readRows-row i r l h e =
-      let z = firstFaultTo-refused (faultOf bs) (rowsSaid bs) i r l h e in
-      refused-rows r (rowsFault-parts ∙ rw z)
-
-  -- no row is refused, and the end record is, or is not
-  module _ (at : ℕ) (h : firstFaultTo (faultOf bs) (rowsSaid bs) ≡ Good) (place : at ≡ rowPlace bs (rowsSaid bs)) where
-    pub readRows-end : (r : Refusal) → firstMet (endTests bs at) ≡ Refused r
-        → record { answer = Refused r; load = zeroLoad } ≡ readRows bs
-    readRows-end r e =
-        let z : firstMet (endTests bs (rowPlace bs (rowsSaid bs))) ≡ Refused r =
-        ap (λ at. firstMet (endTests bs at)) (sym place) ∙ e in
-        refused-rows r (rowsFault-parts ∙ rw (h, z))
-
-    pub readRows-good : firstMet (endTests bs at) ≡ Good
-        → record { answer = Good; load = loadIn bs } ≡ readRows bs
-    unfolding readRows
-    readRows-good e =
-        let z : firstMet (endTests bs (rowPlace bs (rowsSaid bs))) ≡ Good =
-        ap (λ at. firstMet (endTests bs at)) (sym place) ∙ e in
-        let w : rowsFault bs ≡ Good = rowsFault-parts ∙ rw (h, z) in
-        rw w
-
   fileFault-parts : fileFault bs ≡ andThen (firstMet (headerTests bs)) (rowsFault bs)
   unfolding fileFault rowsFault
   fileFault-parts = refl
 
-  -- the header is refused, or is not
   pub readLoad-header : (r : Refusal) → firstMet (headerTests bs) ≡ Refused r
       → record { answer = Refused r; load = zeroLoad } ≡ readLoad bs
   unfolding readLoad

@@ -29,7 +29,14 @@ use Rattle.load_file.specs.Places.{
   rowsSaid,
   loadIn,
 }
-use Rattle.load_file.specs.Reading.{dueTests, rowFaultAt, endTests, loadBeside}
+use Rattle.load_file.specs.Reading.{
+  dueTests,
+  stepFaultIn,
+  windowFaultIn,
+  rowFaultAt,
+  endTests,
+  loadBeside,
+}
 
 -- the kind of record with a mark and a size
 abbrev pub kindOf : List ℕ → ℕ → Kind
@@ -73,6 +80,14 @@ unfoldable pub ownFault : List ℕ → ℕ → ℕ → Checked
 ownFault bs i at =
     firstMet
     (dueTests rowKind bs at ++ rowTests (rowFrom bs at) ++ takenTests (loadIn bs) i (rowFrom bs at))
+
+-- what the records of its steps are refused for
+abbrev pub stepsFault : List ℕ → ℕ → Checked
+stepsFault bs at = firstFaultTo (stepFaultIn bs at) (stepsSaid bs at)
+
+-- what the records of its windows are refused for
+abbrev pub windowsFault : List ℕ → ℕ → Checked
+windowsFault bs at = firstFaultTo (windowFaultIn bs at) (windowsSaid bs at)
 
 -- the row beside a finding: a refused row is the row of zeros
 abbrev pub rowBeside : Checked → Row → Row

@@ -16,7 +16,7 @@ use words::byte_at;
 use words::number16_at;
 use words::number32_at;
 ghost use mathlib.Core.Path.{_≡_};
-ghost use Prim.Native.Nat.{_+_, _≤_};
+ghost use Prim.Native.Nat.{_≤_};
 ghost use Rattle.refusals.specs.FirstMet.{firstMet};
 ghost use Rattle.load.specs.Load.{zeroRow};
 ghost use Rattle.load_file.specs.Places.{stepIn, windowIn, rowFrom, stepsSaid, windowsSaid};

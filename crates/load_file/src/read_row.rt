@@ -19,13 +19,19 @@ ghost use mathlib.Core.List.{_++_};
 ghost use mathlib.Core.Path.{_≡_};
 ghost use Prim.Native.Nat.{_≤_};
 ghost use Rattle.refusals.specs.declared.Checked.the-variants.{Refused};
-ghost use Rattle.refusals.specs.FirstMet.{firstMet, firstFaultTo};
+ghost use Rattle.refusals.specs.FirstMet.{firstMet};
 ghost use Rattle.load.specs.Load.{zeroRow};
 ghost use Rattle.load.specs.Faults.{stepTests, windowTests};
 ghost use Rattle.load_file.specs.Records.{stepKind, windowKind};
-ghost use Rattle.load_file.specs.Places.{rowFrom, stepsSaid, windowsSaid};
-ghost use Rattle.load_file.specs.Reading.{dueTests, stepFaultIn, windowFaultIn};
-ghost use Rattle.load_file.specs.ReadingSteps.{RowsBefore, ownFault, readRow};
+ghost use Rattle.load_file.specs.Places.{rowFrom};
+ghost use Rattle.load_file.specs.Reading.{dueTests};
+ghost use Rattle.load_file.specs.ReadingSteps.{
+  RowsBefore,
+  ownFault,
+  stepsFault,
+  windowsFault,
+  readRow,
+};
 
 // What reading a row gives: the refusal that comes first, or Good and the row. A refused row is the
 // row of zeros.
@@ -68,7 +74,8 @@ fn check_own(
 // Checks the record of a row's step j, which is due at a place, and then the step.
 fn check_step_at(bytes: &[u8], place: usize, row: Row, j: usize) -> Checked
     requires { ⌜ place ≤ 8192 ⌝ }
-    ensures { λ r. ⌜ r ≡ firstMet (dueTests stepKind (now (bytes .entry)) place ++ stepTests row j) ⌝ }
+    ensures { λ r. ⌜ r
+        ≡ firstMet (dueTests stepKind (now (bytes .entry)) place ++ stepTests row j) ⌝ }
 {
     match check_due(bytes, place, STEP_MARK, STEP_SIZE) {
         Checked::Good => load::check_step(row, j),
@@ -80,7 +87,7 @@ fn check_step_at(bytes: &[u8], place: usize, row: Row, j: usize) -> Checked
 fn check_steps(bytes: &[u8], at: usize, row: Row) -> Checked
     requires { ⌜ at ≤ 4096 ⌝ }
     requires { ⌜ row ≡ rowFrom (now bytes) at ⌝ }
-    ensures { λ r. ⌜ r ≡ firstFaultTo (stepFaultIn (now (bytes .entry)) at) (stepsSaid (now (bytes .entry)) at) ⌝ }
+    ensures { λ r. ⌜ r ≡ stepsFault (now (bytes .entry)) at ⌝ }
 {
     let from = at + ROW_SIZE;
     let count = row.steps as usize;
@@ -96,7 +103,8 @@ fn check_steps(bytes: &[u8], at: usize, row: Row) -> Checked
 // Checks the record of a row's window k, which is due at a place, and then the window.
 fn check_window_at(bytes: &[u8], place: usize, row: Row, k: usize) -> Checked
     requires { ⌜ place ≤ 8192 ⌝ }
-    ensures { λ r. ⌜ r ≡ firstMet (dueTests windowKind (now (bytes .entry)) place ++ windowTests row k) ⌝ }
+    ensures { λ r. ⌜ r
+        ≡ firstMet (dueTests windowKind (now (bytes .entry)) place ++ windowTests row k) ⌝ }
 {
     match check_due(bytes, place, WINDOW_MARK, WINDOW_SIZE) {
         Checked::Good => load::check_window(row, k),
@@ -108,7 +116,7 @@ fn check_window_at(bytes: &[u8], place: usize, row: Row, k: usize) -> Checked
 fn check_windows(bytes: &[u8], at: usize, row: Row) -> Checked
     requires { ⌜ at ≤ 4096 ⌝ }
     requires { ⌜ row ≡ rowFrom (now bytes) at ⌝ }
-    ensures { λ r. ⌜ r ≡ firstFaultTo (windowFaultIn (now (bytes .entry)) at) (windowsSaid (now (bytes .entry)) at) ⌝ }
+    ensures { λ r. ⌜ r ≡ windowsFault (now (bytes .entry)) at ⌝ }
 {
     let from = at + ROW_SIZE + STEP_SIZE * row.steps as usize;
     let count = row.windows as usize;

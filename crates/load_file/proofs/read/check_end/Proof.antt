@@ -45,7 +45,8 @@ passed c =
     let due = c .before .before in
     let start = due .before .before .args in
     let bs = start .bytes .now in
-    behind-good (dueTests endKind bs (start .at)) (own bs (start .at)) (due .check-due .ensures) (c .enum-told .given .1)
+    behind-good (dueTests endKind bs (start .at)) (own bs (start .at)) (due .check-due .ensures)
+    (c .enum-told .given .1)
 
 miscounted : tie.Need-returns-2
 miscounted c =

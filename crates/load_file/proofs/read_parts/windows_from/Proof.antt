@@ -1,4 +1,5 @@
--- `windows_from` stores one window a turn: before turn k the first k places hold the windows of the file, the others zeros.
+-- `windows_from` stores one window a turn: before turn k the first k places hold the windows of the file, the others
+-- zeros.
 use Prim.Native.Nat.{_+_, _*_, _-_, _≤_, _<_}
 use mathlib.Core.Path.{_≡_, sym, _∙_, ap}
 use native.Mathlib.Omega.{arith}

@@ -1,10 +1,10 @@
 -- `check_steps` asks the records of the row's steps one by one: before turn j no fault is found in the first j.
-use Prim.Native.Nat.{ℕ, _-_, _≤_, _<_}
+use Prim.Native.Nat.{ℕ, _-_, _≤_}
 use mathlib.Core.List.{List, _++_}
 use mathlib.Core.Path.{_≡_, sym, _∙_, ap}
 use native.Mathlib.Omega.{arith}
 use borrow.Author.Needs.{needs}
-use Rattle.refusals.specs.declared.Checked.the-variants.{Good, Refused}
+use Rattle.refusals.specs.declared.Checked.the-variants.{Good}
 use Rattle.refusals.specs.FirstMet.{firstMet, firstFaultTo}
 use Rattle.refusals.proofs.FirstMetLaws.{firstFaultTo-zero, firstFaultTo-next, firstFaultTo-refused, andThen-both}
 use Rattle.load.specs.declared.Row.{Row}

@@ -1,10 +1,10 @@
 -- `check_windows` asks the records of the row's windows one by one: before turn k no fault is found in the first k.
-use Prim.Native.Nat.{ℕ, _+_, _*_, _-_, _≤_, _<_}
+use Prim.Native.Nat.{ℕ, _+_, _*_, _-_, _≤_}
 use mathlib.Core.List.{List, _++_}
 use mathlib.Core.Path.{_≡_, sym, _∙_, ap}
 use native.Mathlib.Omega.{arith}
 use borrow.Author.Needs.{needs}
-use Rattle.refusals.specs.declared.Checked.the-variants.{Good, Refused}
+use Rattle.refusals.specs.declared.Checked.the-variants.{Good}
 use Rattle.refusals.specs.FirstMet.{firstMet, firstFaultTo}
 use Rattle.refusals.proofs.FirstMetLaws.{firstFaultTo-zero, firstFaultTo-next, firstFaultTo-refused, andThen-both}
 use Rattle.load.specs.declared.Row.{Row}
@@ -23,7 +23,8 @@ abbrev μ-loop : tie.MeasureT-loop
 
 -- what is asked in a turn is what the definition asks
 asked : (bs : List ℕ) (at : ℕ) (row : Row) (k : ℕ) → row ≡ rowFrom bs at
-    → firstMet (dueTests windowKind bs (stepPlace at (row .steps) + windowKind .size * k) ++ windowTests row k) ≡ windowFaultIn bs at k
+    → firstMet (dueTests windowKind bs (stepPlace at (row .steps) + windowKind .size * k) ++ windowTests row k)
+    ≡ windowFaultIn bs at k
 unfolding windowFaultIn rowFrom
 asked bs at row k e = rw e
 

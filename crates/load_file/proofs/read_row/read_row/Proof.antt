@@ -4,10 +4,7 @@ use mathlib.Core.Path.{_≡_, sym, ap, _∙_}
 use native.Mathlib.Omega.{arith}
 use borrow.Author.Needs.{needs}
 use Rattle.refusals.specs.declared.Checked.the-variants.{Good, Refused}
-use Rattle.refusals.specs.FirstMet.{firstFaultTo}
-use Rattle.load_file.specs.Places.{stepsSaid, windowsSaid}
-use Rattle.load_file.specs.Reading.{stepFaultIn, windowFaultIn}
-use Rattle.load_file.specs.ReadingSteps.{ownFault}
+use Rattle.load_file.specs.ReadingSteps.{ownFault, stepsFault, windowsFault}
 use Rattle.load_file.proofs.ReadingLaws.{
   rowFaultAt-parts,
   own-steps-le,
@@ -48,7 +45,7 @@ steps-refused c =
     let start = own .before .before .before .before .args in
     let bs = start .bytes .now in
     let at = start .at in
-    let h : firstFaultTo (stepFaultIn bs at) (stepsSaid bs at) ≡ Refused _ =
+    let h : stepsFault bs at ≡ Refused _ =
     sym (steps .check-steps .ensures) ∙ told .refusal2 .given .1 in
     c .no-row2 .ensures
     ∙ readRow-refused bs at (start .i) _ (rowFaultAt-parts bs at (start .i) ∙ rw (own-good own, h))
@@ -56,7 +53,7 @@ steps-refused c =
 steps-good : (c : tie.After-enum-told2)
     → let start = c .before .before .before .before .before .before .before .before .args in
     let bs = start .bytes .now in
-    firstFaultTo (stepFaultIn bs (start .at)) (stepsSaid bs (start .at)) ≡ Good
+    stepsFault bs (start .at) ≡ Good
 steps-good c = sym (c .before .before .check-steps .ensures) ∙ c .enum-told2 .given .1
 
 windows-refused : tie.Need-returns-4
@@ -68,7 +65,7 @@ windows-refused c =
     let start = own .before .before .before .before .args in
     let bs = start .bytes .now in
     let at = start .at in
-    let h : firstFaultTo (windowFaultIn bs at) (windowsSaid bs at) ≡ Refused _ =
+    let h : windowsFault bs at ≡ Refused _ =
     sym (windows .check-windows .ensures) ∙ told .refusal3 .given .1 in
     c .no-row3 .ensures
     ∙ readRow-refused bs at (start .i) _
@@ -82,7 +79,7 @@ good c =
     let start = own .before .before .before .before .args in
     let bs = start .bytes .now in
     let at = start .at in
-    let h : firstFaultTo (windowFaultIn bs at) (windowsSaid bs at) ≡ Good =
+    let h : windowsFault bs at ≡ Good =
     sym (windows .check-windows .ensures) ∙ c .enum-told3 .given .1 in
     ap (λ row. record { answer = Good; row = row }) (steps .before .before .before .row-from .ensures)
     ∙ readRow-good bs at (start .i) (rowFaultAt-parts bs at (start .i) ∙ rw (own-good own, steps-good steps, h))
