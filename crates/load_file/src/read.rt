@@ -24,9 +24,10 @@ ghost use mathlib.Core.Path.{_≡_};
 ghost use Prim.Native.Nat.{_+_, _*_, _≤_};
 ghost use Rattle.refusals.specs.declared.Checked.the-variants.{Refused};
 ghost use Rattle.refusals.specs.FirstMet.{firstMet};
-ghost use Rattle.load.specs.Load.{zeroLoad};
+ghost use Rattle.load.specs.Load.{mostRows, zeroLoad};
 ghost use Rattle.load.specs.View.{viewOf, stepsInAll};
-ghost use Rattle.load_file.specs.Places.{rowsSaid, loadIn};
+ghost use Rattle.load_file.specs.Records.{windowKind};
+ghost use Rattle.load_file.specs.Places.{stepPlace, rowsSaid, loadIn};
 ghost use Rattle.load_file.specs.Reading.{headerTests, endTests};
 ghost use Rattle.load_file.specs.Calls.{ReadLoad};
 ghost use Rattle.load_file.specs.ReadingSteps.{readRows};
@@ -59,7 +60,8 @@ fn check_end(bytes: &[u8], at: usize, steps: u16) -> Checked
         Checked::Good => {}
         Checked::Refused(refusal) => return Checked::Refused(refusal),
     }
-    if number16_at(bytes, at + 2) != steps {
+    let count = number16_at(bytes, at + 2);
+    if count != steps {
         return Checked::Refused(Refusal::EndDiffers);
     }
     if at + END_SIZE < bytes.len() {
@@ -81,7 +83,7 @@ fn no_load(refusal: Refusal) -> Reading
 // Gives the place behind a row whose own record stands at a place.
 fn place_behind(at: usize, row: Row) -> usize
     requires { ⌜ at ≤ 4096 ⌝ }
-    ensures { λ r. ⌜ r ≡ at + 20 + 6 * row .steps + 6 * row .windows ⌝ }
+    ensures { λ r. ⌜ r ≡ stepPlace at (row .steps) + windowKind .size * row .windows ⌝ }
 {
     at + ROW_SIZE + STEP_SIZE * row.steps as usize + WINDOW_SIZE * row.windows as usize
 }
@@ -89,13 +91,13 @@ fn place_behind(at: usize, row: Row) -> usize
 // Reads the rows behind the header, of which it announces at most 24, and then the end record:
 // gives the first refusal that is met and the all-zero load, or Good and the load.
 fn read_rows(bytes: &[u8], rows: u8) -> Reading
-    requires { ⌜ (rows ≡ rowsSaid (now bytes)) × (rows ≤ 24) ⌝ }
+    requires { ⌜ (rows ≡ rowsSaid (now bytes)) × (rows ≤ mostRows) ⌝ }
     ensures { λ r. ⌜ r ≡ readRows (now (bytes .entry)) ⌝ }
 {
     let mut identifiers = [Identifier(0); MOST_ROWS];
     let mut boxes = [BoxNumber(0); MOST_ROWS];
     let zeros = load::zero_row();
-    let mut read = [zeros; MOST_ROWS];
+    let mut kept = [zeros; MOST_ROWS];
     let mut at = HEADER_SIZE;
     let mut steps: u16 = 0;
     let count = rows as usize;
@@ -111,14 +113,14 @@ fn read_rows(bytes: &[u8], rows: u8) -> Reading
         identifiers[i] = identifier;
         let box_number = row.box_number;
         boxes[i] = box_number;
-        read[i] = row;
+        kept[i] = row;
         steps += row.steps as u16;
         at = place_behind(at, row);
     }
     match check_end(bytes, at, steps) {
         Checked::Good => Reading {
             answer: Checked::Good,
-            load: Load { rows, row: read },
+            load: Load { rows, row: kept },
         },
         Checked::Refused(refusal) => no_load(refusal),
     }

@@ -18,7 +18,7 @@ use words::number32_at;
 ghost use mathlib.Core.Path.{_≡_};
 ghost use Prim.Native.Nat.{_≤_};
 ghost use Rattle.refusals.specs.FirstMet.{firstMet};
-ghost use Rattle.load.specs.Load.{zeroRow};
+ghost use Rattle.load.specs.Load.{mostSteps, mostWindows, zeroRow};
 ghost use Rattle.load_file.specs.Places.{stepIn, windowIn, rowFrom, stepsSaid, windowsSaid};
 ghost use Rattle.load_file.specs.Reading.{dueTests};
 ghost use Rattle.load_file.specs.ReadingSteps.{kindOf, stepsFrom, windowsFrom, rowWith};
@@ -53,7 +53,7 @@ fn step_in(bytes: &[u8], at: usize) -> Step
 
 // Gives the steps of so many records from a place on, and zeros in the places behind them.
 fn steps_from(bytes: &[u8], from: usize, count: usize) -> [Step; MOST_STEPS]
-    requires { ⌜ (from ≤ 8000) × (count ≤ 8) ⌝ }
+    requires { ⌜ (from ≤ 8000) × (count ≤ mostSteps) ⌝ }
     ensures { λ r. ⌜ r ≡ stepsFrom (now (bytes .entry)) from count ⌝ }
 {
     let mut steps = [Step { cost: 0, wait: 0 }; MOST_STEPS];
@@ -77,7 +77,7 @@ fn window_in(bytes: &[u8], at: usize) -> Window
 
 // Gives the windows of so many records from a place on, and zeros in the places behind them.
 fn windows_from(bytes: &[u8], from: usize, count: usize) -> [Window; MOST_WINDOWS]
-    requires { ⌜ (from ≤ 8000) × (count ≤ 4) ⌝ }
+    requires { ⌜ (from ≤ 8000) × (count ≤ mostWindows) ⌝ }
     ensures { λ r. ⌜ r ≡ windowsFrom (now (bytes .entry)) from count ⌝ }
 {
     let mut windows = [Window {
@@ -115,7 +115,7 @@ fn row_with(
 
 // Gives the row whose own record stands at a place, with steps and windows of zeros.
 pub fn fields_from(bytes: &[u8], at: usize) -> Row
-    requires { ⌜ at ≤ 8000 ⌝ }
+    requires { ⌜ at ≤ 4096 ⌝ }
     ensures { λ r. ⌜ r ≡ rowWith (now (bytes .entry)) at (zeroRow .step) (zeroRow .window) ⌝ }
 {
     let zeros = load::zero_row();
@@ -127,8 +127,9 @@ pub fn fields_from(bytes: &[u8], at: usize) -> Row
 // Gives the row whose record stands at a place, with its steps and windows, of which the record
 // announces no more than a row has.
 pub fn row_from(bytes: &[u8], at: usize) -> Row
-    requires { ⌜ at ≤ 7000 ⌝ }
-    requires { ⌜ (stepsSaid (now bytes) at ≤ 8) × (windowsSaid (now bytes) at ≤ 4) ⌝ }
+    requires { ⌜ at ≤ 4096 ⌝ }
+    requires { ⌜ stepsSaid (now bytes) at ≤ mostSteps ⌝ }
+    requires { ⌜ windowsSaid (now bytes) at ≤ mostWindows ⌝ }
     ensures { λ r. ⌜ r ≡ rowFrom (now (bytes .entry)) at ⌝ }
 {
     let steps = byte_at(bytes, at + 18) as usize;

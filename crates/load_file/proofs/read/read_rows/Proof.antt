@@ -19,11 +19,11 @@ use Rattle.load_file.proofs.read.read_rows.Statement.{statement}
 use Rattle.load_file.proofs.read.read_rows.Tie as tie
 
 abbrev Inv-loop : tie.InvT-loop
-Inv-loop bytes rows identifiers₀ boxes₀ read₀ at₀ steps₀ count i₀ identifiers boxes read at steps i =
-    (i ≤ count) × RowsRead bytes i identifiers boxes read at steps
+Inv-loop bytes rows identifiers₀ boxes₀ kept₀ at₀ steps₀ count i₀ identifiers boxes kept at steps i =
+    (i ≤ count) × RowsRead bytes i identifiers boxes kept at steps
 
 abbrev μ-loop : tie.MeasureT-loop
-μ-loop bytes rows identifiers₀ boxes₀ read₀ at₀ steps₀ count i₀ identifiers boxes read at steps i = count - i
+μ-loop bytes rows identifiers₀ boxes₀ kept₀ at₀ steps₀ count i₀ identifiers boxes kept at steps i = count - i
 
 starts : tie.Need-loop-holds Inv-loop μ-loop
 starts c = (search needs, rows-none (c .before .before .args .bytes .now) _ (c .zero-row .ensures))
