@@ -88,3 +88,8 @@ module _ {A : Type 0} where
       ∙ set-at (listTo f n) z (replicate (last - (n + 1)) z) (f n) n (listTo-length f n)
       ∙ sym (append-assoc (listTo f n) (f n ∷ []) (replicate (last - (n + 1)) z))
       ∙ ap (λ l. l ++ replicate (last - (n + 1)) z) (sym (listTo-next f n))
+
+  -- the same, of a list and a member that are known by equations
+  pub set-next : (f : ℕ → A) (n last : ℕ) (z a : A) (list : List A) → n < last → list ≡ filled f n last z → a ≡ f n
+      → set list n a ≡ filled f (n + 1) last z
+  set-next f n last z a list h e q = rw (e, q) (set-filled f n last z h)

@@ -9,3 +9,8 @@ pub mod WrittenFile
 pub mod ReadFile
 pub mod ByteLaws
 pub mod RoundTrip
+pub mod ReadingLaws
+pub mod ReadingRowsLaws
+pub mod ReadCallLaws
+pub mod WritingLaws
+pub mod WriteCallLaws

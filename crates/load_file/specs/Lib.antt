@@ -5,3 +5,4 @@ pub mod Places
 pub mod Reading
 pub mod RoundTrip
 pub mod Calls
+pub mod ReadingSteps

@@ -1,6 +1,15 @@
-// The load file: what a reading gives. The reading and writing calls come with their proofs.
+// The load file: its records, reading a load and writing one. A read file is refused with 1 to 8, a
+// load to be written with 3 to 7 or 9.
+mod read;
+mod read_parts;
+mod read_row;
+mod records;
+mod writing;
+
 use load::Load;
+pub use read::read_load;
 use refusals::Checked;
+pub use writing::write_load;
 
 // What a reading gives: the refusal that comes first, or Good and the load. A refused reading gives
 // the all-zero load.

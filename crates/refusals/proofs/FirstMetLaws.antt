@@ -2,7 +2,7 @@
 use Prim.Native.Nat.{ℕ, zero, suc, _+_, _<_}
 use mathlib.Core.Bool.{Bool, true, false}
 use mathlib.Core.List.{List, [], _∷_, _++_}
-use mathlib.Core.Path.{_≡_, refl, ap₂}
+use mathlib.Core.Path.{_≡_, refl, ap₂, _∙_}
 use native.Mathlib.Decide.{ℕ-discrete}
 use native.Mathlib.Numerals.{add-one}
 use native.Mathlib.Omega.{arith}
@@ -90,3 +90,11 @@ firstFaultTo-refused f (suc n) i r l h q =
       | yes e ↦ rw (let z : firstFaultTo f n ≡ Good = rw (← e) h in z) (rw (← e) q)
       | no e ↦ rw (firstFaultTo-refused f n i r (omega arith) h q)
     ]
+
+-- tests behind a list of tests, of which one is met or none
+pub firstMet-append-refused : (ts us : List (Bool × Refusal)) (r : Refusal) → firstMet ts ≡ Refused r
+    → firstMet (ts ++ us) ≡ Refused r
+firstMet-append-refused ts us r h = firstMet-append ts us ∙ rw h
+
+pub firstMet-append-good : (ts us : List (Bool × Refusal)) → firstMet ts ≡ Good → firstMet (ts ++ us) ≡ firstMet us
+firstMet-append-good ts us h = firstMet-append ts us ∙ rw h

@@ -1,12 +1,15 @@
 -- Laws of bytes written over a list from a place on: past the end nothing is written, and what is written in two
--- pieces, one behind the other, is written as one.
-use Prim.Native.Nat.{ℕ, suc, _+_, _≤_, _<_}
+-- pieces, or in many, one behind the other, is written as one.
+use Prim.Native.Nat.{ℕ, suc, _+_, _*_, _≤_, _<_}
 use mathlib.Core.List.{List, [], _∷_, _++_}
-use mathlib.Core.Path.{_≡_, refl, ap, _∙_}
+use mathlib.Core.Path.{_≡_, refl, ap, sym, _∙_}
+use native.Mathlib.Nat.{mul-comm}
 use native.Mathlib.Numerals.{add-one}
 use native.Mathlib.Omega.{arith}
 use lib.ListN.{length, drop, getD, set}
 use lib.Seq.{sets, sets-eq, set-out, drop-cons}
+use Rattle.counting.specs.Lists.{joinTo}
+use Rattle.counting.proofs.ListLaws.{joinTo-zero, joinTo-next, joinTo-length-same}
 
 module _ {A : Type 0} where
   -- from the end on nothing is written
@@ -36,6 +39,34 @@ module _ {A : Type 0} where
       → sets (sets out at xs) next ys ≡ sets out at (xs ++ ys)
   sets-behind out at next xs ys e = ap (λ n. sets (sets out at xs) n ys) e ∙ sets-append out at xs ys
 
+  -- the same, of the outputs as they are after each piece
+  pub sets-more : (out so-far after : List A) (at next : ℕ) (xs ys : List A)
+      → next ≡ at + length xs → so-far ≡ sets out at xs → after ≡ sets so-far next ys
+      → after ≡ sets out at (xs ++ ys)
+  sets-more out so-far after at next xs ys e p q =
+      q ∙ ap (λ l. sets l next ys) p ∙ sets-behind out at next xs ys e
+
   -- from the front on
   pub sets-front : (out xs : List A) → length xs ≤ length out → sets out 0 xs ≡ xs ++ drop (length xs) out
   sets-front out xs h = let e : 0 + length xs ≡ length xs = omega arith in rw e at (sets-eq xs out 0 (omega arith))
+
+  -- of a run of pieces, one behind the other, none is written yet
+  pub sets-joined-zero : (f : ℕ → List A) (out : List A) (at : ℕ) → out ≡ sets out at (joinTo f 0)
+  sets-joined-zero f out at = rw joinTo-zero
+
+  -- so many are written, and then the next, behind them
+  pub sets-joined-next : (f : ℕ → List A) (out so-far after : List A) (at next n : ℕ)
+      → next ≡ at + length (joinTo f n) → so-far ≡ sets out at (joinTo f n) → after ≡ sets so-far next (f n)
+      → after ≡ sets out at (joinTo f (n + 1))
+  sets-joined-next f out so-far after at next n e p q =
+      sets-more out so-far after at next (joinTo f n) (f n) e p q ∙ ap (sets out at) (sym (joinTo-next f n))
+
+  -- the same, of pieces of one length, where the next was made beforehand
+  pub sets-same-next : (f : ℕ → List A) (size : ℕ) → ((i : ℕ) → length (f i) ≡ size)
+      → (out so-far after piece : List A) (at n : ℕ)
+      → so-far ≡ sets out at (joinTo f n) → piece ≡ f n → after ≡ sets so-far (at + size * n) piece
+      → after ≡ sets out at (joinTo f (n + 1))
+  sets-same-next f size h out so-far after piece at n p made q =
+      let so-long : length (joinTo f n) ≡ n * size = joinTo-length-same f size n h in
+      let e : at + size * n ≡ at + length (joinTo f n) = rw (so-long, mul-comm size n) in
+      sets-joined-next f out so-far after at (at + size * n) n e p (q ∙ ap (sets so-far (at + size * n)) made)

@@ -1,0 +1,37 @@
+-- `check_window_at` asks the window's own tests behind those of its record.
+use mathlib.Core.Path.{_∙_}
+use borrow.Author.Needs.{needs}
+use Rattle.load.specs.Faults.{windowTests}
+use Rattle.load_file.specs.Records.{windowKind}
+use Rattle.load_file.specs.Reading.{dueTests}
+use Rattle.load_file.proofs.ReadingLaws.{behind-refused, behind-good}
+use Rattle.load_file.proofs.read_row.check_window_at.Statement.{statement}
+use Rattle.load_file.proofs.read_row.check_window_at.Tie as tie
+
+own : tie.Need-returns
+own c =
+    let due = c .before .before .before in
+    let start = due .before .before .args in
+    c .check-window .ensures
+    ∙ behind-good (dueTests windowKind (start .bytes .now) (start .place)) (windowTests (start .row) (start .k))
+    (due .check-due .ensures)
+    (c .before .enum-told .given .1)
+
+refused : tie.Need-returns-2
+refused c =
+    let due = c .before .before .before in
+    let start = due .before .before .args in
+    behind-refused (dueTests windowKind (start .bytes .now) (start .place)) (windowTests (start .row) (start .k))
+    (due .check-due .ensures)
+    (c .before .refusal .given .1)
+
+pub check-window-at-spec : {M : Type 1} → statement M
+check-window-at-spec =
+    tie.close
+    (tie.spec
+    (λ c κs. search needs)
+    (λ c. search needs)
+    (λ c κs. search needs)
+    (λ c. search needs)
+    own
+    refused)

@@ -1,0 +1,25 @@
+-- The three ways in which a writing call ends, each with what the contract asks of it: the finding is refused, the
+-- output is too short for the answer, or the answer is written.
+use Prim.Native.Nat.{ℕ, _≤_, _<_}
+use mathlib.Core.List.{List}
+use mathlib.Core.Path.{_≡_, refl}
+use lib.ListN.{length}
+use borrow.Author.Tests.{lt-ltb, le-ltb}
+use Rattle.refusals.specs.declared.Refusal.{Refusal}
+use Rattle.refusals.specs.declared.Refusal.the-variants.{OutputShort}
+use Rattle.refusals.specs.declared.Checked.{Checked}
+use Rattle.refusals.specs.declared.Checked.the-variants.{Good, Refused}
+use Rattle.refusals.specs.Given.{Given, written}
+
+module _ (finding : Checked) (answer out : List ℕ) where
+  pub refused-given : (refusal : Refusal) → finding ≡ Refused refusal
+      → Given finding answer out (Refused refusal) out
+  refused-given refusal e = record { finding-is = rw e; output-is = refl }
+
+  pub short-given : finding ≡ Good → length out < length answer
+      → Given finding answer out (Refused OutputShort) out
+  short-given e h = record { finding-is = rw (e, lt-ltb _ _ h); output-is = refl }
+
+  pub written-given : (after : List ℕ) → finding ≡ Good → length answer ≤ length out → after ≡ written answer out
+      → Given finding answer out Good after
+  written-given after e h w = record { finding-is = rw (e, le-ltb _ _ h); output-is = w }
