@@ -1,6 +1,7 @@
 -- Laws of finite sums, tests, lists, searches and sorting, over any length.
 pub mod SumLaws
 pub mod TestLaws
+pub mod FromLaws
 pub mod MaxLaws
 pub mod ListLaws
 pub mod MemberLaws

@@ -1,4 +1,5 @@
--- Laws of a load: what an accepted one has, and what its windows give.
+-- Laws of a load: its parts and its check, what an accepted one has, and what its windows give.
+pub mod ChainLaws
 pub mod AcceptableLaws
 pub mod AcceptableGood
 pub mod WindowChain
