@@ -5,6 +5,7 @@ pub mod faults;
 pub mod parts;
 pub mod ranges;
 pub mod taken;
+pub mod windows;
 mod zeros;
 
 pub use faults::check_fields;
@@ -20,6 +21,7 @@ pub use ranges::MOST_STEPS;
 pub use ranges::MOST_WINDOWS;
 pub use taken::box_taken;
 pub use taken::identifier_taken;
+pub use windows::embedded_at;
 
 // A logger's identifier, 1 to 4,294,967,295.
 pub struct Identifier(pub u32);
