@@ -10,5 +10,6 @@ pub mod SortLaws
 pub mod NumbersLaws
 pub mod SmallestLaws
 pub mod ThresholdLaws
+pub mod PairLaws
 pub mod KeepLaws
 pub mod KeptTests

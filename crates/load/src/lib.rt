@@ -16,6 +16,7 @@ pub use parts::step_at;
 pub use parts::window_at;
 pub use parts::zero_load;
 pub use parts::zero_row;
+pub use ranges::LARGEST_COST;
 pub use ranges::MOST_ROWS;
 pub use ranges::MOST_STEPS;
 pub use ranges::MOST_WINDOWS;

@@ -1,0 +1,2 @@
+-- The code of bound, margins and verdict: what its parts give, and what its calls promise.
+pub mod Parts

@@ -1,0 +1,26 @@
+-- What the parts of the code give, of the numbers of one place and of one row. The promises do not
+-- cite this page: laws join it to document 01's definitions.
+use Prim.Native.Nat.{ℕ, _≤_, _<_}
+use mathlib.Core.Bool.{Bool, true, false, _&&_, not}
+use mathlib.Core.List.{List}
+use mathlib.Core.Path.{_≡_}
+use lib.Dec.{eqb}
+use lib.ListN.{getD}
+use Rattle.load.specs.Load.{mostRows, largestCost}
+
+-- a row's number at a place
+abbrev pub at : List ℕ → ℕ → ℕ
+at numbers k = getD numbers k 0
+
+-- whether a row is marked
+abbrev pub isMarked : List Bool → ℕ → Bool
+isMarked marks k = getD marks k false
+
+-- whether a row other than i is marked
+abbrev pub isOther : List Bool → ℕ → ℕ → Bool
+isOther marks i k = not (eqb k i) && isMarked marks k
+
+-- at most 24 rows, of which those that are marked have a cost
+pub record Costed (n : ℕ) (costs : List ℕ) (marks : List Bool) : Type 0 where
+  pub few : n ≤ mostRows
+  pub small : (k : ℕ) → k < n → isMarked marks k ≡ true → at costs k ≤ largestCost

@@ -1,0 +1,2 @@
+// The bound of a load, its margins and its verdict.
+mod smallest;
