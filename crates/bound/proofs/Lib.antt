@@ -1,1 +1,2 @@
--- Test
+-- Laws that join the parts of the code to the definitions, and sameness of results.
+pub mod FlagLaws

@@ -6,6 +6,8 @@ use mathlib.Core.List.{List}
 use mathlib.Core.Path.{_≡_}
 use lib.Dec.{eqb}
 use lib.ListN.{getD}
+use Rattle.counting.specs.Sums.{countTo}
+use Rattle.counting.proofs.PairLaws.{pairsBelow, pairsUpTo}
 use Rattle.load.specs.Load.{mostRows, largestCost}
 
 -- a row's number at a place
@@ -24,3 +26,10 @@ isOther marks i k = not (eqb k i) && isMarked marks k
 pub record Costed (n : ℕ) (costs : List ℕ) (marks : List Bool) : Type 0 where
   pub few : n ≤ mostRows
   pub small : (k : ℕ) → k < n → isMarked marks k ≡ true → at costs k ≤ largestCost
+
+-- of the r pairs of marked rows at most r costs are below t, at least r are at most t, and t is at
+-- most the largest cost
+pub record Splits (here next : ℕ → ℕ) (p : ℕ → Bool) (n t : ℕ) : Type 0 where
+  pub most : t ≤ largestCost
+  pub below : pairsBelow here next p n t ≤ countTo p n
+  pub up-to : countTo p n ≤ pairsUpTo here next p n t

@@ -1,46 +1,43 @@
+-- `count_marked` counts one row a turn.
+use Prim.Native.Nat.{_-_, _≤_}
+use mathlib.Core.Bool.{Bool}
+use mathlib.Core.Path.{_≡_, sym, _∙_, ap}
+use native.Mathlib.Omega.{arith}
 use borrow.Author.Needs.{needs}
+use Rattle.counting.specs.Sums.{countTo}
+use Rattle.counting.proofs.SumLaws.{sumTo-zero, sumTo-next}
+use Rattle.bound.specs.Parts.{isMarked}
+use Rattle.bound.proofs.FlagLaws.{boolByte-bit, bit-le}
 use Rattle.bound.proofs.smallest.count_marked.Statement.{statement}
 use Rattle.bound.proofs.smallest.count_marked.Tie as tie
-use Rattle.bound.proofs.smallest.count_marked.Reads as reads
-use Rattle.bound.proofs.smallest.count_marked.Lts as lts
 
 abbrev Inv-loop : tie.InvT-loop
-Inv-loop n marks count₀ k₀ count k = ?
+Inv-loop n marks count₀ k₀ count k = (k ≤ n) × (count ≡ countTo (isMarked marks) k) × (count ≤ k)
 
 abbrev μ-loop : tie.MeasureT-loop
-μ-loop n marks count₀ k₀ count k = ?
+μ-loop n marks count₀ k₀ count k = n - k
 
--- src/smallest.rt:18:5
-loop-holds : tie.Need-loop-holds Inv-loop μ-loop
-loop-holds c = search needs
+-- what a turn adds
+turn : (c : tie.In-loop Inv-loop μ-loop) → Bool
+turn c = isMarked (c .before .before .args .marks .now) (c .before .loop .k)
 
--- src/smallest.rt:19:18
-element-copy-out-count : tie.Need-element-copy-out-count Inv-loop μ-loop
-element-copy-out-count c = search needs
-
--- src/smallest.rt:19:18
-cast-count : tie.Need-cast-count Inv-loop μ-loop
-cast-count c = search needs
-
--- src/smallest.rt:19:9
 add-count : tie.Need-add-count Inv-loop μ-loop
-add-count c = search needs
+unfolding turn
+add-count c = omega (arith, boolByte-bit (turn (c .before)), bit-le (turn (c .before)))
 
--- src/smallest.rt:18:9
-add-k : tie.Need-add-k Inv-loop μ-loop
-add-k c = search needs
-
--- src/smallest.rt:18:5
-loop-less : tie.Need-loop-less Inv-loop μ-loop
-loop-less c = search needs
-
--- src/smallest.rt:18:5
 loop-again : tie.Need-loop-again Inv-loop μ-loop
-loop-again c = search needs
+unfolding turn
+loop-again c = (
+  search needs,
+  rw sumTo-next (omega (arith, boolByte-bit (turn (c .before)))),
+  omega (arith, boolByte-bit (turn (c .before)), bit-le (turn (c .before))),
+)
 
--- src/smallest.rt:13:1
 returns : tie.Need-returns Inv-loop μ-loop
-returns c = search needs
+returns c =
+    let start = c .before .before in
+    let e : c .before .loop .k ≡ start .args .n = omega arith in
+    (c .before .loop .inv .1 ∙ ap (countTo (isMarked (start .args .marks .now))) e, omega arith)
 
 pub count-marked-spec : {M : Type 1} → statement M
 count-marked-spec =
@@ -48,11 +45,11 @@ count-marked-spec =
     (tie.spec
     Inv-loop
     μ-loop
-    loop-holds
-    element-copy-out-count
-    cast-count
+    (λ c. (search needs, sym (sumTo-zero _), search needs))
+    (λ c. search needs)
+    (λ c. tt)
     add-count
-    add-k
-    loop-less
+    (λ c. search needs)
+    (λ c. search needs)
     loop-again
     returns)
