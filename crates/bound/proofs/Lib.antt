@@ -1,2 +1,3 @@
 -- Laws that join the parts of the code to the definitions, and sameness of results.
 pub mod FlagLaws
+pub mod MarkLaws

@@ -1,13 +1,13 @@
 -- What the parts of the code give, of the numbers of one place and of one row. The promises do not
 -- cite this page: laws join it to document 01's definitions.
-use Prim.Native.Nat.{ℕ, _≤_, _<_}
-use mathlib.Core.Bool.{Bool, true, false, _&&_, not}
+use Prim.Native.Nat.{ℕ, _-_, _≤_, _<_}
+use mathlib.Core.Bool.{Bool, true, false, cond, _&&_, not}
 use mathlib.Core.List.{List}
 use mathlib.Core.Path.{_≡_}
 use lib.Dec.{eqb}
 use lib.ListN.{getD}
 use Rattle.counting.specs.Sums.{countTo}
-use Rattle.counting.proofs.PairLaws.{pairsBelow, pairsUpTo}
+use Rattle.counting.proofs.PairLaws.{pairsBelow, pairsUpTo, pairsSmallest}
 use Rattle.load.specs.Load.{mostRows, largestCost}
 
 -- a row's number at a place
@@ -33,3 +33,10 @@ pub record Splits (here next : ℕ → ℕ) (p : ℕ → Bool) (n t : ℕ) : Typ
   pub most : t ≤ largestCost
   pub below : pairsBelow here next p n t ≤ countTo p n
   pub up-to : countTo p n ≤ pairsUpTo here next p n t
+
+-- what is left of the wait of row i, where it is free
+unfoldable pub leftAt : ℕ → List ℕ → List ℕ → List Bool → List ℕ → List Bool → ℕ → ℕ
+leftAt n here next pairs waits frees i =
+    cond (isMarked frees i)
+    (at waits i - pairsSmallest (at here) (at next) (isOther pairs i) n)
+    0

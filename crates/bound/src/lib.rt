@@ -1,2 +1,3 @@
 // The bound of a load, its margins and its verdict.
 mod smallest;
+mod waits;
