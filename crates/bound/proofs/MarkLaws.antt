@@ -1,6 +1,6 @@
 -- Rows that are marked: taking one mark away leaves the others, and the costs of those are as small.
-use Prim.Native.Nat.{ℕ, _≤_, _<_}
-use mathlib.Core.Bool.{Bool, true, false, _&&_, not}
+use Prim.Native.Nat.{ℕ}
+use mathlib.Core.Bool.{Bool, false, _&&_, not}
 use mathlib.Core.List.{List}
 use mathlib.Core.Path.{_≡_, refl, sym, ap, _∙_}
 use native.Mathlib.Decide.{ℕ-discrete, decLt}
@@ -27,7 +27,10 @@ module _ (marks : List Bool) (i : ℕ) where
   pub isOther-is : (k : ℕ) → isMarked (set marks i false) k ≡ isOther marks i k
   isOther-is k =
       elim (ℕ-discrete k i) [
-        | yes e ↦ ap (isMarked (set marks i false)) e ∙ unmarked ∙ sym (ap (λ b. not b && isMarked marks k) (eq-eqb k i e))
+        | yes e ↦
+            ap (isMarked (set marks i false)) e
+            ∙ unmarked
+            ∙ sym (ap (λ b. not b && isMarked marks k) (eq-eqb k i e))
         | no e ↦ getD-set-other marks i k false false e ∙ sym (ap (λ b. not b && isMarked marks k) (ne-eqb k i e))
       ]
 

@@ -1,14 +1,14 @@
 -- What the parts of the code give, of the numbers of one place and of one row. The promises do not
 -- cite this page: laws join it to document 01's definitions.
-use Prim.Native.Nat.{ℕ, _-_, _≤_, _<_}
-use mathlib.Core.Bool.{Bool, true, false, cond, _&&_, not}
+use Prim.Native.Nat.{ℕ, _≤_, _<_}
+use mathlib.Core.Bool.{Bool, true, false, _&&_, not}
 use mathlib.Core.List.{List}
 use mathlib.Core.Path.{_≡_}
-use lib.Dec.{eqb}
+use lib.Dec.{eqb, ltb}
 use lib.ListN.{getD}
-use Rattle.counting.specs.Sums.{countTo}
-use Rattle.counting.proofs.PairLaws.{pairsBelow, pairsUpTo, pairsSmallest}
+use Rattle.load.specs.declared.Row.{Row}
 use Rattle.load.specs.Load.{mostRows, largestCost}
+use Rattle.load.specs.View.{rowWindows, embeddedAmong}
 
 -- a row's number at a place
 abbrev pub at : List ℕ → ℕ → ℕ
@@ -27,16 +27,6 @@ pub record Costed (n : ℕ) (costs : List ℕ) (marks : List Bool) : Type 0 wher
   pub few : n ≤ mostRows
   pub small : (k : ℕ) → k < n → isMarked marks k ≡ true → at costs k ≤ largestCost
 
--- of the r pairs of marked rows at most r costs are below t, at least r are at most t, and t is at
--- most the largest cost
-pub record Splits (here next : ℕ → ℕ) (p : ℕ → Bool) (n t : ℕ) : Type 0 where
-  pub most : t ≤ largestCost
-  pub below : pairsBelow here next p n t ≤ countTo p n
-  pub up-to : countTo p n ≤ pairsUpTo here next p n t
-
--- what is left of the wait of row i, where it is free
-unfoldable pub leftAt : ℕ → List ℕ → List ℕ → List Bool → List ℕ → List Bool → ℕ → ℕ
-leftAt n here next pairs waits frees i =
-    cond (isMarked frees i)
-    (at waits i - pairsSmallest (at here) (at next) (isOther pairs i) n)
-    0
+-- a row has a step at place j, and it is free
+abbrev pub freeIn : Row → ℕ → Bool
+freeIn row j = ltb j (row .steps) && not (embeddedAmong j (rowWindows row))

@@ -7,9 +7,15 @@ ghost use mathlib.Core.Bool.{cond};
 ghost use Prim.Native.Nat.{_*_, _≤_};
 ghost use lib.Dec.{ltb};
 ghost use Rattle.counting.specs.Sums.{countTo};
-ghost use Rattle.counting.proofs.PairLaws.{pairsSmallest, pairsUpTo, pairsBelow, pairsSumBelow};
-ghost use Rattle.load.specs.Load.{mostRows};
-ghost use Rattle.bound.specs.Parts.{at, isMarked, Costed, Splits};
+ghost use Rattle.counting.proofs.PairLaws.{
+  pairsSmallest,
+  pairsUpTo,
+  pairsBelow,
+  pairsSumBelow,
+  Splits,
+};
+ghost use Rattle.load.specs.Load.{mostRows, largestCost};
+ghost use Rattle.bound.specs.Parts.{at, isMarked, Costed};
 
 // Gives how many of the first n rows are marked.
 fn count_marked(n: usize, marks: &[bool; MOST_ROWS]) -> u32
@@ -103,7 +109,8 @@ fn splitting_cost(
     requires { ⌜ Costed n (now here) (now marks)
         × (r ≡ countTo (isMarked (now marks)) n) ⌝ }
     ensures { λ t. ⌜ Splits
-        (at (now (here .entry))) (at (now (next .entry))) (isMarked (now (marks .entry))) n t ⌝ }
+        (at (now (here .entry))) (at (now (next .entry))) (isMarked (now (marks .entry))) n t
+        × (t ≤ largestCost) ⌝ }
 {
     let mut low: u16 = 0;
     let mut high: u16 = LARGEST_COST as u16;

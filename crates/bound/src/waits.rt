@@ -2,11 +2,12 @@
 // the largest of it at a place.
 use crate::smallest::smallest_sum;
 use load::MOST_ROWS;
+ghost use mathlib.Core.Bool.{cond};
 ghost use mathlib.Core.Path.{_≡_};
-ghost use Prim.Native.Nat.{_-_, _≤_, _<_, max};
+ghost use Prim.Native.Nat.{_-_, _<_, max};
 ghost use Rattle.counting.specs.Sums.{maxTo};
 ghost use Rattle.counting.proofs.PairLaws.{pairsSmallest};
-ghost use Rattle.bound.specs.Parts.{at, isOther, Costed, leftAt};
+ghost use Rattle.bound.specs.Parts.{at, isMarked, isOther, Costed};
 
 // Gives the larger of two numbers.
 fn larger(a: u16, b: u16) -> u16
@@ -15,8 +16,8 @@ fn larger(a: u16, b: u16) -> u16
     if a < b { b } else { a }
 }
 
-// Gives what is left of row i's wait: the wait less the r smallest of the 2r costs of the other rows
-// that are paired, or 0.
+// Gives what is left of row i's wait: the wait less the r smallest of the 2r costs of the other
+// rows that are paired, or 0.
 fn wait_left(
     n: usize,
     here: &[u16; MOST_ROWS],

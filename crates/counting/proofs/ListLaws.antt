@@ -92,6 +92,11 @@ module _ {A : Type 0} where
       ∙ sym (append-assoc (listTo f n) (f n ∷ []) (replicate (last - (n + 1)) z))
       ∙ ap (λ l. l ++ replicate (last - (n + 1)) z) (sym (listTo-next f n))
 
+  -- such a store, of a value that is known to be the one
+  pub filled-stored : (f : ℕ → A) (n last : ℕ) (z v : A) (l : List A) → l ≡ filled f n last z → v ≡ f n → n < last
+      → set l n v ≡ filled f (n + 1) last z
+  filled-stored f n last z v l e q h = ap₂ (λ l v. set l n v) e q ∙ set-filled f n last z h
+
   -- a filled array, place by place
   pub filled-listTo : (f : ℕ → A) (n last : ℕ) (z : A) → n ≤ last
       → filled f n last z ≡ listTo (λ i. cond (ltb i n) (f i) z) last

@@ -42,6 +42,11 @@ pairsBelow f g p n t = pairTotal f g p n (λ a. bit (ltb a t))
 abbrev pub pairsSumBelow : (ℕ → ℕ) → (ℕ → ℕ) → (ℕ → Bool) → ℕ → ℕ → ℕ
 pairsSumBelow f g p n t = pairTotal f g p n (λ a. cond (ltb a t) a 0)
 
+-- a value that splits the 2r members: at most r are below it, at least r are up to it
+pub record Splits (f g : ℕ → ℕ) (p : ℕ → Bool) (n t : ℕ) : Type 0 where
+  pub below : pairsBelow f g p n t ≤ countTo p n
+  pub up-to : countTo p n ≤ pairsUpTo f g p n t
+
 module _ {A : Type 0} where
   joinIn-append : (h : ℕ → List A) (s t : List ℕ) → joinIn h (s ++ t) ≡ joinIn h s ++ joinIn h t
   unfolding joinIn

@@ -14,12 +14,12 @@ missing-le : (c : tie.After-sum-below)
     (split .before .count-marked .result - c .before .count-below .result) * split .splitting-cost .result ≤ 14400
 missing-le c =
     let split = c .before .before in
-    mul-le-mul {n₂ = 24} {m₂ = 600} (omega arith) (split .splitting-cost .ensures .most)
+    mul-le-mul {n₂ = 24} {m₂ = 600} (omega arith) (split .splitting-cost .ensures .1)
 
 returns : tie.Need-returns
 returns c =
     let split = c .before .before in
-    let splits = split .splitting-cost .ensures in
+    let splits = split .splitting-cost .ensures .0 in
     let d : ℕ = split .before .count-marked .result - c .before .count-below .result in
     ap (λ s. s + d * split .splitting-cost .result) (c .sum-below .ensures .0)
     ∙ sym (pairsSmallest-threshold _ _ _ _ _ d (omega arith) (splits .up-to))

@@ -1,7 +1,7 @@
 -- `splitting_cost` halves the costs from low to high: at most r are below low, and at least r are at most high. Where
 -- the two meet is the cost.
 use Prim.Native.Nat.{ℕ, _+_, _-_, _/_, _≤_}
-use mathlib.Core.Path.{_≡_, sym, _∙_, ap}
+use mathlib.Core.Path.{_≡_}
 use native.Mathlib.Omega.{arith}
 use borrow.Author.Needs.{needs}
 use Rattle.counting.proofs.PairLaws.{
@@ -65,11 +65,13 @@ returns : tie.Need-returns Inv-loop μ-loop
 returns c =
     let start = c .before .before in
     let e : c .before .loop .high ≡ c .before .loop .low = omega arith in
-    record {
-      most = omega arith;
-      below = omega (arith, start .pre .1);
-      up-to = rw (← start .pre .1, ← e) (c .before .loop .inv .3);
-    }
+    (
+      record {
+        below = omega (arith, start .pre .1);
+        up-to = rw (← start .pre .1, ← e) (c .before .loop .inv .3);
+      },
+      omega arith,
+    )
 
 pub splitting-cost-spec : {M : Type 1} → statement M
 splitting-cost-spec =

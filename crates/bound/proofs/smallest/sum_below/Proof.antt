@@ -1,11 +1,9 @@
 -- `sum_below` adds one row a turn, of a marked one both costs that are below t.
-use Prim.Native.Nat.{_+_, _*_, _-_, _≤_}
-use mathlib.Core.Bool.{cond}
+use Prim.Native.Nat.{_*_, _-_, _≤_}
 use mathlib.Core.Path.{_≡_, sym, _∙_, ap}
 use mathlib.Core.Logic.{⊎-elim}
 use native.Mathlib.Omega.{arith}
 use borrow.Author.Needs.{needs}
-use lib.Dec.{ltb}
 use Rattle.counting.proofs.PairLaws.{pairsSumBelow, pairTotal-zero, pairTotal-next}
 use Rattle.bound.specs.Parts.{at, isMarked}
 use Rattle.bound.proofs.smallest.sum_below.Statement.{statement}
@@ -21,7 +19,8 @@ abbrev μ-loop : tie.MeasureT-loop
 loop-again : tie.Need-loop-again Inv-loop μ-loop
 loop-again c = (
   search needs,
-  rw pairTotal-next (⊎-elim (λ w. rw (w .0 .taken) (omega arith)) (λ w. rw (w .0 .left) (omega arith)) (c .if1 .came)),
+  rw pairTotal-next
+      (⊎-elim (λ w. rw (w .0 .taken) (omega arith)) (λ w. rw (w .0 .left) (omega arith)) (c .if1 .came)),
   ⊎-elim (λ w. omega arith) (λ w. omega arith) (c .if1 .came),
 )
 

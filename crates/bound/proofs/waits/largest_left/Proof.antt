@@ -1,14 +1,22 @@
 -- `largest_left` looks at one row a turn, and keeps the largest of what is left of the free waits.
-use Prim.Native.Nat.{_-_, _≤_}
+use Prim.Native.Nat.{ℕ, _-_, _≤_}
+use mathlib.Core.Bool.{Bool, cond}
+use mathlib.Core.List.{List}
 use mathlib.Core.Path.{_≡_, sym, _∙_, ap}
 use mathlib.Core.Logic.{⊎-elim}
 use native.Mathlib.Omega.{arith}
 use borrow.Author.Needs.{needs}
 use Rattle.counting.specs.Sums.{maxTo}
 use Rattle.counting.proofs.SumLaws.{maxTo-zero, maxTo-next}
-use Rattle.bound.specs.Parts.{leftAt}
+use Rattle.counting.proofs.PairLaws.{pairsSmallest}
+use Rattle.bound.specs.Parts.{at, isMarked, isOther}
 use Rattle.bound.proofs.waits.largest_left.Statement.{statement}
 use Rattle.bound.proofs.waits.largest_left.Tie as tie
+
+-- what is left of the wait of row i, where it is free
+abbrev leftAt : ℕ → List ℕ → List ℕ → List Bool → List ℕ → List Bool → ℕ → ℕ
+leftAt n here next pairs waits frees i =
+    cond (isMarked frees i) (at waits i - pairsSmallest (at here) (at next) (isOther pairs i) n) 0
 
 abbrev Inv-loop : tie.InvT-loop
 Inv-loop n here next pairs waits frees most₀ i₀ most i =
@@ -18,7 +26,6 @@ abbrev μ-loop : tie.MeasureT-loop
 μ-loop n here next pairs waits frees most₀ i₀ most i = n - i
 
 loop-again : tie.Need-loop-again Inv-loop μ-loop
-unfolding leftAt
 loop-again c = (
   search needs,
   rw maxTo-next
