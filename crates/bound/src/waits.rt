@@ -50,9 +50,9 @@ fn largest_left(
     frees: &[bool; MOST_ROWS],
 ) -> u16
     requires { ⌜ Costed n (now here) pairs ⌝ }
-    ensures { λ r. ⌜ r ≡ maxTo
-        (leftAt n (now (here .entry)) (now (next .entry)) pairs
-        (now (waits .entry)) (now (frees .entry))) n ⌝ }
+    ensures { λ r. ⌜ r ≡ maxTo (λ i. cond (isMarked (now (frees .entry)) i)
+        (at (now (waits .entry)) i - pairsSmallest
+        (at (now (here .entry))) (at (now (next .entry))) (isOther pairs i) n) 0) n ⌝ }
 {
     let mut most: u16 = 0;
     for i in 0..n {

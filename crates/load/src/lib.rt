@@ -1,6 +1,7 @@
 // A load held in memory, by value. Identifiers and box numbers come from separate registers, so
 // each has a type of its own, and a row cannot be built with the two exchanged.
 mod chains;
+pub mod check;
 pub mod faults;
 pub mod parts;
 pub mod ranges;
@@ -8,6 +9,7 @@ pub mod taken;
 pub mod windows;
 mod zeros;
 
+pub use check::check_load;
 pub use faults::check_fields;
 pub use faults::check_step;
 pub use faults::check_window;
