@@ -1,3 +1,6 @@
 -- Laws that join the parts of the code to the definitions, and sameness of results.
 pub mod FlagLaws
 pub mod MarkLaws
+pub mod AcceptedLaws
+pub mod PlaceLaws
+pub mod KeptLaws

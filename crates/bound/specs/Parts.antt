@@ -1,13 +1,14 @@
 -- What the parts of the code give, of the numbers of one place and of one row. The promises do not
 -- cite this page: laws join it to document 01's definitions.
-use Prim.Native.Nat.{ℕ, _≤_, _<_}
-use mathlib.Core.Bool.{Bool, true, false, _&&_, not}
+use Prim.Native.Nat.{ℕ, suc, _+_, _-_, _≤_, _<_, min}
+use mathlib.Core.Bool.{Bool, true, false, cond, _&&_, not}
 use mathlib.Core.List.{List}
 use mathlib.Core.Path.{_≡_}
 use lib.Dec.{eqb, ltb}
 use lib.ListN.{getD}
+use Rattle.counting.specs.Searches.{firstTo}
 use Rattle.load.specs.declared.Row.{Row}
-use Rattle.load.specs.Load.{mostRows, largestCost}
+use Rattle.load.specs.Load.{mostRows, largestCost, stepAt}
 use Rattle.load.specs.View.{rowWindows, embeddedAmong}
 
 -- a row's number at a place
@@ -30,3 +31,16 @@ pub record Costed (n : ℕ) (costs : List ℕ) (marks : List Bool) : Type 0 wher
 -- a row has a step at place j, and it is free
 abbrev pub freeIn : Row → ℕ → Bool
 freeIn row j = ltb j (row .steps) && not (embeddedAmong j (rowWindows row))
+
+-- how many steps a row keeps that keeps its first ones for certain
+unfoldable pub keptFrom : Row → ℕ → ℕ
+keptFrom row first =
+    first + firstTo (λ d. not (embeddedAmong (first + d) (rowWindows row))) (row .steps - first)
+
+-- how many steps a row keeps when the load is cut at m
+abbrev pub keptOf : Row → ℕ → ℕ
+keptOf row m = keptFrom row (min m (row .steps))
+
+-- the wait after step j of a row, where it is embedded
+abbrev pub waitIn : Row → ℕ → ℕ
+waitIn row j = cond (embeddedAmong (suc j) (rowWindows row)) (stepAt row j .wait) 0

@@ -1,4 +1,5 @@
 // The bound of a load, its margins and its verdict.
+mod cut;
 mod places;
 mod smallest;
 mod waits;

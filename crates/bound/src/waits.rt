@@ -1,12 +1,20 @@
 // W: what is left of a free wait once the r smallest of the other rows' 2r costs are taken off, and
 // the largest of it at a place.
+use crate::places::costs_at;
+use crate::places::frees_at;
+use crate::places::pairs_at;
+use crate::places::waits_at;
 use crate::smallest::smallest_sum;
+use load::Load;
 use load::MOST_ROWS;
 ghost use mathlib.Core.Bool.{cond};
 ghost use mathlib.Core.Path.{_≡_};
 ghost use Prim.Native.Nat.{_-_, _<_, max};
 ghost use Rattle.counting.specs.Sums.{maxTo};
 ghost use Rattle.counting.proofs.PairLaws.{pairsSmallest};
+ghost use Rattle.load.specs.View.{viewOf};
+ghost use Rattle.load.specs.Acceptable.{Acceptable};
+ghost use Rattle.rules.specs.Bound.{smallestCosts, largestW};
 ghost use Rattle.bound.specs.Parts.{at, isMarked, isOther, Costed};
 
 // Gives the larger of two numbers.
@@ -61,4 +69,18 @@ fn largest_left(
         }
     }
     most
+}
+
+// Gives the largest W at a place, and 0 where no row has a free wait there.
+pub fn largest_w(load: Load, j: usize) -> u16
+    requires { ⌜ Acceptable (viewOf load) × (j < 8) ⌝ }
+    ensures { λ r. ⌜ r ≡ largestW smallestCosts (viewOf load) j ⌝ }
+{
+    let rows = load.rows as usize;
+    let here = costs_at(load, j);
+    let next = costs_at(load, j + 1);
+    let pairs = pairs_at(load, j);
+    let waits = waits_at(load, j);
+    let frees = frees_at(load, j + 1);
+    largest_left(rows, &here, &next, pairs, &waits, &frees)
 }
