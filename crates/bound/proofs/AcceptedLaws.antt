@@ -7,7 +7,7 @@ use Rattle.counting.specs.Sums.{sumTo}
 use Rattle.counting.proofs.SumLaws.{sumTo-ext}
 use Rattle.counting.proofs.SortLaws.{at-Every}
 use Rattle.load.specs.declared.Load.{Load}
-use Rattle.load.specs.Load.{mostRows, mostSteps, noWindow, rowAt}
+use Rattle.load.specs.Load.{mostRows, mostSteps, lastMoment, noWindow, rowAt}
 use Rattle.load.specs.View.{View, viewOf}
 use Rattle.load.specs.Acceptable.{Acceptable}
 use Rattle.rules.specs.Cut.{kept, cut}
@@ -73,3 +73,7 @@ module _ (load : Load) (ok : Acceptable (viewOf load)) where
   pub accepted-steps : (i : ℕ) → i < load .rows → (1 ≤ rowAt load i .steps) × (rowAt load i .steps ≤ mostSteps)
   unfolding viewOf
   accepted-steps i l = (ok .steps-least i l, ok .steps-most i l)
+
+  pub accepted-deadline : (i : ℕ) → i < load .rows → rowAt load i .deadline ≤ lastMoment
+  unfolding viewOf
+  accepted-deadline i l = ok .deadline-most i l

@@ -4,3 +4,4 @@ pub mod MarkLaws
 pub mod AcceptedLaws
 pub mod PlaceLaws
 pub mod KeptLaws
+pub mod SignLaws

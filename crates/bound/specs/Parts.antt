@@ -5,11 +5,14 @@ use mathlib.Core.Bool.{Bool, true, false, cond, _&&_, not}
 use mathlib.Core.List.{List}
 use mathlib.Core.Path.{_≡_}
 use lib.Dec.{eqb, ltb}
+use lib.IntN.{ℤ, pos}
 use lib.ListN.{getD}
+use Rattle.counting.specs.Sums.{sumTo}
 use Rattle.counting.specs.Searches.{firstTo}
 use Rattle.load.specs.declared.Row.{Row}
 use Rattle.load.specs.Load.{mostRows, largestCost, stepAt}
-use Rattle.load.specs.View.{rowWindows, embeddedAmong}
+use Rattle.load.specs.View.{View, rowWindows, embeddedAmong}
+use Rattle.rules.specs.Bound.{largestW, smallestCosts}
 
 -- a row's number at a place
 abbrev pub at : List ℕ → ℕ → ℕ
@@ -44,3 +47,11 @@ keptOf row m = keptFrom row (min m (row .steps))
 -- the wait after step j of a row, where it is embedded
 abbrev pub waitIn : Row → ℕ → ℕ
 waitIn row j = cond (embeddedAmong (suc j) (rowWindows row)) (stepAt row j .wait) 0
+
+-- the largest W's of the first k places, added
+abbrev pub waitsBelow : View → ℕ → ℕ
+waitsBelow L k = sumTo (largestW smallestCosts L) k
+
+-- the margin at a place of an array
+abbrev pub marginIn : List ℤ → ℕ → ℤ
+marginIn margins i = getD margins i (pos 0)

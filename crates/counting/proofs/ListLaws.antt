@@ -2,7 +2,7 @@
 -- how a filled array grows by one place.
 use Prim.Native.Nat.{ℕ, zero, suc, _+_, _-_, _*_, _≤_, _<_}
 use mathlib.Core.Bool.{cond}
-use mathlib.Core.List.{List, [], _∷_, _++_, append-assoc}
+use mathlib.Core.List.{List, [], _∷_, _++_, append-assoc, append-nil}
 use mathlib.Core.Path.{_≡_, refl, ap, ap₂, sym, _∙_}
 use native.Mathlib.Decide.{ℕ-discrete, decLt}
 use native.Mathlib.Numerals.{add-one}
@@ -96,6 +96,12 @@ module _ {A : Type 0} where
   pub filled-stored : (f : ℕ → A) (n last : ℕ) (z v : A) (l : List A) → l ≡ filled f n last z → v ≡ f n → n < last
       → set l n v ≡ filled f (n + 1) last z
   filled-stored f n last z v l e q h = ap₂ (λ l v. set l n v) e q ∙ set-filled f n last z h
+
+  -- an array that is filled to the last place
+  pub filled-all : (f : ℕ → A) (n : ℕ) (z : A) → filled f n n z ≡ listTo f n
+  filled-all f n z =
+      let e : n - n ≡ 0 = omega arith in
+      ap (λ k. listTo f n ++ replicate k z) e ∙ append-nil (listTo f n)
 
   -- a filled array, place by place
   pub filled-listTo : (f : ℕ → A) (n last : ℕ) (z : A) → n ≤ last

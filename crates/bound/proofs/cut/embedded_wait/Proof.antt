@@ -9,8 +9,7 @@ use Rattle.bound.proofs.cut.embedded_wait.Tie as tie
 wait : tie.Need-returns
 wait c =
     let args = c .before .before .before .before .args in
-    let embedded = sym (c .before .before .before .embedded-at .ensures) ∙ c .before .before .if1 .taken in
-    (
+    let embedded = sym (c .before .before .before .embedded-at .ensures) ∙ c .before .before .if1 .taken in (
       ap (λ step. step .wait) (c .before .step-at .ensures) ∙ sym (waitIn-by (args .row) (args .j) true embedded),
       search needs,
     )

@@ -40,18 +40,17 @@ loop-again : tie.Need-loop-again Inv-loop μ-loop
 loop-again c =
     let turn = c .before .before in
     let loop = turn .before .loop in
-    let row = turn .before .before .before .before .args .row in
-    (
+    let row = turn .before .before .before .before .args .row in (
       search needs,
       search needs,
       λ k from l.
-      elim (ℕ-discrete k (loop .j)) [
-        | yes e ↦
-            ap (λ k. embeddedAmong k (rowWindows row)) e
-            ∙ sym (c .before .embedded-at .ensures)
-            ∙ not-false _ (c .if1 .left)
-        | no e ↦ loop .inv .2 k from (omega arith)
-      ],
+          elim (ℕ-discrete k (loop .j)) [
+            | yes e ↦
+                ap (λ k. embeddedAmong k (rowWindows row)) e
+                ∙ sym (c .before .embedded-at .ensures)
+                ∙ not-false _ (c .if1 .left)
+            | no e ↦ loop .inv .2 k from (omega arith)
+          ],
     )
 
 end : tie.Need-returns-2 Inv-loop μ-loop

@@ -24,12 +24,11 @@ abbrev μ-loop : tie.MeasureT-loop
 μ-loop load rows most₀ i₀ most i = rows - i
 
 loop-again : tie.Need-loop-again Inv-loop μ-loop
-loop-again c =
-    (
-      search needs,
-      search needs,
-      rw maxTo-next (⊎-elim (λ w. omega arith) (λ w. omega arith) (c .if1 .came)),
-    )
+loop-again c = (
+  search needs,
+  search needs,
+  rw maxTo-next (⊎-elim (λ w. omega arith) (λ w. omega arith) (c .if1 .came)),
+)
 
 returns : tie.Need-returns Inv-loop μ-loop
 unfolding largestPhase viewOf

@@ -1,37 +1,38 @@
+-- `row_ticks` adds the costs of the kept steps, and the embedded waits of all of them but the last. A row keeps at least
+-- its first step, and at most its eight.
+use Prim.Native.Nat.{_+_, _-_, _≤_}
+use mathlib.Core.Path.{_∙_, ap, ap₂}
+use native.Mathlib.Omega.{arith}
 use borrow.Author.Needs.{needs}
+use Rattle.counting.specs.Sums.{sumTo}
+use Rattle.load.specs.Load.{stepAt}
+use Rattle.bound.specs.Parts.{waitIn}
+use Rattle.bound.proofs.KeptLaws.{keptOf-le, le-keptOf}
 use Rattle.bound.proofs.cut.row_ticks.Statement.{statement}
 use Rattle.bound.proofs.cut.row_ticks.Tie as tie
-use Rattle.bound.proofs.cut.row_ticks.Reads as reads
-use Rattle.bound.proofs.cut.row_ticks.Lts as lts
-use Rattle.bound.proofs.cut.costs_to.Reads as costs-to-reads
-use Rattle.bound.proofs.cut.kept_of.Reads as kept-of-reads
-use Rattle.bound.proofs.cut.waits_to.Reads as waits-to-reads
 
--- src/cut.rt:81:9
-kept-of-requires : tie.Need-kept-of-requires
-kept-of-requires c κs = search needs
+most : (c : tie.After-kept-of) → c .kept-of .result ≤ 8
+most c = let args = c .before .args in omega (arith, c .kept-of .ensures, keptOf-le (args .row) (args .m))
 
--- src/cut.rt:82:5
-costs-to-requires : tie.Need-costs-to-requires
-costs-to-requires c κs = search needs
+least : (c : tie.After-kept-of) → 1 ≤ c .kept-of .result
+least c = let args = c .before .args in omega (arith, c .kept-of .ensures, le-keptOf (args .row) (args .m))
 
--- src/cut.rt:82:41
-sub-waits-to : tie.Need-sub-waits-to
-sub-waits-to c = search needs
-
--- src/cut.rt:82:27
-waits-to-requires : tie.Need-waits-to-requires
-waits-to-requires c κs = search needs
-
--- src/cut.rt:82:5
-add-result : tie.Need-add-result
-add-result c = search needs
-
--- src/cut.rt:76:1
 returns : tie.Need-returns
-returns c = search needs
+returns c =
+    let args = c .before .before .before .args in
+    let kept = c .before .before .kept-of .ensures in (
+      ap₂ _+_ (c .before .costs-to .ensures .0 ∙ ap (sumTo (λ j. stepAt (args .row) j .cost)) kept)
+          (c .waits-to .ensures .0 ∙ ap (λ n. sumTo (waitIn (args .row)) (n - 1)) kept),
+      search needs,
+    )
 
 pub row-ticks-spec : {M : Type 1} → statement M
 row-ticks-spec =
     tie.close
-    (tie.spec kept-of-requires costs-to-requires sub-waits-to waits-to-requires add-result returns)
+    (tie.spec
+    (λ c κs. search needs)
+    (λ c κs. most c)
+    (λ c. omega (arith, least (c .before)))
+    (λ c κs. omega (arith, most (c .before)))
+    (λ c. search needs)
+    returns)

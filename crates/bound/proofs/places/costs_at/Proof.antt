@@ -23,11 +23,10 @@ abbrev μ-loop : tie.MeasureT-loop
 loop-again : tie.Need-loop-again Inv-loop μ-loop
 loop-again c =
     let loop = c .before .before .before .loop in
-    let args = c .before .before .before .before .args in
-    (
+    let args = c .before .before .before .before .args in (
       search needs,
       filled-stored (stored (args .t1) (args .j)) (loop .i) 24 0 _ (loop .costs) (loop .inv .1)
-      (ap (λ step. step .cost) (c .step-at .ensures)) (omega arith),
+          (ap (λ step. step .cost) (c .step-at .ensures)) (omega arith),
     )
 
 returns : tie.Need-returns Inv-loop μ-loop

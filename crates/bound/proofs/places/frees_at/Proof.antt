@@ -25,11 +25,10 @@ abbrev μ-loop : tie.MeasureT-loop
 loop-again : tie.Need-loop-again Inv-loop μ-loop
 loop-again c =
     let loop = c .before .before .before .loop in
-    let args = c .before .before .before .before .args in
-    (
+    let args = c .before .before .before .before .args in (
       search needs,
       filled-stored (stored (args .t1) (args .j)) (loop .i) 24 false _ (loop .frees) (loop .inv .1)
-      (c .free-in .ensures) (omega arith),
+          (c .free-in .ensures) (omega arith),
     )
 
 returns : tie.Need-returns Inv-loop μ-loop

@@ -64,8 +64,7 @@ raise c =
 returns : tie.Need-returns Inv-loop μ-loop
 returns c =
     let start = c .before .before in
-    let e : c .before .loop .high ≡ c .before .loop .low = omega arith in
-    (
+    let e : c .before .loop .high ≡ c .before .loop .low = omega arith in (
       record {
         below = omega (arith, start .pre .1);
         up-to = rw (← start .pre .1, ← e) (c .before .loop .inv .3);
