@@ -5,3 +5,5 @@ pub mod AcceptedLaws
 pub mod PlaceLaws
 pub mod KeptLaws
 pub mod SignLaws
+pub mod MarginsRead
+pub mod CallLaws

@@ -5,7 +5,6 @@ use mathlib.Core.Bool.{Bool, true, false, cond, _&&_, not}
 use mathlib.Core.List.{List}
 use mathlib.Core.Path.{_≡_}
 use lib.Dec.{eqb, ltb}
-use lib.IntN.{ℤ, pos}
 use lib.ListN.{getD}
 use Rattle.counting.specs.Sums.{sumTo}
 use Rattle.counting.specs.Searches.{firstTo}
@@ -51,7 +50,3 @@ waitIn row j = cond (embeddedAmong (suc j) (rowWindows row)) (stepAt row j .wait
 -- the largest W's of the first k places, added
 abbrev pub waitsBelow : View → ℕ → ℕ
 waitsBelow L k = sumTo (largestW smallestCosts L) k
-
--- the margin at a place of an array
-abbrev pub marginIn : List ℤ → ℕ → ℤ
-marginIn margins i = getD margins i (pos 0)

@@ -1,27 +1,30 @@
+-- `load_verdict` asks the signs of the margins of the rows that are there.
+use mathlib.Core.Bool.{not}
+use mathlib.Core.Path.{_∙_, ap}
 use borrow.Author.Needs.{needs}
+use Rattle.counting.specs.Sums.{allTo}
+use Rattle.load.specs.View.{viewOf}
+use Rattle.rules.specs.Margins.{isNegative}
+use Rattle.bound.specs.Calls.{marginIn}
+use Rattle.bound.proofs.AcceptedLaws.{accepted-few}
+use Rattle.bound.proofs.MarginsRead.{verdict-read}
 use Rattle.bound.proofs.margins.load_verdict.Statement.{statement}
 use Rattle.bound.proofs.margins.load_verdict.Tie as tie
-use Rattle.bound.proofs.margins.load_verdict.Reads as reads
-use Rattle.bound.proofs.margins.load_verdict.Lts as lts
-use Rattle.bound.proofs.margins.load_margins.Reads as load-margins-reads
-use Rattle.bound.proofs.margins.none_negative.Reads as none-negative-reads
 
--- src/margins.rt:67:9
-load-margins-requires : tie.Need-load-margins-requires
-load-margins-requires c κs = search needs
-
--- src/margins.rt:68:28
-cast-none-negative : tie.Need-cast-none-negative
-cast-none-negative c = search needs
-
--- src/margins.rt:68:5
-none-negative-requires : tie.Need-none-negative-requires
-none-negative-requires c κs = search needs
-
--- src/margins.rt:63:1
 returns : tie.Need-returns
-returns c = search needs
+unfolding viewOf
+returns c =
+    let load = c .before .before .before .args .load in
+    let rows = load .rows in
+    c .none-negative .ensures
+    ∙ ap (λ zs. allTo (λ i. not (isNegative (marginIn zs i))) rows) (c .before .before .load-margins .ensures)
+    ∙ verdict-read (viewOf load) (accepted-few load (c .before .before .before .pre))
 
 pub load-verdict-spec : {M : Type 1} → statement M
 load-verdict-spec =
-    tie.close (tie.spec load-margins-requires cast-none-negative none-negative-requires returns)
+    tie.close
+    (tie.spec
+    (λ c κs. search needs)
+    (λ c. search needs)
+    (λ c κs. accepted-few (c .before .before .args .load) (c .before .before .pre))
+    returns)
