@@ -1,7 +1,7 @@
--- The bound of an acceptable load: it is within the ranges, so each of its terms fits, and the load cut at 8 steps, which
--- every row has at most, is bound as the load is.
-use Prim.Native.Nat.{ℕ, suc, _+_, _-_, _≤_, _<_}
-use mathlib.Core.Path.{_≡_, sym, ap, ap₂, _∙_}
+-- The bound of an acceptable load: it is within the ranges, so each of its terms fits, and the load cut at 8 steps, of
+-- which no row has more, has the bound of the load.
+use Prim.Native.Nat.{ℕ, _+_, _-_, _≤_, _<_}
+use mathlib.Core.Path.{_≡_, ap, ap₂, _∙_}
 use native.Mathlib.Omega.{arith}
 use Rattle.counting.specs.Sums.{sumTo}
 use Rattle.counting.proofs.SumLaws.{sumTo-ext}

@@ -6,7 +6,7 @@ use mathlib.Core.List.{List}
 use mathlib.Core.Path.{_≡_, ap, _∙_}
 use native.Mathlib.Omega.{arith}
 use borrow.Author.Tests.{lt-ltb}
-use lib.IntN.{ℤ, pos}
+use lib.IntN.{pos}
 use Rattle.counting.specs.Sums.{allTo}
 use Rattle.counting.proofs.TestLaws.{allTo-ext}
 use Rattle.counting.proofs.ListLaws.{getD-listTo, joinTo-ext}

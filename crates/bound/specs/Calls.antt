@@ -1,6 +1,6 @@
 -- What each public call's contract says: one relation a call, over what it takes and what it gives.
--- Calls that take a load check it first; "returned alone" is here that a refusal comes with bound 0,
--- with margins that are all 0, and with the verdict no.
+-- Calls that take a load check it first, 3 to 7; a refusal comes with bound 0, with all margins 0,
+-- or with the verdict no.
 use Prim.Native.Nat.{ℕ}
 use mathlib.Core.Bool.{false}
 use mathlib.Core.List.{List}

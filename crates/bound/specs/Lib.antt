@@ -1,3 +1,3 @@
--- The code of bound, margins and verdict: what its parts give, and what its calls promise.
-pub mod Parts
+-- The code of bound, margins and verdict: what its calls promise, and what its parts give.
 pub mod Calls
+pub mod Parts

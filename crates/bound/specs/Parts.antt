@@ -25,7 +25,7 @@ isMarked marks k = getD marks k false
 abbrev pub isOther : List Bool → ℕ → ℕ → Bool
 isOther marks i k = not (eqb k i) && isMarked marks k
 
--- at most 24 rows, of which those that are marked have a cost
+-- at most 24 rows, of which each that is marked has a cost within its range
 pub record Costed (n : ℕ) (costs : List ℕ) (marks : List Bool) : Type 0 where
   pub few : n ≤ mostRows
   pub small : (k : ℕ) → k < n → isMarked marks k ≡ true → at costs k ≤ largestCost

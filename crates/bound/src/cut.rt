@@ -5,7 +5,7 @@ use load::Row;
 use load::embedded_at;
 use load::step_at;
 ghost use mathlib.Core.Path.{_≡_};
-ghost use Prim.Native.Nat.{_+_, _*_, _-_, _≤_, min};
+ghost use Prim.Native.Nat.{_+_, _-_, _≤_, min};
 ghost use Rattle.counting.specs.Sums.{sumTo};
 ghost use Rattle.load.specs.Load.{mostSteps, stepAt};
 ghost use Rattle.load.specs.View.{viewOf};

@@ -1,19 +1,20 @@
 // The bound of a load, its margins and its verdict. Each call takes a load in memory and checks it
 // first; a refusal comes with bound 0, margins that are all 0, and the verdict no.
 mod bounds;
+pub mod bytes;
 mod cut;
-pub mod margins;
+mod margins;
 mod places;
 mod smallest;
 mod waits;
 
 use bounds::load_bound;
+pub use bytes::margin_bytes;
 use load::Load;
 use load::MOST_ROWS;
 use load::check_load;
 use margins::load_margins;
 use margins::load_verdict;
-pub use margins::margin_bytes;
 use refusals::Checked;
 ghost use Rattle.bound.specs.Calls.{BoundOf, MarginsOf, VerdictOf};
 

@@ -1,6 +1,6 @@
--- `cut_bound` adds the terms of the bound of the cut load; the whole is at most 806,400, and so each sum on the way fits.
+-- `cut_bound` adds the terms of the bound of the cut load; the whole is at most 806,400, so each sum on the way fits.
 use Prim.Native.Nat.{_+_, _-_, _≤_}
-use mathlib.Core.Path.{_≡_, sym, _∙_, ap}
+use mathlib.Core.Path.{_≡_, _∙_, ap}
 use native.Mathlib.Omega.{arith}
 use borrow.Author.Needs.{needs}
 use lib.ListN.{getD}
@@ -24,10 +24,9 @@ total c =
     let load = start c .args .load in
     let k = start c .args .k in
     let e : k + 1 - 1 ≡ k = omega arith in
-    let read = ap (λ l. getD l k 0) (start c .pre .1) ∙ getD-listTo (waitsBelow (viewOf load)) 8 k 0 (start c .pre .2) in
     omega (
       arith,
-      read,
+      ap (λ l. getD l k 0) (start c .pre .1) ∙ getD-listTo (waitsBelow (viewOf load)) 8 k 0 (start c .pre .2),
       ap (waitsBelow (viewOf load)) e,
       cut-bound-is (viewOf load) (start c .pre .0) (k + 1) (omega arith),
     )

@@ -1,5 +1,5 @@
--- `row_ticks` adds the costs of the kept steps, and the embedded waits of all of them but the last. A row keeps at least
--- its first step, and at most its eight.
+-- `row_ticks` adds the costs of the kept steps, and the embedded waits of all of them but the last. A row keeps one
+-- step at least, and eight at most.
 use Prim.Native.Nat.{_+_, _-_, _≤_}
 use mathlib.Core.Path.{_∙_, ap, ap₂}
 use native.Mathlib.Omega.{arith}

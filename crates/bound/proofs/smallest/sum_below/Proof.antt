@@ -1,5 +1,5 @@
 -- `sum_below` adds one row a turn, of a marked one both costs that are below t.
-use Prim.Native.Nat.{_*_, _-_, _≤_}
+use Prim.Native.Nat.{ℕ, _*_, _-_, _≤_}
 use mathlib.Core.Path.{_≡_, sym, _∙_, ap}
 use mathlib.Core.Logic.{⊎-elim}
 use native.Mathlib.Omega.{arith}
@@ -26,13 +26,10 @@ loop-again c = (
 
 returns : tie.Need-returns Inv-loop μ-loop
 returns c =
-    let args = c .before .before .args in
-    let e : c .before .loop .k ≡ args .n = omega arith in (
-      c .before .loop .inv .1
-          ∙ ap (λ k. pairsSumBelow (at (args .here .now)) (at (args .next .now)) (isMarked (args .marks .now)) k (args .t))
-          e,
-      omega arith,
-    )
+    let a = c .before .before .args in
+    let e : c .before .loop .k ≡ a .n = omega arith in
+    let sums : ℕ → ℕ = λ k. pairsSumBelow (at (a .here .now)) (at (a .next .now)) (isMarked (a .marks .now)) k (a .t) in
+    (c .before .loop .inv .1 ∙ ap sums e, omega arith)
 
 pub sum-below-spec : {M : Type 1} → statement M
 sum-below-spec =

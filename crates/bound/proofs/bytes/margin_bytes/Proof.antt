@@ -8,18 +8,16 @@ use lib.IntN.{ℤ}
 use lib.ListN.{length, replicate, drop}
 use lib.Seq.{sets}
 use mir.Facts.{toZ-ofZ}
-use mir.Syntax.{w32}
-use mir.Val.{SFits}
 use Rattle.counting.specs.Lists.{joinTo}
-use Rattle.counting.proofs.ListLaws.{joinTo-zero, joinTo-next, joinTo-length-same}
+use Rattle.counting.proofs.ListLaws.{joinTo-next, joinTo-length-same}
 use Rattle.words.specs.LittleEndian.{littleEndian}
 use Rattle.words.specs.TwosComplement.{twosComplement}
 use Rattle.words.proofs.LittleEndianLaws.{littleEndian-length}
 use Rattle.words.proofs.OverwriteLaws.{sets-behind, sets-front}
 use Rattle.bound.specs.Calls.{marginIn}
 use Rattle.bound.proofs.SignLaws.{each-fits}
-use Rattle.bound.proofs.margins.margin_bytes.Statement.{statement}
-use Rattle.bound.proofs.margins.margin_bytes.Tie as tie
+use Rattle.bound.proofs.bytes.margin_bytes.Statement.{statement}
+use Rattle.bound.proofs.bytes.margin_bytes.Tie as tie
 
 -- the four bytes of row i
 abbrev four : List ℤ → ℕ → List ℕ

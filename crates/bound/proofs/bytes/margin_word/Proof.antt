@@ -7,8 +7,8 @@ use mir.Facts.{toZ-ofZ, sfits-widen}
 use mir.Syntax.{w32, w64}
 use mir.Val.{toZ, ofZ, SFits}
 use Rattle.bound.proofs.SignLaws.{raised, raised-is, raised-lt, raised-word}
-use Rattle.bound.proofs.margins.margin_word.Statement.{statement}
-use Rattle.bound.proofs.margins.margin_word.Tie as tie
+use Rattle.bound.proofs.bytes.margin_word.Statement.{statement}
+use Rattle.bound.proofs.bytes.margin_word.Tie as tie
 
 module _ (z : ℤ) (h : SFits w32 z) where
   narrow : toZ w32 (ofZ w32 z) ≡ z
