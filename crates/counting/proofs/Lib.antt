@@ -15,6 +15,7 @@ pub mod KeyLaws
 pub mod ChangeLaws
 pub mod LeastLaws
 pub mod ThresholdLaws
+pub mod PairLaws
 pub mod KeepLaws
 pub mod KeptTests
 pub mod PieceLaws

@@ -1,13 +1,16 @@
 -- Laws of lists made from the numbers below n: their equations at n + 1, their lengths, what stands at a place, and
 -- how a filled array grows by one place.
 use Prim.Native.Nat.{ℕ, zero, suc, _+_, _-_, _*_, _≤_, _<_}
-use mathlib.Core.List.{List, [], _∷_, _++_, append-assoc}
+use mathlib.Core.Bool.{cond}
+use mathlib.Core.List.{List, [], _∷_, _++_, append-assoc, append-nil}
 use mathlib.Core.Path.{_≡_, refl, ap, ap₂, sym, _∙_}
-use native.Mathlib.Decide.{ℕ-discrete}
+use native.Mathlib.Decide.{ℕ-discrete, decLt}
 use native.Mathlib.Numerals.{add-one}
 use native.Mathlib.Omega.{arith}
+use borrow.Author.Tests.{lt-ltb, le-ltb}
+use lib.Dec.{ltb}
 use lib.ListN.{length, getD, set, replicate, length-append, length-replicate, getD-replicate, List·getD-append}
-use lib.Seq.{getD-append-add, getD-at, set-at}
+use lib.Seq.{ext-getD, getD-append-add, getD-at, set-at}
 use Rattle.counting.specs.Sums.{sumTo}
 use Rattle.counting.specs.Lists.{joinTo, listTo, filled}
 
@@ -89,7 +92,31 @@ module _ {A : Type 0} where
       ∙ sym (append-assoc (listTo f n) (f n ∷ []) (replicate (last - (n + 1)) z))
       ∙ ap (λ l. l ++ replicate (last - (n + 1)) z) (sym (listTo-next f n))
 
-  -- the same, of a list and a member that are known by equations
-  pub set-next : (f : ℕ → A) (n last : ℕ) (z a : A) (list : List A) → n < last → list ≡ filled f n last z → a ≡ f n
-      → set list n a ≡ filled f (n + 1) last z
-  set-next f n last z a list h e q = rw (e, q) (set-filled f n last z h)
+  -- such a store, of a value that is known to be the one
+  pub filled-stored : (f : ℕ → A) (n last : ℕ) (z v : A) (l : List A) → l ≡ filled f n last z → v ≡ f n → n < last
+      → set l n v ≡ filled f (n + 1) last z
+  filled-stored f n last z v l e q h = ap₂ (λ l v. set l n v) e q ∙ set-filled f n last z h
+
+  -- an array that is filled to the last place
+  pub filled-all : (f : ℕ → A) (n : ℕ) (z : A) → filled f n n z ≡ listTo f n
+  filled-all f n z =
+      let e : n - n ≡ 0 = omega arith in
+      ap (λ k. listTo f n ++ replicate k z) e ∙ append-nil (listTo f n)
+
+  -- a filled array, place by place
+  pub filled-listTo : (f : ℕ → A) (n last : ℕ) (z : A) → n ≤ last
+      → filled f n last z ≡ listTo (λ i. cond (ltb i n) (f i) z) last
+  filled-listTo f n last z h =
+      ext-getD z (filled f n last z) (listTo at last)
+      (filled-length f n last z h ∙ sym (listTo-length at last))
+      (λ i l. each i (rw (filled-length f n last z h) at l) (decLt i n))
+    where
+      at : ℕ → A
+      at i = cond (ltb i n) (f i) z
+
+      each : (i : ℕ) → i < last → Dec (i < n) → getD (filled f n last z) i z ≡ getD (listTo at last) i z
+      each i l (yes b) =
+          getD-filled f n last i z z b ∙ sym (getD-listTo at last i z l ∙ ap (λ t. cond t (f i) z) (lt-ltb i n b))
+      each i l (no b) =
+          getD-unfilled f n last i z z (omega arith) l
+          ∙ sym (getD-listTo at last i z l ∙ ap (λ t. cond t (f i) z) (le-ltb i n (omega arith)))

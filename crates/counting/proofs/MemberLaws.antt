@@ -1,13 +1,23 @@
 -- Laws of the members of a list that have p: some member has it exactly where a place does, the first of them stands at
 -- such a place, and where only one place has it the first is that one.
-use Prim.Native.Nat.{ℕ, zero, suc, _<_}
+use Prim.Native.Nat.{ℕ, zero, suc, _<_, min}
 use mathlib.Core.Bool.{Bool, true, false, cond, _||_}
 use mathlib.Core.List.{List, [], _∷_}
-use mathlib.Core.Path.{_≡_, refl, ap, ap₂, _∙_}
+use mathlib.Core.Path.{_≡_, refl, sym, ap, ap₂, _∙_}
 use native.Mathlib.Omega.{arith}
-use lib.ListN.{length, getD}
+use lib.ListN.{length, length-take, getD, take}
+use lib.Seq.{getD-take}
+use Rattle.counting.specs.Sums.{anyTo}
 use Rattle.counting.specs.Lists.{anyIn, firstIn}
-use Rattle.counting.proofs.TestLaws.{or-left, or-right, or-neither, true-false}
+use Rattle.counting.proofs.TestLaws.{
+  or-left,
+  or-right,
+  or-neither,
+  true-false,
+  anyTo-ext,
+  true-anyTo,
+  false-anyTo,
+}
 
 module _ {A : Type 0} where
   -- the first member that has p, and its place
@@ -62,6 +72,26 @@ module _ {A : Type 0} where
               is = rw q (m .is);
               before = λ k b. later k (m .place) q (m .before) b;
             }
+
+    -- a search by places
+    pub anyIn-anyTo : (l : List A) → anyIn p l ≡ anyTo (λ k. p (getD l k z)) (length l)
+    anyIn-anyTo l = go (anyIn p l) refl
+      where
+        go : (t : Bool) → anyIn p l ≡ t → t ≡ anyTo (λ k. p (getD l k z)) (length l)
+        go true e =
+            let m = anyIn-true l e in
+            sym (true-anyTo (λ k. p (getD l k z)) (length l) (m .place) (m .below) (m .has))
+        go false e = sym (false-anyTo (λ k. p (getD l k z)) (length l) (anyIn-false l e))
+
+    -- a search among the first n
+    pub anyIn-take : (n m : ℕ) (l : List A) → length l ≡ m
+        → anyIn p (take n l) ≡ anyTo (λ k. p (getD l k z)) (min n m)
+    anyIn-take n m l e =
+        let same : length (take n l) ≡ min n m = omega (arith, length-take n l) in
+        anyIn-anyTo (take n l)
+        ∙ ap (anyTo (λ k. p (getD (take n l) k z))) same
+        ∙ anyTo-ext (λ k. p (getD (take n l) k z)) (λ k. p (getD l k z)) (min n m)
+        (λ k b. ap p (getD-take n l k z (omega arith)))
 
     pub firstIn-none : (l : List A) → anyIn p l ≡ false → firstIn p z l ≡ z
     unfolding anyIn firstIn

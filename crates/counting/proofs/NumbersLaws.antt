@@ -76,17 +76,19 @@ sorted-numbers-once before p n i =
     here true false = refl
     here false t = refl
 
-pub sorted-numbers-length : (before : ℕ → ℕ → Bool) (p : ℕ → Bool) (n : ℕ)
-    → length (sorted before (numbersWhere p n)) ≡ countTo p n
-sorted-numbers-length before p n =
-    sorted-length before (numbersWhere p n)
-    ∙ sym (totalIn-length (numbersWhere p n))
+pub numbersWhere-length : (p : ℕ → Bool) (n : ℕ) → length (numbersWhere p n) ≡ countTo p n
+numbersWhere-length p n =
+    sym (totalIn-length (numbersWhere p n))
     ∙ totalIn-numbersWhere (λ k. 1) p n
     ∙ sumTo-ext (λ k. cond (p k) 1 0) (λ k. bit (p k)) n (λ k l. one (p k))
   where
     one : (b : Bool) → cond b 1 0 ≡ bit b
     one true = refl
     one false = refl
+
+pub sorted-numbers-length : (before : ℕ → ℕ → Bool) (p : ℕ → Bool) (n : ℕ)
+    → length (sorted before (numbersWhere p n)) ≡ countTo p n
+sorted-numbers-length before p n = sorted-length before (numbersWhere p n) ∙ numbersWhere-length p n
 
 -- a number below n that has p
 pub record Chosen (p : ℕ → Bool) (n i : ℕ) : Type 0 where

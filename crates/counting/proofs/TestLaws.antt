@@ -55,6 +55,14 @@ unfolding allTo
 true-allTo p zero h = refl
 true-allTo p (suc n) h = and-both (allTo p n) (p n) (true-allTo p n (λ i l. h i (omega arith))) (h n (omega arith))
 
+-- one number that has not p is enough
+pub false-allTo : (p : ℕ → Bool) (n k : ℕ) → k < n → p k ≡ false → allTo p n ≡ false
+false-allTo p n k l h = go (allTo p n) refl
+  where
+    go : (t : Bool) → allTo p n ≡ t → t ≡ false
+    go true e = absurd (true-false (p k) (allTo-true p n e k l) h)
+    go false e = refl
+
 pub allTo-ext : (p q : ℕ → Bool) (n : ℕ) → ((i : ℕ) → i < n → p i ≡ q i) → allTo p n ≡ allTo q n
 unfolding allTo
 allTo-ext p q zero h = refl

@@ -20,6 +20,7 @@ use Rattle.load.specs.Calls.{
   RowAt,
   StepAt,
   WindowAt,
+  EmbeddedAt,
   ZeroRow,
   ZeroLoad,
 }
@@ -52,6 +53,9 @@ StepAt-unique row j r s p q = p ∙ sym q
 
 pub WindowAt-unique : (row : Row) (k : ℕ) (r s : Window) → WindowAt row k r → WindowAt row k s → r ≡ s
 WindowAt-unique row k r s p q = p ∙ sym q
+
+pub EmbeddedAt-unique : (row : Row) (j : ℕ) (r s : Bool) → EmbeddedAt row j r → EmbeddedAt row j s → r ≡ s
+EmbeddedAt-unique row j r s p q = p ∙ sym q
 
 pub ZeroRow-unique : (r s : Row) → ZeroRow r → ZeroRow s → r ≡ s
 ZeroRow-unique r s p q = p ∙ sym q

@@ -15,6 +15,7 @@ use Rattle.load.specs.declared.Window.{Window}
 use Rattle.load.specs.declared.Row.{Row}
 use Rattle.load.specs.declared.Load.{Load}
 use Rattle.load.specs.Load.{mostRows, rowAt, stepAt, windowAt, zeroRow, zeroLoad}
+use Rattle.load.specs.View.{rowWindows, embeddedAmong}
 use Rattle.load.specs.Check.{checkFields, checkStep, checkWindow, checkLoad}
 
 -- check_load(load): the first of 3 to 7, or Good
@@ -55,6 +56,10 @@ StepAt row j r = r ≡ stepAt row j
 -- window_at(row, k): the window at a place, past the last a window of zeros
 abbrev pub WindowAt : Row → ℕ → Window → Type 0
 WindowAt row k r = r ≡ windowAt row k
+
+-- embedded_at(row, j): the step at a place is embedded
+abbrev pub EmbeddedAt : Row → ℕ → Bool → Type 0
+EmbeddedAt row j r = r ≡ embeddedAmong j (rowWindows row)
 
 -- zero_row(): the row of zeros
 abbrev pub ZeroRow : Row → Type 0

@@ -9,6 +9,7 @@ use lib.ListN.{take}
 use Rattle.counting.specs.Sums.{sumFrom, sumTo}
 use Rattle.counting.specs.Lists.{anyIn}
 use Rattle.load.specs.declared.Window.{Window}
+use Rattle.load.specs.declared.Row.{Row}
 use Rattle.load.specs.declared.Load.{Load}
 use Rattle.load.specs.Load.{rowAt, stepAt, shown}
 
@@ -27,6 +28,10 @@ pub record View : Type 0 where
   -- the windows of a row, whose steps are counted from 1
   pub windows : ℕ → List Window
 
+-- the windows that a row has
+abbrev pub rowWindows : Row → List Window
+rowWindows row = take (row .windows) (row .window)
+
 -- the view of a load in memory
 unfoldable pub viewOf : Load → View
 viewOf load =
@@ -37,7 +42,7 @@ viewOf load =
       steps = λ i. rowAt load i .steps;
       cost = λ i j. stepAt (rowAt load i) j .cost;
       wait = λ i j. stepAt (rowAt load i) j .wait;
-      windows = λ i. take (rowAt load i .windows) (rowAt load i .window);
+      windows = λ i. rowWindows (rowAt load i);
     }
 
 -- costs, and the waits between them, of the steps from place a on and below place b
@@ -52,9 +57,13 @@ inWindow step window = leb (window .first) step && leb step (window .last)
 abbrev pub embeddedIn : ℕ → Window → Bool
 embeddedIn step window = inWindow step window && not (eqb step (window .first))
 
+-- step j is in some of the windows, but not its first
+abbrev pub embeddedAmong : ℕ → List Window → Bool
+embeddedAmong j windows = anyIn (embeddedIn (shown j)) windows
+
 -- step j of row i is embedded: in some window, but not its first
 unfoldable pub embedded : View → ℕ → ℕ → Bool
-embedded L i j = anyIn (embeddedIn (shown j)) (L .windows i)
+embedded L i j = embeddedAmong j (L .windows i)
 
 -- every other step is free
 abbrev pub isFree : View → ℕ → ℕ → Bool

@@ -6,6 +6,7 @@ pub mod faults;
 pub mod parts;
 pub mod ranges;
 pub mod taken;
+pub mod windows;
 mod zeros;
 
 pub use check::check_load;
@@ -17,11 +18,13 @@ pub use parts::step_at;
 pub use parts::window_at;
 pub use parts::zero_load;
 pub use parts::zero_row;
+pub use ranges::LARGEST_COST;
 pub use ranges::MOST_ROWS;
 pub use ranges::MOST_STEPS;
 pub use ranges::MOST_WINDOWS;
 pub use taken::box_taken;
 pub use taken::identifier_taken;
+pub use windows::embedded_at;
 
 // A logger's identifier, 1 to 4,294,967,295.
 pub struct Identifier(pub u32);

@@ -10,7 +10,7 @@ use borrow.Author.Tests.{ltb-false}
 use Rattle.counting.specs.Sums.{sumTo}
 use Rattle.counting.specs.Lists.{filled}
 use Rattle.counting.proofs.SumLaws.{sumTo-zero, sumTo-next}
-use Rattle.counting.proofs.ListLaws.{filled-none, set-next}
+use Rattle.counting.proofs.ListLaws.{filled-none, filled-stored}
 use Rattle.refusals.specs.declared.Refusal.{Refusal}
 use Rattle.refusals.specs.declared.Checked.{Checked}
 use Rattle.refusals.specs.declared.Checked.the-variants.{Good, Refused}
@@ -156,17 +156,19 @@ module _ {bs : List ℕ} {i : ℕ} {identifiers : List Identifier} {boxes : List
                   said = omega arith;
                   few = omega arith;
                   identifiers-are =
-                      set-next (λ k. rowFrom bs (rowPlace bs k) .identifier) i mostRows _ _ identifiers few
+                      filled-stored (λ k. rowFrom bs (rowPlace bs k) .identifier) i mostRows _ _ identifiers
                       (so-far .before .identifiers-are)
-                      (ap (λ row. row .identifier) in-place);
+                      (ap (λ row. row .identifier) in-place)
+                      few;
                   boxes-are =
-                      set-next (λ k. rowFrom bs (rowPlace bs k) .«box_number») i mostRows _ _ boxes few
+                      filled-stored (λ k. rowFrom bs (rowPlace bs k) .«box_number») i mostRows _ _ boxes
                       (so-far .before .boxes-are)
-                      (ap (λ row. row .«box_number») in-place);
+                      (ap (λ row. row .«box_number») in-place)
+                      few;
                 };
             rows-are =
-                set-next (λ k. rowFrom bs (rowPlace bs k)) i mostRows zeroRow (r .row) rows few (so-far .rows-are)
-                in-place;
+                filled-stored (λ k. rowFrom bs (rowPlace bs k)) i mostRows zeroRow (r .row) rows (so-far .rows-are)
+                in-place few;
             place-is =
                 rw (steps-said, windows-said) (ap (placeBehind bs) (so-far .place-is)) ∙ sym (rowPlace-next bs i);
             place-le = omega arith;

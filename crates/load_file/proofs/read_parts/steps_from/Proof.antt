@@ -3,7 +3,7 @@ use Prim.Native.Nat.{_+_, _*_, _-_, _≤_, _<_}
 use mathlib.Core.Path.{_≡_, sym, _∙_, ap}
 use native.Mathlib.Omega.{arith}
 use borrow.Author.Needs.{needs}
-use Rattle.counting.proofs.ListLaws.{filled-none, set-next}
+use Rattle.counting.proofs.ListLaws.{filled-none, filled-stored}
 use Rattle.load.specs.Load.{mostSteps, noStep}
 use Rattle.load_file.specs.Places.{stepIn}
 use Rattle.load_file.specs.ReadingSteps.{stepsFrom}
@@ -28,8 +28,8 @@ goes-on c =
     let j = at .loop .j in
     let l : j < mostSteps = omega arith in (
       search needs,
-      set-next (λ j. stepIn (start .bytes .now) (start .from + 6 * j)) j mostSteps noStep _ _ l (at .loop .inv .1)
-          (c .step-in .ensures),
+      filled-stored (λ j. stepIn (start .bytes .now) (start .from + 6 * j)) j mostSteps noStep _ _ (at .loop .inv .1)
+          (c .step-in .ensures) l,
     )
 
 ends : tie.Need-returns Inv-loop μ-loop

@@ -4,7 +4,7 @@ use Prim.Native.Nat.{_+_, _*_, _-_, _≤_, _<_}
 use mathlib.Core.Path.{_≡_, sym, _∙_, ap}
 use native.Mathlib.Omega.{arith}
 use borrow.Author.Needs.{needs}
-use Rattle.counting.proofs.ListLaws.{filled-none, set-next}
+use Rattle.counting.proofs.ListLaws.{filled-none, filled-stored}
 use Rattle.load.specs.Load.{mostWindows, noWindow}
 use Rattle.load_file.specs.Places.{windowIn}
 use Rattle.load_file.specs.ReadingSteps.{windowsFrom}
@@ -29,8 +29,8 @@ goes-on c =
     let k = at .loop .k in
     let l : k < mostWindows = omega arith in (
       search needs,
-      set-next (λ k. windowIn (start .bytes .now) (start .from + 6 * k)) k mostWindows noWindow _ _ l (at .loop .inv .1)
-          (c .window-in .ensures),
+      filled-stored (λ k. windowIn (start .bytes .now) (start .from + 6 * k)) k mostWindows noWindow _ _
+          (at .loop .inv .1) (c .window-in .ensures) l,
     )
 
 ends : tie.Need-returns Inv-loop μ-loop

@@ -1,0 +1,49 @@
+-- Rows that are marked: taking one mark away leaves the others, and the costs of those are as small.
+use Prim.Native.Nat.{ℕ}
+use mathlib.Core.Bool.{Bool, false, _&&_, not}
+use mathlib.Core.List.{List}
+use mathlib.Core.Path.{_≡_, refl, sym, ap, _∙_}
+use native.Mathlib.Decide.{ℕ-discrete, decLt}
+use native.Mathlib.Omega.{arith}
+use borrow.Author.Tests.{eq-eqb, ne-eqb}
+use lib.Dec.{eqb}
+use lib.ListN.{length, set, List·getD-eq-default}
+use lib.Seq.{set-out, getD-set-same, getD-set-other}
+use Rattle.counting.proofs.TestLaws.{and-right}
+use Rattle.counting.proofs.PairLaws.{pairsSmallest, pairsSmallest-ext}
+use Rattle.bound.specs.Parts.{at, isMarked, isOther, Costed}
+
+module _ (marks : List Bool) (i : ℕ) where
+  unmarked : isMarked (set marks i false) i ≡ false
+  unmarked =
+      elim (decLt i (length marks)) [
+        | yes h ↦ getD-set-same marks i false false h
+        | no h ↦
+            ap (λ l. isMarked l i) (set-out marks i false (omega arith))
+            ∙ List·getD-eq-default marks false {n = i} (omega arith)
+      ]
+
+  -- the marks without row i's
+  pub isOther-is : (k : ℕ) → isMarked (set marks i false) k ≡ isOther marks i k
+  isOther-is k =
+      elim (ℕ-discrete k i) [
+        | yes e ↦
+            ap (isMarked (set marks i false)) e
+            ∙ unmarked
+            ∙ sym (ap (λ b. not b && isMarked marks k) (eq-eqb k i e))
+        | no e ↦ getD-set-other marks i k false false e ∙ sym (ap (λ b. not b && isMarked marks k) (ne-eqb k i e))
+      ]
+
+  pub Costed-others : (n : ℕ) (costs : List ℕ) → Costed n costs marks → Costed n costs (set marks i false)
+  Costed-others n costs costed =
+      record {
+        few = costed .few;
+        small = λ k l e. costed .small k l (and-right (not (eqb k i)) (isMarked marks k) (sym (isOther-is k) ∙ e));
+      }
+
+  pub pairsSmallest-others : (here next : List ℕ) (n : ℕ)
+      → pairsSmallest (at here) (at next) (isMarked (set marks i false)) n
+      ≡ pairsSmallest (at here) (at next) (isOther marks i) n
+  pairsSmallest-others here next n =
+      pairsSmallest-ext (at here) (at here) (at next) (at next) (isMarked (set marks i false)) (isOther marks i) n
+      (λ k l. refl) (λ k l. refl) (λ k l. isOther-is k)

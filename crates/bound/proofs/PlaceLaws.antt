@@ -1,0 +1,73 @@
+-- The largest W at a place, out of the arrays of that place: each holds the view's numbers of the rows that are there,
+-- and no others are asked.
+use Prim.Native.Nat.{ℕ, suc, _-_, _<_}
+use mathlib.Core.Bool.{Bool, false, cond, _&&_, not, and-assoc}
+use mathlib.Core.List.{List}
+use mathlib.Core.Path.{_≡_, sym, ap, ap₂, _∙_}
+use borrow.Author.Tests.{ltb-true}
+use lib.Dec.{eqb, ltb}
+use lib.ListN.{getD}
+use Rattle.counting.specs.Sums.{maxTo}
+use Rattle.counting.specs.Lists.{filled}
+use Rattle.counting.proofs.SumLaws.{maxTo-ext}
+use Rattle.counting.proofs.TestLaws.{and-left}
+use Rattle.counting.proofs.ListLaws.{getD-filled}
+use Rattle.counting.proofs.PairLaws.{pairsSmallest, pairsSmallest-is, pairsSmallest-ext}
+use Rattle.load.specs.View.{View, isFree, embedded}
+use Rattle.load.specs.Acceptable.{Acceptable}
+use Rattle.rules.specs.Bound.{waitLeft, largestW, isPartner, partners, pairCosts, smallestCosts}
+use Rattle.bound.specs.Parts.{at, isMarked, isOther, Costed}
+
+pub smallestCosts-is : (L : View) (j i : ℕ)
+    → smallestCosts L j i ≡ pairsSmallest (λ k. L .cost k j) (λ k. L .cost k (suc j)) (isPartner L j i) (L .rows)
+unfolding smallestCosts pairCosts partners
+smallestCosts-is L j i = pairsSmallest-is (λ k. L .cost k j) (λ k. L .cost k (suc j)) (isPartner L j i) (L .rows)
+
+-- the arrays of place j
+pub record AtPlace (L : View) (j : ℕ) (here next : List ℕ) (pairs : List Bool) (waits : List ℕ) (frees : List Bool)
+    : Type 0 where
+  pub here-is : here ≡ filled (λ i. L .cost i j) (L .rows) 24 0
+  pub next-is : next ≡ filled (λ i. L .cost i (suc j)) (L .rows) 24 0
+  pub pairs-is : pairs ≡ filled (λ i. isFree L i j && isFree L i (suc j)) (L .rows) 24 false
+  pub waits-is : waits ≡ filled (λ i. L .wait i j) (L .rows) 24 0
+  pub frees-is : frees ≡ filled (λ i. isFree L i (suc j)) (L .rows) 24 false
+
+-- what stands in a filled array
+read : {A : Type 0} (f : ℕ → A) (n last : ℕ) (z : A) (l : List A) → l ≡ filled f n last z → (k : ℕ) → k < n
+    → getD l k z ≡ f k
+read f n last z l e k h = ap (λ l. getD l k z) e ∙ getD-filled f n last k z z h
+
+module _ (L : View) (j : ℕ) (here next : List ℕ) (pairs : List Bool) (waits : List ℕ) (frees : List Bool)
+    (h : AtPlace L j here next pairs waits frees) where
+  pub place-costed : Acceptable L → Costed (L .rows) here pairs
+  place-costed ok =
+      record {
+        few = ok .rows-most;
+        small = λ k l e.
+            let paired = sym (read _ _ 24 false pairs (h .pairs-is) k l) ∙ e in
+            let free = and-left (isFree L k j) (isFree L k (suc j)) paired in
+            let there = ltb-true j (L .steps k) (and-left (ltb j (L .steps k)) (not (embedded L k j)) free) in
+            rw (read _ _ 24 0 here (h .here-is) k l) (ok .cost-most k j l there);
+      }
+
+  smallest-read : (i : ℕ) → pairsSmallest (at here) (at next) (isOther pairs i) (L .rows) ≡ smallestCosts L j i
+  smallest-read i =
+      pairsSmallest-ext (at here) (λ k. L .cost k j) (at next) (λ k. L .cost k (suc j)) (isOther pairs i)
+      (isPartner L j i) (L .rows) (read _ _ 24 0 here (h .here-is)) (read _ _ 24 0 next (h .next-is))
+      (λ k l.
+      ap (λ b. not (eqb k i) && b) (read _ _ 24 false pairs (h .pairs-is) k l)
+      ∙ sym (and-assoc (not (eqb k i)) (isFree L k j) (isFree L k (suc j))))
+      ∙ sym (smallestCosts-is L j i)
+
+  pub largestW-read : maxTo
+      (λ i. cond (isMarked frees i) (at waits i - pairsSmallest (at here) (at next) (isOther pairs i) (L .rows)) 0)
+      (L .rows)
+      ≡ largestW smallestCosts L j
+  unfolding largestW
+  largestW-read =
+      maxTo-ext
+      (λ i. cond (isMarked frees i) (at waits i - pairsSmallest (at here) (at next) (isOther pairs i) (L .rows)) 0)
+      (waitLeft smallestCosts L j) (L .rows)
+      (λ i l.
+      ap₂ (λ b w. cond b w 0) (read _ _ 24 false frees (h .frees-is) i l)
+      (ap₂ _-_ (read _ _ 24 0 waits (h .waits-is) i l) (smallest-read i)))

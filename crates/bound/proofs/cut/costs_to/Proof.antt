@@ -1,0 +1,40 @@
+-- `costs_to` adds one cost a turn, each below 65,536.
+use Prim.Native.Nat.{_*_, _-_, _≤_}
+use mathlib.Core.Path.{_≡_, sym, _∙_, ap}
+use native.Mathlib.Omega.{arith}
+use borrow.Author.Needs.{needs}
+use Rattle.counting.specs.Sums.{sumTo}
+use Rattle.counting.proofs.SumLaws.{sumTo-zero, sumTo-next}
+use Rattle.load.specs.Load.{stepAt}
+use Rattle.bound.proofs.cut.costs_to.Statement.{statement}
+use Rattle.bound.proofs.cut.costs_to.Tie as tie
+
+abbrev Inv-loop : tie.InvT-loop
+Inv-loop row n sum₀ j₀ sum j = (j ≤ n) × (sum ≡ sumTo (λ j. stepAt row j .cost) j) × (sum ≤ 65535 * j)
+
+abbrev μ-loop : tie.MeasureT-loop
+μ-loop row n sum₀ j₀ sum j = n - j
+
+loop-again : tie.Need-loop-again Inv-loop μ-loop
+loop-again c = (search needs, rw (sumTo-next, ← c .before .step-at .ensures) (omega arith), search needs)
+
+returns : tie.Need-returns Inv-loop μ-loop
+returns c =
+    let start = c .before .before in
+    let e : c .before .loop .j ≡ start .args .n = omega arith in
+    (c .before .loop .inv .1 ∙ ap (sumTo (λ j. stepAt (start .args .row) j .cost)) e, omega arith)
+
+pub costs-to-spec : {M : Type 1} → statement M
+costs-to-spec =
+    tie.close
+    (tie.spec
+    Inv-loop
+    μ-loop
+    (λ c. (search needs, sym (sumTo-zero _), search needs))
+    (λ c κs. search needs)
+    (λ c. search needs)
+    (λ c. search needs)
+    (λ c. search needs)
+    (λ c. search needs)
+    loop-again
+    returns)

@@ -1,0 +1,54 @@
+-- `waits_at` stores the wait of one row a turn.
+use Prim.Native.Nat.{ℕ, _-_, _≤_}
+use mathlib.Core.Path.{_≡_, sym, _∙_, ap}
+use native.Mathlib.Omega.{arith}
+use borrow.Author.Needs.{needs}
+use Rattle.counting.specs.Lists.{filled}
+use Rattle.counting.proofs.ListLaws.{filled-none, filled-stored}
+use Rattle.load.specs.declared.Load.{Load}
+use Rattle.load.specs.Load.{rowAt, stepAt}
+use Rattle.bound.proofs.places.waits_at.Statement.{statement}
+use Rattle.bound.proofs.places.waits_at.Tie as tie
+
+-- what is stored for row i
+abbrev stored : Load → ℕ → ℕ → ℕ
+stored load j i = stepAt (rowAt load i) j .wait
+
+abbrev Inv-loop : tie.InvT-loop
+Inv-loop j load rows waits₀ i₀ waits i = (i ≤ rows) × (waits ≡ filled (stored load j) i 24 0)
+
+abbrev μ-loop : tie.MeasureT-loop
+μ-loop j load rows waits₀ i₀ waits i = rows - i
+
+loop-again : tie.Need-loop-again Inv-loop μ-loop
+loop-again c =
+    let loop = c .before .before .before .loop in
+    let args = c .before .before .before .before .args in (
+      search needs,
+      filled-stored (stored (args .t1) (args .j)) (loop .i) 24 0 _ (loop .waits) (loop .inv .1)
+          (ap (λ step. step .wait) (c .step-at .ensures)) (omega arith),
+    )
+
+returns : tie.Need-returns Inv-loop μ-loop
+returns c =
+    let args = c .before .before .args in
+    let e : c .before .loop .i ≡ args .t1 .rows = omega arith in
+    c .before .loop .inv .1 ∙ ap (λ i. filled (stored (args .t1) (args .j)) i 24 0) e
+
+pub waits-at-spec : {M : Type 1} → statement M
+waits-at-spec =
+    tie.close
+    (tie.spec
+    Inv-loop
+    μ-loop
+    (λ c. search needs)
+    (λ c. (search needs, sym (filled-none _ 24 0)))
+    (λ c. search needs)
+    (λ c. search needs)
+    (λ c κs. search needs)
+    (λ c. search needs)
+    (λ c. search needs)
+    (λ c. search needs)
+    (λ c. search needs)
+    loop-again
+    returns)

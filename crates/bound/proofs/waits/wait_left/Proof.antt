@@ -1,0 +1,38 @@
+-- `wait_left` takes row i's mark away and asks for the r smallest costs of the rows that are left.
+use Prim.Native.Nat.{_-_}
+use mathlib.Core.Path.{_≡_, _∙_, ap}
+use native.Mathlib.Omega.{arith}
+use borrow.Author.Needs.{needs}
+use Rattle.counting.proofs.PairLaws.{pairsSmallest}
+use Rattle.bound.specs.Parts.{at, isOther}
+use Rattle.bound.proofs.MarkLaws.{Costed-others, pairsSmallest-others}
+use Rattle.bound.proofs.waits.wait_left.Statement.{statement}
+use Rattle.bound.proofs.waits.wait_left.Tie as tie
+
+smallest-sum-requires : tie.Need-smallest-sum-requires
+smallest-sum-requires c κs =
+    let a = c .before .args in Costed-others (a .pairs) (a .i) (a .n) (a .here .now) (c .before .pre .0)
+
+given-is : (c : tie.After-smallest-sum)
+    → let a = c .before .before .args in
+    c .smallest-sum .result ≡ pairsSmallest (at (a .here .now)) (at (a .next .now)) (isOther (a .pairs) (a .i)) (a .n)
+given-is c =
+    let a = c .before .before .args in
+    c .smallest-sum .ensures ∙ pairsSmallest-others (a .pairs) (a .i) (a .here .now) (a .next .now) (a .n)
+
+left : tie.Need-returns
+left c = ap (λ s. c .before .before .before .args .wait - s) (given-is (c .before))
+
+none : tie.Need-returns-2
+none c = omega (arith, given-is (c .before))
+
+pub wait-left-spec : {M : Type 1} → statement M
+wait-left-spec =
+    tie.close
+    (tie.spec
+    (λ c. search needs)
+    smallest-sum-requires
+    (λ c. search needs)
+    (λ c. search needs)
+    left
+    none)

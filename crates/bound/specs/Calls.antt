@@ -1,0 +1,61 @@
+-- What each public call's contract says: one relation a call, over what it takes and what it gives.
+-- Calls that take a load check it first, 3 to 7; a refusal comes with bound 0, with all margins 0,
+-- or with the verdict no.
+use Prim.Native.Nat.{ℕ}
+use mathlib.Core.Bool.{false}
+use mathlib.Core.List.{List}
+use mathlib.Core.Path.{_≡_}
+use lib.IntN.{ℤ, pos}
+use lib.ListN.{getD, replicate}
+use Rattle.counting.specs.Lists.{joinTo}
+use Rattle.words.specs.LittleEndian.{littleEndian}
+use Rattle.words.specs.TwosComplement.{twosComplement}
+use Rattle.refusals.specs.declared.Checked.{Checked}
+use Rattle.refusals.specs.declared.Checked.the-variants.{Good, Refused}
+use Rattle.load.specs.declared.Load.{Load}
+use Rattle.load.specs.Load.{mostRows}
+use Rattle.load.specs.View.{viewOf}
+use Rattle.load.specs.Check.{checkLoad}
+use Rattle.rules.specs.Bound.{bound}
+use Rattle.rules.specs.Margins.{margins, verdict}
+use Rattle.bound.specs.declared.Bounded.{Bounded}
+use Rattle.bound.specs.declared.Margined.{Margined}
+use Rattle.bound.specs.declared.Judged.{Judged}
+
+-- the answer where a check refuses nothing, else what comes with a refusal
+abbrev pub ifGood : {A : Type 0} → Checked → A → A → A
+ifGood Good answer none = answer
+ifGood (Refused refusal) answer none = none
+
+-- bound_of(load): what the check finds, and the load's bound
+abbrev pub BoundOf : Load → Bounded → Type 0
+BoundOf load r =
+    r ≡ record {
+      answer = checkLoad load;
+      bound = ifGood (checkLoad load) (bound (viewOf load)) 0;
+    }
+
+-- margins_of(load): what the check finds, and all margins
+abbrev pub MarginsOf : Load → Margined → Type 0
+MarginsOf load r =
+    r ≡ record {
+      answer = checkLoad load;
+      margins = ifGood (checkLoad load) (margins (viewOf load)) (replicate mostRows (pos 0));
+    }
+
+-- verdict_of(load): what the check finds, and the verdict
+abbrev pub VerdictOf : Load → Judged → Type 0
+VerdictOf load r =
+    r ≡ record {
+      answer = checkLoad load;
+      verdict = ifGood (checkLoad load) (verdict (viewOf load)) false;
+    }
+
+-- the margin at a place of a list
+abbrev pub marginIn : List ℤ → ℕ → ℤ
+marginIn margins i = getD margins i (pos 0)
+
+-- margin_bytes(margins): 4 bytes to a row, little-endian two's complement
+abbrev pub MarginBytes : List ℤ → List ℕ → Type 0
+MarginBytes margins r =
+    r ≡ joinTo (λ i. littleEndian 4 (twosComplement 32 (marginIn margins i))) mostRows

@@ -1,0 +1,89 @@
+// The numbers of one place, row by row, out of a load: costs, waits, and which rows are free there.
+// Each is an array of its own, so that the loops above copy no load.
+use load::Load;
+use load::MOST_ROWS;
+use load::Row;
+use load::embedded_at;
+use load::step_at;
+ghost use mathlib.Core.Bool.{false, _&&_};
+ghost use mathlib.Core.Path.{_≡_};
+ghost use Prim.Native.Nat.{_+_, _≤_, _<_};
+ghost use Rattle.counting.specs.Lists.{filled};
+ghost use Rattle.load.specs.Load.{mostRows, rowAt, stepAt};
+ghost use Rattle.bound.specs.Parts.{freeIn};
+
+// Says whether a row has a step at a place and that step is free.
+fn free_in(row: Row, j: usize) -> bool
+    ensures { λ r. ⌜ r ≡ freeIn row j ⌝ }
+{
+    if j < row.steps as usize {
+        return !embedded_at(row, j);
+    }
+    false
+}
+
+// Says whether a row has a step at a place and one after it, and both are free.
+fn paired_in(row: Row, j: usize) -> bool
+    requires { ⌜ j < 8 ⌝ }
+    ensures { λ r. ⌜ r ≡ (freeIn row j && freeIn row (j + 1)) ⌝ }
+{
+    if free_in(row, j) {
+        return free_in(row, j + 1);
+    }
+    false
+}
+
+// Gives the costs of the rows' steps at a place; 0 for rows not there.
+pub fn costs_at(load: Load, j: usize) -> [u16; MOST_ROWS]
+    requires { ⌜ load .rows ≤ mostRows ⌝ }
+    ensures { λ r. ⌜ r ≡ filled (λ i. stepAt (rowAt load i) j .cost) (load .rows) mostRows 0 ⌝ }
+{
+    let rows = load.rows as usize;
+    let mut costs = [0u16; MOST_ROWS];
+    for i in 0..rows {
+        let step = step_at(load.row[i], j);
+        costs[i] = step.cost;
+    }
+    costs
+}
+
+// Gives the waits after the rows' steps at a place; 0 for rows not there.
+pub fn waits_at(load: Load, j: usize) -> [u16; MOST_ROWS]
+    requires { ⌜ load .rows ≤ mostRows ⌝ }
+    ensures { λ r. ⌜ r ≡ filled (λ i. stepAt (rowAt load i) j .wait) (load .rows) mostRows 0 ⌝ }
+{
+    let rows = load.rows as usize;
+    let mut waits = [0u16; MOST_ROWS];
+    for i in 0..rows {
+        let step = step_at(load.row[i], j);
+        waits[i] = step.wait;
+    }
+    waits
+}
+
+// Marks the rows whose step at a place is there and free.
+pub fn frees_at(load: Load, j: usize) -> [bool; MOST_ROWS]
+    requires { ⌜ load .rows ≤ mostRows ⌝ }
+    ensures { λ r. ⌜ r ≡ filled (λ i. freeIn (rowAt load i) j) (load .rows) mostRows false ⌝ }
+{
+    let rows = load.rows as usize;
+    let mut frees = [false; MOST_ROWS];
+    for i in 0..rows {
+        frees[i] = free_in(load.row[i], j);
+    }
+    frees
+}
+
+// Marks the rows whose steps at a place and at the next are both there and free.
+pub fn pairs_at(load: Load, j: usize) -> [bool; MOST_ROWS]
+    requires { ⌜ (load .rows ≤ mostRows) × (j < 8) ⌝ }
+    ensures { λ r. ⌜ r ≡ filled (λ i. freeIn (rowAt load i) j && freeIn (rowAt load i) (j + 1))
+        (load .rows) mostRows false ⌝ }
+{
+    let rows = load.rows as usize;
+    let mut pairs = [false; MOST_ROWS];
+    for i in 0..rows {
+        pairs[i] = paired_in(load.row[i], j);
+    }
+    pairs
+}
