@@ -2,6 +2,7 @@
 pub mod SumLaws
 pub mod TestLaws
 pub mod MaxLaws
+pub mod FromLaws
 pub mod ListLaws
 pub mod MemberLaws
 pub mod FirstToLaws

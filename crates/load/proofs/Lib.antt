@@ -1,6 +1,8 @@
--- Laws of a load: what an accepted one has, and what its windows give.
+-- Laws of a load: what an accepted one has, what its windows give, its parts and its check, and
+-- sameness of results.
 pub mod AcceptableLaws
 pub mod AcceptableGood
 pub mod WindowChain
 pub mod WindowLaws
 pub mod WindowLeft
+pub mod ChainLaws

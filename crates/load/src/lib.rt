@@ -1,5 +1,26 @@
 // A load held in memory, by value. Identifiers and box numbers come from separate registers, so
 // each has a type of its own, and a row cannot be built with the two exchanged.
+mod chains;
+pub mod check;
+pub mod faults;
+pub mod parts;
+pub mod ranges;
+pub mod taken;
+mod zeros;
+
+pub use faults::check_fields;
+pub use faults::check_step;
+pub use faults::check_window;
+pub use parts::row_at;
+pub use parts::step_at;
+pub use parts::window_at;
+pub use parts::zero_load;
+pub use parts::zero_row;
+pub use ranges::MOST_ROWS;
+pub use ranges::MOST_STEPS;
+pub use ranges::MOST_WINDOWS;
+pub use taken::box_taken;
+pub use taken::identifier_taken;
 
 // A logger's identifier, 1 to 4,294,967,295.
 pub struct Identifier(pub u32);
@@ -29,12 +50,12 @@ pub struct Row {
     pub deadline: u32,
     pub steps: u8,
     pub windows: u8,
-    pub step: [Step; 8],
-    pub window: [Window; 4],
+    pub step: [Step; MOST_STEPS],
+    pub window: [Window; MOST_WINDOWS],
 }
 
 // A load: `rows` of the places of `row` are used; the others are zero.
 pub struct Load {
     pub rows: u8,
-    pub row: [Row; 24],
+    pub row: [Row; MOST_ROWS],
 }

@@ -1,0 +1,87 @@
+-- `load::check_fields` asks a row's own fields in their order. Behind each test that is not met the check is what the
+-- tests that are left find, so each return is at the first test that is met.
+use Prim.Native.Nat.{ℕ}
+use mathlib.Core.Path.{_≡_, sym, _∙_}
+use lib.ListN.{drop}
+use borrow.Author.Needs.{needs}
+use borrow.Author.Tests.{lt-ltb, le-ltb}
+use Rattle.refusals.specs.FirstMet.{firstMet}
+use Rattle.load.specs.declared.Row.{Row}
+use Rattle.load.specs.Faults.{rowTests}
+use Rattle.load.proofs.faults.check_fields.Statement.{statement}
+use Rattle.load.proofs.faults.check_fields.Tie as tie
+
+-- the first k tests are not met
+abbrev Passed : Row → ℕ → Type 0
+Passed row k = firstMet (rowTests row) ≡ firstMet (drop k (rowTests row))
+
+passed1 : (c : tie.Else1) → Passed (c .before .before .args .row) 1
+unfolding rowTests
+passed1 c = simp (sym (c .before .is-outside .ensures) ∙ c .if1 .left)
+
+passed2 : (c : tie.Else2) → Passed (c .before .before .before .before .args .row) 2
+unfolding rowTests
+passed2 c = passed1 (c .before .before) ∙ simp (sym (c .before .is-outside2 .ensures) ∙ c .if2 .left)
+
+passed3 : (c : tie.Else3) → let at2 = c .before .before in Passed (at2 .before .before .before .before .args .row) 3
+unfolding rowTests
+passed3 c = passed2 (c .before .before) ∙ simp (le-ltb _ _ (c .if3 .left))
+
+passed4 : (c : tie.Else4)
+    → let at2 = c .before .before .before .before in Passed (at2 .before .before .before .before .args .row) 4
+unfolding rowTests
+passed4 c = passed3 (c .before .before) ∙ simp (sym (c .before .is-outside3 .ensures) ∙ c .if4 .left)
+
+passed5 : (c : tie.Else5)
+    → let at4 = c .before .before .before in
+    let at2 = at4 .before .before .before .before in
+    Passed (at2 .before .before .before .before .args .row) 5
+unfolding rowTests
+passed5 c = passed4 (c .before .before .before) ∙ simp (sym (c .before .is-outside4 .ensures) ∙ c .if5 .left)
+
+identifier : tie.Need-returns
+unfolding rowTests
+identifier c = simp (sym (c .before .is-outside .ensures) ∙ c .if1 .taken)
+
+box : tie.Need-returns-2
+unfolding rowTests
+box c = sym (passed1 (c .before .before) ∙ simp (sym (c .before .is-outside2 .ensures) ∙ c .if2 .taken))
+
+phase : tie.Need-returns-3
+unfolding rowTests
+phase c = sym (passed2 (c .before .before) ∙ simp (lt-ltb _ _ (c .if3 .taken)))
+
+deadline : tie.Need-returns-4
+unfolding rowTests
+deadline c = sym (passed3 (c .before .before) ∙ simp (sym (c .before .is-outside3 .ensures) ∙ c .if4 .taken))
+
+steps : tie.Need-returns-5
+unfolding rowTests
+steps c = sym (passed4 (c .before .before .before) ∙ simp (sym (c .before .is-outside4 .ensures) ∙ c .if5 .taken))
+
+windows : tie.Need-returns-6
+unfolding rowTests
+windows c = sym (passed5 (c .before .before) ∙ simp (lt-ltb _ _ (c .if6 .taken)))
+
+good : tie.Need-returns-7
+unfolding rowTests
+good c = sym (passed5 (c .before .before) ∙ simp (le-ltb _ _ (c .if6 .left)))
+
+pub check-fields-spec : {M : Type 1} → statement M
+check-fields-spec =
+    tie.close
+    (tie.spec
+    (λ c κs. search needs)
+    identifier
+    (λ c κs. search needs)
+    box
+    phase
+    (λ c κs. search needs)
+    deadline
+    (λ c. search needs)
+    (λ c. search needs)
+    (λ c κs. search needs)
+    steps
+    (λ c. search needs)
+    windows
+    good)

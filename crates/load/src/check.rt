@@ -1,0 +1,99 @@
+// The check of a load in memory: the row count, the rows in their order, then the unused rows. The
+// first refusal that is met is the one that is given.
+use crate::BoxNumber;
+use crate::Identifier;
+use crate::Load;
+use crate::Row;
+use crate::faults::check_fields;
+use crate::faults::check_step;
+use crate::faults::check_window;
+use crate::ranges::MOST_ROWS;
+use crate::taken::box_taken;
+use crate::taken::identifier_taken;
+use crate::zeros::zero_rows_from;
+use crate::zeros::zero_steps_from;
+use crate::zeros::zero_windows_from;
+use refusals::Checked;
+use refusals::Refusal;
+ghost use mathlib.Core.Path.{_≡_};
+ghost use mathlib.Core.List.{[], _∷_};
+ghost use Prim.Native.Nat.{ℕ, _≤_};
+ghost use Rattle.refusals.specs.FirstMet.{firstFault, firstFaultTo};
+ghost use Rattle.load.specs.declared.Load.{Load};
+ghost use Rattle.load.specs.Load.{mostRows, rowAt};
+ghost use Rattle.load.specs.Faults.{identifierTaken, boxTaken};
+ghost use Rattle.load.specs.Check.{
+  allZero,
+  checkStep,
+  checkWindow,
+  rowFault,
+  zeroStepsFrom,
+  zeroWindowsFrom,
+};
+ghost use Rattle.load.specs.Calls.{CheckLoad};
+
+// Checks the used steps of a row.
+fn check_steps(row: Row) -> Checked
+    ensures { λ r. ⌜ r ≡ firstFaultTo (checkStep row) (row .steps) ⌝ }
+{
+    let steps = row.steps as usize;
+    for j in 0..steps {
+        let found = check_step(row, j);
+        match found {
+            Checked::Good => {}
+            Checked::Refused(refusal) => {
+                return Checked::Refused(refusal);
+            }
+        }
+    }
+    Checked::Good
+}
+
+// Checks the used windows of a row.
+fn check_windows(row: Row) -> Checked
+    ensures { λ r. ⌜ r ≡ firstFaultTo (checkWindow row) (row .windows) ⌝ }
+{
+    let windows = row.windows as usize;
+    for k in 0..windows {
+        let found = check_window(row, k);
+        match found {
+            Checked::Good => {}
+            Checked::Refused(refusal) => {
+                return Checked::Refused(refusal);
+            }
+        }
+    }
+    Checked::Good
+}
+
+// Checks the steps of a row, their unused places, its windows, and their unused places.
+fn check_parts(row: Row) -> Checked
+    ensures { λ r. ⌜ r ≡ firstFault
+        (firstFaultTo (checkStep row) (row .steps)
+        ∷ allZero (zeroStepsFrom row (row .steps))
+        ∷ firstFaultTo (checkWindow row) (row .windows)
+        ∷ allZero (zeroWindowsFrom row (row .windows))
+        ∷ []) ⌝ }
+{
+    let steps = check_steps(row);
+    match steps {
+        Checked::Good => {}
+        Checked::Refused(refusal) => {
+            return Checked::Refused(refusal);
+        }
+    }
+    if !zero_steps_from(row, row.steps as usize) {
+        return Checked::Refused(Refusal::OutOfRange);
+    }
+    let windows = check_windows(row);
+    match windows {
+        Checked::Good => {}
+        Checked::Refused(refusal) => {
+            return Checked::Refused(refusal);
+        }
+    }
+    if !zero_windows_from(row, row.windows as usize) {
+        return Checked::Refused(Refusal::OutOfRange);
+    }
+    Checked::Good
+}

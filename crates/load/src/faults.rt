@@ -1,0 +1,122 @@
+// The tests of each part of a load, in the order in which they are asked: a file that is read and a
+// load in memory share them. Each gives the first refusal that is met, or Good.
+use crate::Row;
+use crate::chains::chain_of;
+use crate::parts::step_at;
+use crate::parts::window_at;
+use crate::ranges::LARGEST_COST;
+use crate::ranges::LARGEST_LIMIT;
+use crate::ranges::LARGEST_NUMBER;
+use crate::ranges::LARGEST_WAIT;
+use crate::ranges::LAST_MOMENT;
+use crate::ranges::LATEST_PHASE;
+use crate::ranges::MOST_STEPS;
+use crate::ranges::MOST_WINDOWS;
+use refusals::Checked;
+use refusals::Refusal;
+ghost use mathlib.Core.Path.{_≡_};
+ghost use Rattle.load.specs.Faults.{outside, mostWait, lastBefore};
+ghost use Rattle.load.specs.Calls.{CheckFields, CheckStep, CheckWindow};
+
+// Says whether a number is outside its range.
+fn is_outside(least: u32, most: u32, n: u32) -> bool
+    ensures { λ r. ⌜ r ≡ outside least most n ⌝ }
+{
+    if n < least {
+        return true;
+    }
+    most < n
+}
+
+// Checks a row's own fields, beside its steps and windows; refuses the first that is out of range.
+pub fn check_fields(row: Row) -> Checked
+    ensures { λ r. ⌜ CheckFields row r ⌝ }
+{
+    if is_outside(1, LARGEST_NUMBER, row.identifier.0) {
+        return Checked::Refused(Refusal::OutOfRange);
+    }
+    if is_outside(1, LARGEST_NUMBER, row.box_number.0) {
+        return Checked::Refused(Refusal::OutOfRange);
+    }
+    if LATEST_PHASE < row.phase {
+        return Checked::Refused(Refusal::OutOfRange);
+    }
+    if is_outside(1, LAST_MOMENT, row.deadline) {
+        return Checked::Refused(Refusal::OutOfRange);
+    }
+    if is_outside(1, MOST_STEPS as u32, row.steps as u32) {
+        return Checked::Refused(Refusal::OutOfRange);
+    }
+    if MOST_WINDOWS < row.windows as usize {
+        return Checked::Refused(Refusal::OutOfRange);
+    }
+    Checked::Good
+}
+
+// Gives the largest wait after the step at a place: after the last step there is none.
+fn most_wait(row: Row, j: usize) -> u32
+    ensures { λ r. ⌜ r ≡ mostWait row j ⌝ }
+{
+    let steps = row.steps as usize;
+    if j < steps {
+        if j + 1 == steps {
+            return 0;
+        }
+    }
+    LARGEST_WAIT
+}
+
+// Checks the step at a place of a row; past the last place it meets a step of zeros.
+pub fn check_step(row: Row, j: usize) -> Checked
+    ensures { λ r. ⌜ CheckStep row j r ⌝ }
+{
+    let step = step_at(row, j);
+    if is_outside(1, LARGEST_COST, step.cost as u32) {
+        return Checked::Refused(Refusal::OutOfRange);
+    }
+    if most_wait(row, j) < step.wait as u32 {
+        return Checked::Refused(Refusal::OutOfRange);
+    }
+    Checked::Good
+}
+
+// Gives the last step of the window before a place, and 0 where there is none.
+fn last_before(row: Row, k: usize) -> u8
+    ensures { λ r. ⌜ r ≡ lastBefore row k ⌝ }
+{
+    if k == 0 {
+        return 0;
+    }
+    let window = window_at(row, k - 1);
+    window.last
+}
+
+// Checks the window at a place of a row: its numbers, then the steps that it names, then its limit.
+// Past the last place it meets a window of zeros.
+pub fn check_window(row: Row, k: usize) -> Checked
+    ensures { λ r. ⌜ CheckWindow row k r ⌝ }
+{
+    let window = window_at(row, k);
+    if window.first == 0 {
+        return Checked::Refused(Refusal::OutOfRange);
+    }
+    if window.last == 0 {
+        return Checked::Refused(Refusal::OutOfRange);
+    }
+    if is_outside(1, LARGEST_LIMIT, window.limit as u32) {
+        return Checked::Refused(Refusal::OutOfRange);
+    }
+    if window.last <= window.first {
+        return Checked::Refused(Refusal::WindowSteps);
+    }
+    if row.steps < window.last {
+        return Checked::Refused(Refusal::WindowSteps);
+    }
+    if window.first <= last_before(row, k) {
+        return Checked::Refused(Refusal::WindowSteps);
+    }
+    if (window.limit as u32) < chain_of(row, window) {
+        return Checked::Refused(Refusal::LimitBelowChain);
+    }
+    Checked::Good
+}
