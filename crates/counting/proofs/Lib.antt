@@ -13,3 +13,8 @@ pub mod ThresholdLaws
 pub mod KeepLaws
 pub mod KeptTests
 pub mod PieceLaws
+pub mod EveryLaws
+pub mod OrderLaws
+pub mod KeyLaws
+pub mod ChangeLaws
+pub mod LeastLaws
