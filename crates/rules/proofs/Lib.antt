@@ -19,4 +19,3 @@ pub mod ClockBound
 pub mod TickLaws
 pub mod IdleKeeps
 pub mod MoveKeeps
-pub mod RunLaws
