@@ -19,3 +19,4 @@ pub mod ClockBound
 pub mod TickLaws
 pub mod IdleKeeps
 pub mod MoveKeeps
+pub mod RunLaws

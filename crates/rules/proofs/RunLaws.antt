@@ -12,7 +12,7 @@ use Rattle.rules.specs.declared.Slot.{Slot}
 use Rattle.rules.specs.declared.Outcome.{Outcome}
 use Rattle.rules.specs.declared.Outcome.the-variants.{Start, Idle, Done}
 use Rattle.rules.specs.State.{State, fresh}
-use Rattle.rules.specs.Outcomes.{outcomeNumber, outcomeStarts}
+use Rattle.rules.specs.Outcomes.{toldBy}
 use Rattle.rules.specs.Move.{Moved, startedFull, ticked, allFinished, nextSlot, handedBack, move}
 use Rattle.rules.specs.Run.{stateAfter, startsFrom, starts, enoughMoves, schedule}
 use Rattle.rules.proofs.TightBound.{tightBound}
@@ -91,28 +91,28 @@ module _ (L : View) (g : Good L) where
       ap (λ (m : Moved). m .outcome) (kept-done L (stateAfter L n fresh) g (run-kept n) (run-finished n h))
 
   -- a move that is not refused
-  kept-number : (s : State) → Kept L s → outcomeNumber (move L s .outcome) ≡ 0
+  kept-number : (s : State) → Kept L s → toldBy (move L s .outcome) .number ≡ 0
   kept-number s v = go (allFinished L s) refl
     where
-      by : Turn L s → outcomeNumber (move L s .outcome) ≡ 0
+      by : Turn L s → toldBy (move L s .outcome) .number ≡ 0
       by (starting i c e) = rw e
       by (idles none e) = rw e
 
-      go : (b : Bool) → allFinished L s ≡ b → outcomeNumber (move L s .outcome) ≡ 0
+      go : (b : Bool) → allFinished L s ≡ b → toldBy (move L s .outcome) .number ≡ 0
       go true d = rw (kept-done L s g v d)
       go false d = by (kept-turn L s g v d)
 
-  pub run-number : (n : ℕ) → outcomeNumber (move L (stateAfter L n fresh) .outcome) ≡ 0
+  pub run-number : (n : ℕ) → toldBy (move L (stateAfter L n fresh) .outcome) .number ≡ 0
   run-number n = kept-number (stateAfter L n fresh) (run-kept n)
 
   -- what the move after n moves starts
   abbrev pub startsAfter : ℕ → State → List Slot
-  startsAfter n s = outcomeStarts (move L (stateAfter L n s) .outcome)
+  startsAfter n s = toldBy (move L (stateAfter L n s) .outcome) .starts
 
   done-starts : (n : ℕ) (s : State) → Kept L s → allFinished L s ≡ true → startsAfter n s ≡ []
   done-starts n s v d =
-      ap (λ t. outcomeStarts (move L t .outcome)) (stateAfter-done n s v d)
-      ∙ ap (λ (m : Moved). outcomeStarts (m .outcome)) (kept-done L s g v d)
+      ap (λ t. toldBy (move L t .outcome) .starts) (stateAfter-done n s v d)
+      ∙ ap (λ (m : Moved). toldBy (m .outcome) .starts) (kept-done L s g v d)
 
   starts-zero : (s : State) → starts L 0 s ≡ []
   unfolding starts
@@ -129,10 +129,10 @@ module _ (L : View) (g : Good L) where
   starts-first : (s : State) → Kept L s → starts L 1 s ≡ startsAfter 0 s
   starts-first s v = go (allFinished L s) refl
     where
-      now : (m : Moved) → move L s ≡ m → startsAfter 0 s ≡ outcomeStarts (m .outcome)
+      now : (m : Moved) → move L s ≡ m → startsAfter 0 s ≡ toldBy (m .outcome) .starts
       now m e =
-          ap (λ t. outcomeStarts (move L t .outcome)) (stateAfter-zero s)
-          ∙ ap (λ (w : Moved). outcomeStarts (w .outcome)) e
+          ap (λ t. toldBy (move L t .outcome) .starts) (stateAfter-zero s)
+          ∙ ap (λ (w : Moved). toldBy (w .outcome) .starts) e
 
       by : Turn L s → starts L 1 s ≡ startsAfter 0 s
       by (starting i c e) =
@@ -189,7 +189,7 @@ module _ (L : View) (g : Good L) where
       ap (λ m. starts L m fresh) (add-suc n d)
       ∙ (starts-next (n + d) fresh (fresh-kept L g)
       ∙ (ap (λ l. starts L (n + d) fresh ++ l)
-      (ap (λ (o : Outcome). outcomeStarts o) (run-done (n + d) (omega arith)))
+      (ap (λ (o : Outcome). toldBy o .starts) (run-done (n + d) (omega arith)))
       ∙ (append-nil (starts L (n + d) fresh) ∙ starts-enough d n h)))
 
   starts-from-bound : (n : ℕ) → tightBound L ≤ n → starts L n fresh ≡ starts L (tightBound L) fresh
