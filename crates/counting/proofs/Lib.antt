@@ -5,6 +5,7 @@ pub mod MaxLaws
 pub mod FromLaws
 pub mod ListLaws
 pub mod MemberLaws
+pub mod FirstInLaws
 pub mod FirstToLaws
 pub mod SortLaws
 pub mod NumbersLaws

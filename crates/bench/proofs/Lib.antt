@@ -1,0 +1,4 @@
+-- Laws of the bench in memory, and sameness of results.
+pub mod HeldLaws
+pub mod LookLaws
+pub mod CallLaws
