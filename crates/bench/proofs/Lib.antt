@@ -1,4 +1,6 @@
 -- Laws of the bench in memory, and sameness of results.
 pub mod HeldLaws
 pub mod LookLaws
+pub mod CheckedLaws
+pub mod BoardLaws
 pub mod CallLaws

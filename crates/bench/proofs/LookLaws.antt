@@ -1,12 +1,13 @@
 -- What is looked up of a row: a window is open exactly where the first open one ends after the steps finished, and what
 -- is looked up of a row by itself is what is looked up of it in its load.
 use Prim.Native.Nat.{ℕ, zero, suc, _+_}
-use mathlib.Core.Bool.{Bool, true}
+use mathlib.Core.Bool.{_&&_}
 use mathlib.Core.Path.{_≡_, refl, ap, sym, _∙_}
 use native.Mathlib.Numerals.{add-one}
 use native.Mathlib.Omega.{arith}
 use borrow.Author.Tests.{le-ltb}
 use lib.Dec.{leb, ltb}
+use Rattle.counting.specs.Sums.{allTo, allFrom}
 use Rattle.counting.specs.Lists.{anyIn, firstIn}
 use Rattle.counting.proofs.TestLaws.{and-right}
 use Rattle.counting.proofs.FirstInLaws.{anyIn-firstIn}
@@ -14,9 +15,9 @@ use Rattle.load.specs.declared.Row.{Row}
 use Rattle.load.specs.declared.Step.{Step}
 use Rattle.load.specs.declared.Window.{Window}
 use Rattle.load.specs.declared.Load.{Load}
-use Rattle.load.specs.Load.{noWindow, stepAt, rowAt}
+use Rattle.load.specs.Load.{lastMoment, mostRows, noWindow, stepAt, rowAt}
 use Rattle.load.specs.View.{View, viewOf, chain}
-use Rattle.rules.specs.State.{State, isOpen, opensAt, openWith, openWindow}
+use Rattle.rules.specs.State.{State, isOpen, opensAt, openWith, openWindow, rowShaped, rowUnused, shaped}
 use Rattle.rules.specs.Ready.{release}
 use Rattle.rules.specs.Plan.{due, windowLeft}
 use Rattle.bench.specs.declared.Bench.{Bench}
@@ -90,3 +91,18 @@ pub look-of-row : (load : Load) (bench : Bench) (i : ℕ)
 unfolding lookOf viewOf opensAt openWindow windowLeft due
 look-of-row load bench i =
     rw (release-of-row load i (stateOf bench .finished i) (stateOf bench .end i))
+
+pub shape-of-row : (load : Load) (bench : Bench) (i : ℕ)
+    → rowShaped (viewAlike (rowAt load i))
+    (stateAlike (bench .clock) (stateOf bench .finished i) (stateOf bench .end i) (stateOf bench .opening i)) 0
+    ≡ rowShaped (viewOf load) (stateOf bench) i
+unfolding viewOf opensAt
+shape-of-row load bench i = refl
+
+pub shaped-is : (load : Load) (bench : Bench)
+    → shaped (viewOf load) (stateOf bench)
+    ≡ (leb (bench .clock) lastMoment
+    && allTo (rowShaped (viewOf load) (stateOf bench)) (load .rows)
+    && allFrom (rowUnused (stateOf bench)) (load .rows) mostRows)
+unfolding shaped viewOf
+shaped-is load bench = refl

@@ -3,3 +3,4 @@ pub mod Held
 pub mod Calls
 pub mod Updates
 pub mod Alike
+pub mod Boards

@@ -1,7 +1,9 @@
 // The bench, by value: a fresh one, and one move of it. A move is refused by the load's own numbers,
 // by a state that does not have the load's shape (10), and with the clock full (11).
+mod boards;
 mod lamps;
 mod lookups;
+mod shape;
 mod state;
 
 use load::MOST_ROWS;
@@ -42,4 +44,21 @@ pub struct Look {
     pub stays: bool,
     pub rest: u32,
     pub limit: u32,
+}
+
+// What is looked up of every row, one array a number. Places for rows that the load does not have
+// are 0.
+pub struct Board {
+    pub finished: [u8; MOST_ROWS],
+    pub steps: [u8; MOST_ROWS],
+    pub opening: [u32; MOST_ROWS],
+    pub cost: [u32; MOST_ROWS],
+    pub release: [u32; MOST_ROWS],
+    pub held: [bool; MOST_ROWS],
+    pub left: [u32; MOST_ROWS],
+    pub due: [u32; MOST_ROWS],
+    pub wait: [u32; MOST_ROWS],
+    pub stays: [bool; MOST_ROWS],
+    pub rest: [u32; MOST_ROWS],
+    pub limit: [u32; MOST_ROWS],
 }

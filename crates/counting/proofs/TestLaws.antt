@@ -114,3 +114,10 @@ pub test-ext : (a b : Bool) → (a ≡ true → b ≡ true) → (b ≡ true → 
 test-ext true b to from = sym (to refl)
 test-ext false true to from = from refl
 test-ext false false to from = refl
+
+pub false-allTo : (p : ℕ → Bool) (n i : ℕ) → i < n → p i ≡ false → allTo p n ≡ false
+false-allTo p n i l e = go (allTo p n) refl
+  where
+    go : (b : Bool) → allTo p n ≡ b → b ≡ false
+    go true q = absurd (true-false (p i) (allTo-true p n q i l) e)
+    go false q = refl
