@@ -3,4 +3,5 @@ pub mod HeldLaws
 pub mod LookLaws
 pub mod CheckedLaws
 pub mod BoardLaws
+pub mod StackLaws
 pub mod CallLaws

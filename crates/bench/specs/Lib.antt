@@ -4,3 +4,4 @@ pub mod Calls
 pub mod Updates
 pub mod Alike
 pub mod Boards
+pub mod Stacks

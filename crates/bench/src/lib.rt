@@ -3,6 +3,7 @@
 mod boards;
 mod lamps;
 mod lookups;
+mod plan;
 mod shape;
 mod state;
 
@@ -61,4 +62,11 @@ pub struct Board {
     pub stays: [bool; MOST_ROWS],
     pub rest: [u32; MOST_ROWS],
     pub limit: [u32; MOST_ROWS],
+}
+
+// What the plan has come to: the rows whose open windows are still to be finished, and the moment at
+// which those before them are.
+pub struct Stack {
+    pub waiting: [bool; MOST_ROWS],
+    pub time: u32,
 }

@@ -19,3 +19,4 @@ pub mod OrderLaws
 pub mod KeyLaws
 pub mod ChangeLaws
 pub mod LeastLaws
+pub mod SelectionLaws
