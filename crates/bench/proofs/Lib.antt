@@ -4,4 +4,6 @@ pub mod LookLaws
 pub mod CheckedLaws
 pub mod BoardLaws
 pub mod StackLaws
+pub mod SearchLaws
+pub mod PassLaws
 pub mod CallLaws

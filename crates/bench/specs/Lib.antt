@@ -5,3 +5,4 @@ pub mod Updates
 pub mod Alike
 pub mod Boards
 pub mod Stacks
+pub mod Choices

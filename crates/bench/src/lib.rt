@@ -4,6 +4,7 @@ mod boards;
 mod lamps;
 mod lookups;
 mod plan;
+mod search;
 mod shape;
 mod state;
 
