@@ -6,4 +6,6 @@ pub mod BoardLaws
 pub mod StackLaws
 pub mod SearchLaws
 pub mod PassLaws
+pub mod JoinLaws
+pub mod ChoiceLaws
 pub mod CallLaws
