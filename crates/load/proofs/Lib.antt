@@ -6,3 +6,5 @@ pub mod WindowChain
 pub mod WindowLaws
 pub mod WindowLeft
 pub mod ChainLaws
+pub mod TakenLaws
+pub mod CallLaws

@@ -97,3 +97,75 @@ fn check_parts(row: Row) -> Checked
     }
     Checked::Good
 }
+
+// Checks a row: its own fields, what it shares with an earlier row, and its parts. The caller says
+// whether its identifier and its box stand in an earlier row.
+fn check_row(row: Row, identifier_is_taken: bool, box_is_taken: bool) -> Checked
+    ensures { λ r. ⌜ ((load : Load) (i : ℕ)
+        → «identifier_is_taken» ≡ identifierTaken load i (row .identifier)
+        → «box_is_taken» ≡ boxTaken load i (row .«box_number»)
+        → r ≡ rowFault load i row) ⌝ }
+{
+    let fields = check_fields(row);
+    match fields {
+        Checked::Good => {}
+        Checked::Refused(refusal) => {
+            return Checked::Refused(refusal);
+        }
+    }
+    if identifier_is_taken {
+        return Checked::Refused(Refusal::IdentifierTaken);
+    }
+    if box_is_taken {
+        return Checked::Refused(Refusal::BoxTaken);
+    }
+    check_parts(row)
+}
+
+// Checks the used rows of a load, of which there are at most 24.
+fn check_rows(load: Load) -> Checked
+    requires { ⌜ load .rows ≤ mostRows ⌝ }
+    ensures { λ r. ⌜ r ≡ firstFaultTo (λ i. rowFault load i (rowAt load i)) (load .rows) ⌝ }
+{
+    let rows = load.rows as usize;
+    let mut identifiers = [Identifier(0); MOST_ROWS];
+    let mut boxes = [BoxNumber(0); MOST_ROWS];
+    for i in 0..rows {
+        let row = load.row[i];
+        let identifier = row.identifier;
+        let box_number = row.box_number;
+        let identifier_is_taken = identifier_taken(identifiers, i, identifier);
+        let box_is_taken = box_taken(boxes, i, box_number);
+        let found = check_row(row, identifier_is_taken, box_is_taken);
+        match found {
+            Checked::Good => {}
+            Checked::Refused(refusal) => {
+                return Checked::Refused(refusal);
+            }
+        }
+        identifiers[i] = identifier;
+        boxes[i] = box_number;
+    }
+    Checked::Good
+}
+
+// Checks a load; refuses with the first of 3 to 7 that is met.
+pub fn check_load(load: Load) -> Checked
+    ensures { λ r. ⌜ CheckLoad load r ⌝ }
+{
+    let rows = load.rows as usize;
+    if MOST_ROWS < rows {
+        return Checked::Refused(Refusal::OutOfRange);
+    }
+    let found = check_rows(load);
+    match found {
+        Checked::Good => {}
+        Checked::Refused(refusal) => {
+            return Checked::Refused(refusal);
+        }
+    }
+    if !zero_rows_from(load, rows) {
+        return Checked::Refused(Refusal::OutOfRange);
+    }
+    Checked::Good
+}

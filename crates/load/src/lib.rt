@@ -8,6 +8,7 @@ pub mod ranges;
 pub mod taken;
 mod zeros;
 
+pub use check::check_load;
 pub use faults::check_fields;
 pub use faults::check_step;
 pub use faults::check_window;

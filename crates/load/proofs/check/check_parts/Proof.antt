@@ -1,4 +1,4 @@
--- `check_parts` asks the parts of a row in their order, and returns at the first that is at fault.
+-- `check_parts` asks the parts of a row in their order, and returns at the first fault.
 use mathlib.Core.Bool.{true}
 use mathlib.Core.Path.{_≡_, sym, _∙_}
 use borrow.Author.Needs.{needs}
@@ -41,30 +41,33 @@ windows : tie.Need-returns-3
 windows c =
     let asked = c .before .before .before in
     let at1 = asked .before in
-    rw
-    (steps-good (at1 .before .before .before),
-    steps-zero at1,
-    sym (asked .check-windows .ensures) ∙ c .before .windows .given .1)
+    rw (
+      steps-good (at1 .before .before .before),
+      steps-zero at1,
+      sym (asked .check-windows .ensures) ∙ c .before .windows .given .1,
+    )
 
 unused-windows : tie.Need-returns-4
 unused-windows c =
     let at2 = c .before .before .before in
     let at1 = at2 .before .before .before in
-    rw
-    (steps-good (at1 .before .before .before),
-    steps-zero at1,
-    windows-good at2,
-    sym (c .before .zero-windows-from .ensures) ∙ not-true _ (c .if2 .taken))
+    rw (
+      steps-good (at1 .before .before .before),
+      steps-zero at1,
+      windows-good at2,
+      sym (c .before .zero-windows-from .ensures) ∙ not-true _ (c .if2 .taken),
+    )
 
 good : tie.Need-returns-5
 good c =
     let at2 = c .before .before .before in
     let at1 = at2 .before .before .before in
-    rw
-    (steps-good (at1 .before .before .before),
-    steps-zero at1,
-    windows-good at2,
-    sym (c .before .zero-windows-from .ensures) ∙ not-false _ (c .if2 .left))
+    rw (
+      steps-good (at1 .before .before .before),
+      steps-zero at1,
+      windows-good at2,
+      sym (c .before .zero-windows-from .ensures) ∙ not-false _ (c .if2 .left),
+    )
 
 pub check-parts-spec : {M : Type 1} → statement M
 check-parts-spec =

@@ -33,10 +33,11 @@ loop-again : tie.Need-loop-again Inv-loop μ-loop
 loop-again c =
     let asked = c .before .before in
     let turn = asked .before in
-    let row = turn .before .before .before .args .row in
-    (search needs,
-    firstFaultTo-next (checkStep row) (turn .before .loop .j)
-    ∙ andThen-both _ _ (turn .before .loop .inv .1) (sym (asked .check-step .ensures) ∙ c .enum-told .given .1))
+    let row = turn .before .before .before .args .row in (
+      search needs,
+      firstFaultTo-next (checkStep row) (turn .before .loop .j)
+          ∙ andThen-both _ _ (turn .before .loop .inv .1) (sym (asked .check-step .ensures) ∙ c .enum-told .given .1),
+    )
 
 none : tie.Need-returns-2 Inv-loop μ-loop
 none c =

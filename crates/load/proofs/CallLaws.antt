@@ -1,0 +1,60 @@
+-- Any two results that meet a call's contract are equal.
+use Prim.Native.Nat.{ℕ}
+use mathlib.Core.Bool.{Bool}
+use mathlib.Core.List.{List}
+use mathlib.Core.Path.{_≡_, sym, _∙_}
+use Rattle.refusals.specs.declared.Checked.{Checked}
+use Rattle.load.specs.declared.Identifier.{Identifier}
+use Rattle.load.specs.declared.BoxNumber.{BoxNumber}
+use Rattle.load.specs.declared.Step.{Step}
+use Rattle.load.specs.declared.Window.{Window}
+use Rattle.load.specs.declared.Row.{Row}
+use Rattle.load.specs.declared.Load.{Load}
+use Rattle.load.specs.Calls.{
+  CheckLoad,
+  CheckFields,
+  CheckStep,
+  CheckWindow,
+  IdentifierTaken,
+  BoxTaken,
+  RowAt,
+  StepAt,
+  WindowAt,
+  ZeroRow,
+  ZeroLoad,
+}
+
+pub CheckLoad-unique : (load : Load) (r s : Checked) → CheckLoad load r → CheckLoad load s → r ≡ s
+CheckLoad-unique load r s p q = p ∙ sym q
+
+pub CheckFields-unique : (row : Row) (r s : Checked) → CheckFields row r → CheckFields row s → r ≡ s
+CheckFields-unique row r s p q = p ∙ sym q
+
+pub CheckStep-unique : (row : Row) (j : ℕ) (r s : Checked) → CheckStep row j r → CheckStep row j s → r ≡ s
+CheckStep-unique row j r s p q = p ∙ sym q
+
+pub CheckWindow-unique : (row : Row) (k : ℕ) (r s : Checked) → CheckWindow row k r → CheckWindow row k s → r ≡ s
+CheckWindow-unique row k r s p q = p ∙ sym q
+
+pub IdentifierTaken-unique : (identifiers : List Identifier) (n : ℕ) (identifier : Identifier) (r s : Bool)
+    → IdentifierTaken identifiers n identifier r → IdentifierTaken identifiers n identifier s → r ≡ s
+IdentifierTaken-unique identifiers n identifier r s p q = p ∙ sym q
+
+pub BoxTaken-unique : (boxes : List BoxNumber) (n : ℕ) (box : BoxNumber) (r s : Bool)
+    → BoxTaken boxes n box r → BoxTaken boxes n box s → r ≡ s
+BoxTaken-unique boxes n box r s p q = p ∙ sym q
+
+pub RowAt-unique : (load : Load) (i : ℕ) (r s : Row) → RowAt load i r → RowAt load i s → r ≡ s
+RowAt-unique load i r s p q = p ∙ sym q
+
+pub StepAt-unique : (row : Row) (j : ℕ) (r s : Step) → StepAt row j r → StepAt row j s → r ≡ s
+StepAt-unique row j r s p q = p ∙ sym q
+
+pub WindowAt-unique : (row : Row) (k : ℕ) (r s : Window) → WindowAt row k r → WindowAt row k s → r ≡ s
+WindowAt-unique row k r s p q = p ∙ sym q
+
+pub ZeroRow-unique : (r s : Row) → ZeroRow r → ZeroRow s → r ≡ s
+ZeroRow-unique r s p q = p ∙ sym q
+
+pub ZeroLoad-unique : (r s : Load) → ZeroLoad r → ZeroLoad s → r ≡ s
+ZeroLoad-unique r s p q = p ∙ sym q
