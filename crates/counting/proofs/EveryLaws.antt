@@ -4,10 +4,10 @@ use Prim.Native.Nat.{ℕ, zero, suc, _<_}
 use mathlib.Core.Bool.{Bool, true, false, cond}
 use mathlib.Core.List.{List, [], _∷_, _++_, append-nil}
 use mathlib.Core.Logic.{_≢_}
-use mathlib.Core.Path.{_≡_, refl}
+use mathlib.Core.Path.{_≡_, refl, ap₂}
 use native.Mathlib.Decide.{ℕ-discrete}
 use native.Mathlib.Omega.{arith}
-use Rattle.counting.specs.Lists.{joinTo, keepIn, numbersWhere}
+use Rattle.counting.specs.Lists.{joinTo, keepIn, firstIn, numbersWhere}
 use Rattle.counting.specs.Searches.{Found, at, none, found}
 use Rattle.counting.specs.Sorting.{inserted, sorted}
 use Rattle.counting.proofs.TestLaws.{true-false}
@@ -30,6 +30,20 @@ module _ {A : Type 0} where
       go : (b : Bool) → Every P (keepIn q rest) → Every P (cond b (a ∷ keepIn q rest) (keepIn q rest))
       go true f = (e .0, f)
       go false f = f
+
+  -- the first that has p, among those kept, where all that have p are kept
+  pub firstIn-kept : (p q : A → Bool) (z : A) (l : List A) → Every (λ a. p a ≡ true → q a ≡ true) l
+      → firstIn p z (keepIn q l) ≡ firstIn p z l
+  unfolding firstIn keepIn
+  firstIn-kept p q z [] e = refl
+  firstIn-kept p q z (a ∷ rest) e = go (q a) refl (p a) refl (firstIn-kept p q z rest (e .1))
+    where
+      go : (b : Bool) → q a ≡ b → (c : Bool) → p a ≡ c → firstIn p z (keepIn q rest) ≡ firstIn p z rest
+          → firstIn p z (cond b (a ∷ keepIn q rest) (keepIn q rest)) ≡ cond c a (firstIn p z rest)
+      go true f true h ih = rw h
+      go true f false h ih = rw h ih
+      go false f true h ih = absurd (true-false (q a) (e .0 h) f)
+      go false f false h ih = ih
 
   module _ (P : A → Type 0) (before : A → A → Bool) where
     pub every-inserted : (a : A) (l : List A) → P a → Every P l → Every P (inserted before a l)
@@ -124,3 +138,9 @@ found-none p (a ∷ rest) h = go (p a) refl (found-none p rest) h
         → (p a ≡ false) × Every (λ i. p i ≡ false) rest
     go true q ih f = absurd (let z : _≡_ {A = ℕ} 0 1 = cc in omega arith)
     go false q ih f = (q, ih f)
+
+pub found-ext : (p q : ℕ → Bool) (l : List ℕ) → Every (λ i. p i ≡ q i) l → found p l ≡ found q l
+unfolding found
+found-ext p q [] e = refl
+found-ext p q (a ∷ rest) e =
+    ap₂ (λ b (r : Found). elim b as (λ x. Found) [ true ↦ at a | false ↦ r ]) (e .0) (found-ext p q rest (e .1))

@@ -10,13 +10,13 @@ pub mod FirstToLaws
 pub mod SortLaws
 pub mod NumbersLaws
 pub mod SmallestLaws
-pub mod ThresholdLaws
-pub mod KeepLaws
-pub mod KeptTests
-pub mod PieceLaws
 pub mod EveryLaws
 pub mod OrderLaws
 pub mod KeyLaws
 pub mod ChangeLaws
 pub mod LeastLaws
 pub mod SelectionLaws
+pub mod ThresholdLaws
+pub mod KeepLaws
+pub mod KeptTests
+pub mod PieceLaws

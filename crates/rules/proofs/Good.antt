@@ -3,12 +3,13 @@
 use Prim.Native.Nat.{ℕ, suc, _+_, _≤_, _<_}
 use mathlib.Core.Bool.{true, false}
 use mathlib.Core.Path.{_≡_}
-use lib.ListN.{length, getD}
+use lib.ListN.{length}
 use Rattle.counting.specs.Lists.{firstIn}
 use Rattle.load.specs.declared.Window.{Window}
 use Rattle.load.specs.Load.{mostRows, mostSteps, latestPhase, largestCost, largestWait, noWindow}
 use Rattle.load.specs.View.{View, chain, embedded}
-use Rattle.rules.specs.State.{openWith, opensAt}
+use Rattle.load.specs.Acceptable.{windowOf}
+use Rattle.rules.specs.State.{openWith}
 
 -- the window of row i that is open once f of its steps are finished
 unfoldable pub openAt : View → ℕ → ℕ → Window
@@ -22,10 +23,6 @@ limitAt L i f = openAt L i f .limit
 unfoldable pub leftAt : View → ℕ → ℕ → ℕ
 leftAt L i f = chain (L .cost i) (L .wait i) f (openAt L i f .last)
 
--- the window at a place of row i
-abbrev pub windowAt : View → ℕ → ℕ → Window
-windowAt L i p = getD (L .windows i) p noWindow
-
 pub record Good (L : View) : Type 0 where
   -- ranges
   pub rows-most : L .rows ≤ mostRows
@@ -38,8 +35,6 @@ pub record Good (L : View) : Type 0 where
   -- a row's first step is free, and an embedded step is a step
   pub first-free : (i : ℕ) → i < L .rows → embedded L i 0 ≡ false
   pub embedded-in : (i j : ℕ) → i < L .rows → embedded L i j ≡ true → j < L .steps i
-  -- a window is open exactly when the next step is embedded
-  pub opens : (i f : ℕ) → i < L .rows → opensAt L i f ≡ embedded L i f
   -- neighbouring embedded steps stand in one window
   pub one-limit : (i j : ℕ) → i < L .rows → embedded L i j ≡ true → embedded L i (suc j) ≡ true
       → limitAt L i (suc j) ≡ limitAt L i j
@@ -51,10 +46,12 @@ pub record Good (L : View) : Type 0 where
   -- the limit is at least the chain, from the window's first step on
   pub chain-fits : (i j : ℕ) → i < L .rows → embedded L i j ≡ false → embedded L i (suc j) ≡ true
       → L .cost i j + (L .wait i j + leftAt L i (suc j)) ≤ limitAt L i (suc j)
-  -- a window has two steps or more, all of them the row's, and is the open one in between
-  pub first-least : (i p : ℕ) → i < L .rows → p < length (L .windows i) → 1 ≤ windowAt L i p .first
+  -- a window has two steps or more, all of them the row's, the first of them free, and is the open one in between
+  pub first-least : (i p : ℕ) → i < L .rows → p < length (L .windows i) → 1 ≤ windowOf L i p .first
   pub first-last : (i p : ℕ) → i < L .rows → p < length (L .windows i)
-      → windowAt L i p .first < windowAt L i p .last
-  pub last-most : (i p : ℕ) → i < L .rows → p < length (L .windows i) → windowAt L i p .last ≤ L .steps i
-  pub open-window : (i p f : ℕ) → i < L .rows → p < length (L .windows i) → windowAt L i p .first ≤ f
-      → f < windowAt L i p .last → openAt L i f ≡ windowAt L i p
+      → windowOf L i p .first < windowOf L i p .last
+  pub last-most : (i p : ℕ) → i < L .rows → p < length (L .windows i) → windowOf L i p .last ≤ L .steps i
+  pub window-first : (i p f : ℕ) → i < L .rows → p < length (L .windows i) → windowOf L i p .first ≡ suc f
+      → embedded L i f ≡ false
+  pub open-window : (i p f : ℕ) → i < L .rows → p < length (L .windows i) → windowOf L i p .first ≤ f
+      → f < windowOf L i p .last → openAt L i f ≡ windowOf L i p

@@ -24,6 +24,7 @@ use Rattle.rules.specs.Plan.{stack, planPasses}
 use Rattle.rules.specs.Move.{ticked}
 use Rattle.rules.proofs.TightBound.{minima}
 use Rattle.rules.proofs.Good.{Good}
+use Rattle.rules.proofs.WindowsOpen.{opensAt-embedded}
 use Rattle.rules.proofs.MoveLaws.{CanStart}
 use Rattle.rules.proofs.PlanLaws.{FirstWaits}
 use Rattle.rules.proofs.StackLaws.{stack-every, tick-passes}
@@ -116,7 +117,8 @@ module _ (L : View) (s : State) (g : Good L) {E P : ℕ} {F : ℕ → ℕ} (v : 
         go false e = refl
         go true e =
             absurd
-            (stack-every L s (λ k. ⊥) (subst (Every (λ k. ⊥)) (sym shut) tt) i l (g .opens i (s .finished i) l ∙ e))
+            (stack-every L s (λ k. ⊥) (subst (Every (λ k. ⊥)) (sym shut) tt) i l
+            (opensAt-embedded L i (s .finished i) ∙ e))
 
     not-ready : (i : ℕ) → i < L .rows → s .finished i < L .steps i
         → ((k : ℕ) → k < L .rows → min (s .finished i) (L .steps k) ≤ s .finished k) → s .clock < released L s i

@@ -96,7 +96,7 @@ pub record CanStart (L : View) (s : State) (i : ℕ) : Type 0 where
   pub in-time : wouldEnd L s i ≤ lastMoment
   pub plan : passes L s i ≡ true
 
-isCandidate-true : (L : View) (s : State) (i : ℕ) → i < L .rows → isCandidate L s i ≡ true → passes L s i ≡ true
+pub isCandidate-true : (L : View) (s : State) (i : ℕ) → i < L .rows → isCandidate L s i ≡ true → passes L s i ≡ true
     → CanStart L s i
 unfolding isCandidate
 isCandidate-true L s i l h p =
@@ -121,7 +121,7 @@ isCandidate-true L s i l h p =
     d : Bool
     d = leb (wouldEnd L s i) lastMoment
 
-canStart-isCandidate : (L : View) (s : State) (i : ℕ) → CanStart L s i → isCandidate L s i ≡ true
+pub canStart-isCandidate : (L : View) (s : State) (i : ℕ) → CanStart L s i → isCandidate L s i ≡ true
 unfolding isCandidate
 canStart-isCandidate L s i c =
     rw (
@@ -140,7 +140,7 @@ pub move-done : (L : View) (s : State) → shaped L s ≡ true → allFinished L
 unfolding move shapedMove
 move-done L s h d = rw (h, move) (rw (d, shapedMove))
 
-chosen-at : (L : View) (s : State) (i : ℕ) → chosen L s ≡ at i → CanStart L s i
+pub chosen-at : (L : View) (s : State) (i : ℕ) → chosen L s ≡ at i → CanStart L s i
 unfolding chosen candidates
 chosen-at L s i e =
     let f = found-at Right (passes L s) (candidates L s) i
@@ -159,7 +159,7 @@ chosen-none L s e i c =
     (sorted-every (λ k. passes L s k ≡ false) (byKey (s .finished)) (numbersWhere (isCandidate L s) (L .rows))
     (found-none (passes L s) (candidates L s) e)) i (c .there) (canStart-isCandidate L s i c))
 
-move-goes : (L : View) (s : State) → shaped L s ≡ true → allFinished L s ≡ false → s .clock < lastMoment
+pub move-goes : (L : View) (s : State) → shaped L s ≡ true → allFinished L s ≡ false → s .clock < lastMoment
     → move L s ≡ startOrIdle L s (chosen L s)
 unfolding move shapedMove
 move-goes L s h d l = rw (h, move) (rw (d, shapedMove) (rw (lt-leb lastMoment (s .clock) l)))

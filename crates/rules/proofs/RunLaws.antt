@@ -7,10 +7,11 @@ use mathlib.Core.Path.{_≡_, refl, ap, ap₂, sym, _∙_, subst}
 use native.Mathlib.Nat.{add-zero, add-suc}
 use native.Mathlib.Omega.{arith}
 use Rattle.counting.proofs.TestLaws.{true-false}
+use Rattle.refusals.specs.declared.Refusal.{Refusal}
 use Rattle.load.specs.View.{View}
 use Rattle.rules.specs.declared.Slot.{Slot}
 use Rattle.rules.specs.declared.Outcome.{Outcome}
-use Rattle.rules.specs.declared.Outcome.the-variants.{Start, Idle, Done}
+use Rattle.rules.specs.declared.Outcome.the-variants.{Start, Idle, Done, Refused}
 use Rattle.rules.specs.State.{State, fresh}
 use Rattle.rules.specs.Outcomes.{toldBy}
 use Rattle.rules.specs.Move.{Moved, startedFull, ticked, allFinished, nextSlot, handedBack, move}
@@ -91,19 +92,22 @@ module _ (L : View) (g : Good L) where
       ap (λ (m : Moved). m .outcome) (kept-done L (stateAfter L n fresh) g (run-kept n) (run-finished n h))
 
   -- a move that is not refused
-  kept-number : (s : State) → Kept L s → toldBy (move L s .outcome) .number ≡ 0
-  kept-number s v = go (allFinished L s) refl
+  kept-answers : (s : State) → Kept L s → (r : Refusal) → move L s .outcome ≡ Refused r → ⊥
+  kept-answers s v r h = go (allFinished L s) refl
     where
-      by : Turn L s → toldBy (move L s .outcome) .number ≡ 0
-      by (starting i c e) = rw e
-      by (idles none e) = rw e
+      by : Turn L s → ⊥
+      by (starting i c e) = let q = ap (λ (m : Moved). m .outcome) e in let z : _≡_ {A = ℕ} 0 1 = cc in omega arith
+      by (idles none e) = let q = ap (λ (m : Moved). m .outcome) e in let z : _≡_ {A = ℕ} 0 1 = cc in omega arith
 
-      go : (b : Bool) → allFinished L s ≡ b → toldBy (move L s .outcome) .number ≡ 0
-      go true d = rw (kept-done L s g v d)
+      go : (b : Bool) → allFinished L s ≡ b → ⊥
+      go true d =
+          let q = ap (λ (m : Moved). m .outcome) (kept-done L s g v d) in
+          let z : _≡_ {A = ℕ} 0 1 = cc in
+          omega arith
       go false d = by (kept-turn L s g v d)
 
-  pub run-number : (n : ℕ) → toldBy (move L (stateAfter L n fresh) .outcome) .number ≡ 0
-  run-number n = kept-number (stateAfter L n fresh) (run-kept n)
+  pub run-answers : (n : ℕ) (r : Refusal) → move L (stateAfter L n fresh) .outcome ≡ Refused r → ⊥
+  run-answers n = kept-answers (stateAfter L n fresh) (run-kept n)
 
   -- what the move after n moves starts
   abbrev pub startsAfter : ℕ → State → List Slot

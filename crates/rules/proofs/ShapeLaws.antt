@@ -14,6 +14,7 @@ use Rattle.load.specs.View.{View, embedded}
 use Rattle.rules.specs.State.{State, fresh, isOpen, opensAt, endFits, openingFits, rowShaped, rowUnused, shaped}
 use Rattle.rules.specs.Move.{started, ticked, openingAfter}
 use Rattle.rules.proofs.Good.{Good}
+use Rattle.rules.proofs.WindowsOpen.{opensAt-embedded}
 use Rattle.rules.proofs.MoveLaws.{
   started-clock,
   started-finished-same,
@@ -54,7 +55,7 @@ module _ (L : View) (s : State) (g : Good L) (h : Shape L s) where
   opening-fits i l = le-leb (s .opening i) (cond (isOpen L s i) (s .end i) 0) (go (isOpen L s i) refl)
     where
       is : embedded L i (s .finished i) ≡ isOpen L s i
-      is = sym (g .opens i (s .finished i) l)
+      is = sym (opensAt-embedded L i (s .finished i))
 
       go : (b : Bool) → isOpen L s i ≡ b → s .opening i ≤ cond b (s .end i) 0
       go true e = h .opening-le i l (is ∙ e)
@@ -113,14 +114,14 @@ module _ (L : View) (s : State) (k long : ℕ) (g : Good L) (h : Shape L s) (the
   own-opening-le e = go (isOpen L s k) refl
     where
       opened : opensAt L k (suc (s .finished k)) ≡ true
-      opened = g .opens k (suc (s .finished k)) there ∙ e
+      opened = opensAt-embedded L k (suc (s .finished k)) ∙ e
 
       go : (b : Bool) → isOpen L s k ≡ b → openingAfter L s k ≤ s .clock + long
       go true o =
           omega (
             arith,
             openingAfter-kept L s k o opened,
-            h .opening-le k there (sym (g .opens k (s .finished k) there) ∙ o),
+            h .opening-le k there (sym (opensAt-embedded L k (s .finished k)) ∙ o),
             h .end-le k there,
           )
       go false o = omega (arith, openingAfter-new L s k o opened)
@@ -183,5 +184,5 @@ module _ (L : View) (s : State) (k long : ℕ) (g : Good L) (h : Shape L s) (the
       own-zero z e =
           started-opening-same L s k long
           ∙ openingAfter-none L s k
-          (g .opens k (suc (s .finished k)) there
+          (opensAt-embedded L k (suc (s .finished k))
           ∙ (sym (ap (embedded L k) (started-finished-same L s k long)) ∙ rw e at z))

@@ -1,5 +1,5 @@
--- The stack of open windows: its first row, ready, passes the plan when it starts, as the plan afterwards is the plan
--- before, or its tail; a free step passes when no window is open; and a tick keeps the plan while the first row waits.
+-- The stack of open windows: it looks at which rows are open and when they are due; what every open row has, each of
+-- its rows has; a tick keeps the plan while its first row waits; and a start leaves all rows but one as they are.
 use Prim.Native.Nat.{ℕ, suc, _+_, _≤_, _<_}
 use mathlib.Core.Bool.{true, false}
 use mathlib.Core.List.{[]}
@@ -11,7 +11,7 @@ use Rattle.counting.proofs.SortLaws.{Every, Every-sorted}
 use Rattle.counting.proofs.EveryLaws.{every-numbersWhere, numbersWhere-every, numbersWhere-none, sorted-every}
 use Rattle.counting.proofs.KeyLaws.{sorted-same}
 use Rattle.load.specs.View.{View}
-use Rattle.rules.specs.State.{State, isOpen, openWindow}
+use Rattle.rules.specs.State.{State, isOpen, openWindow, opensAt}
 use Rattle.rules.specs.Ready.{release, released}
 use Rattle.rules.specs.Plan.{due, stack, windowLeft, inTime, planPasses}
 use Rattle.rules.specs.Move.{started, ticked, openingAfter}
@@ -90,6 +90,9 @@ tick-passes L s h p =
 module _ (L : View) (s : State) (k long : ℕ) where
   pub isOpen-other : (i : ℕ) → i ≢ k → isOpen L (started L s k long) i ≡ isOpen L s i
   isOpen-other i ne = rw (started-finished-other L s k long i ne)
+
+  pub isOpen-same : isOpen L (started L s k long) k ≡ opensAt L k (suc (s .finished k))
+  isOpen-same = ap (opensAt L k) (started-finished-same L s k long)
 
   pub job-other : (i : ℕ) → i ≢ k → SameJob L L (started L s k long) s i
   unfolding due windowLeft openWindow

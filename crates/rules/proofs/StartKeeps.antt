@@ -1,19 +1,17 @@
 -- A start keeps the invariant: only one row changes, so each sum changes at one index, and what that row is newly
 -- charged with is the cost that passes.
 use Prim.Native.Nat.{ℕ, suc, _+_, _-_, _≤_, _<_, min}
-use mathlib.Core.Bool.{Bool, true, false, cond, _||_}
+use mathlib.Core.Bool.{true, false, cond}
 use mathlib.Core.Logic.{_≢_}
-use mathlib.Core.Path.{_≡_, refl, ap, ap₂, sym, _∙_}
+use mathlib.Core.Path.{_≡_, ap, ap₂, sym, _∙_}
 use native.Mathlib.Decide.{ℕ-discrete, decLt}
 use native.Mathlib.Omega.{arith}
-use borrow.Author.Tests.{leb-true}
-use Rattle.counting.specs.Sums.{sumTo, allTo}
-use Rattle.counting.proofs.TestLaws.{true-false, allTo-true}
+use Rattle.counting.specs.Sums.{sumTo}
 use Rattle.counting.proofs.SumLaws.{sumTo-mono}
 use Rattle.counting.proofs.ChangeLaws.{sumTo-change, sumTo-change-le, sumTo-suc, cond-le, cond-mono}
 use Rattle.load.specs.View.{View, embedded, isFree}
 use Rattle.rules.specs.State.{State}
-use Rattle.rules.specs.Ready.{finishedBelow, isAllowed}
+use Rattle.rules.specs.Ready.{isAllowed}
 use Rattle.rules.specs.Move.{startedFull, passes}
 use Rattle.rules.proofs.Good.{Good}
 use Rattle.rules.proofs.MoveLaws.{
@@ -25,6 +23,7 @@ use Rattle.rules.proofs.MoveLaws.{
   started-end-other,
 }
 use Rattle.rules.proofs.ShapeLaws.{started-keeps-shape}
+use Rattle.rules.proofs.TickLaws.{allowed-free}
 use Rattle.rules.proofs.Invariant.{
   spent,
   waitedOf,
@@ -130,7 +129,7 @@ module _ (L : View) (s : State) (k : ℕ) (g : Good L) (lk : k < L .rows) (fk : 
 
   pub start-keeps : {E P : ℕ} {F : ℕ → ℕ} → Invariant L s E P F → isAllowed L s k ≡ true → passes L s k ≡ true
       → Invariant L (startedFull L s k) E P F
-  unfolding c s′ isAllowed passes
+  unfolding c s′ passes
   start-keeps {E} {P} {F} v allowed pass =
       record {
         shape = started-keeps-shape L s k d g (v .shape) lk fk;
@@ -161,24 +160,17 @@ module _ (L : View) (s : State) (k : ℕ) (g : Good L) (lk : k < L .rows) (fk : 
       t : State
       t = startedFull L s k
 
-      low : embedded L k (s .finished k) ≡ false → (i : ℕ) → i < L .rows
-          → min (s .finished k) (L .steps i) ≤ s .finished i
-      low f i l = go (embedded L k (s .finished k)) f allowed
-        where
-          go : (b : Bool) → b ≡ false → (b || allTo (finishedBelow L s (s .finished k)) (L .rows)) ≡ true
-              → min (s .finished k) (L .steps i) ≤ s .finished i
-          go true e h = absurd (true-false true refl e)
-          go false e h =
-              leb-true (min (s .finished k) (L .steps i)) (s .finished i)
-              (allTo-true (finishedBelow L s (s .finished k)) (L .rows) h i l)
-
       stage-after : (x q i : ℕ) → x < L .rows → i < L .rows → q < t .finished x → embedded L x q ≡ false
           → min q (L .steps i) ≤ t .finished i
       stage-after x q i lx l lq e =
           elim (ℕ-discrete x k) [
             | yes a ↦ elim (ℕ-discrete q (s .finished k)) [
               | yes b ↦
-                  omega (arith, low (sym (ap₂ (embedded L) a b) ∙ e) i l, started-finished-le L s k d i)
+                  omega (
+                    arith,
+                    allowed-free L s k allowed (sym (ap₂ (embedded L) a b) ∙ e) i l,
+                    started-finished-le L s k d i,
+                  )
               | no b ↦
                   omega (
                     arith,

@@ -1,5 +1,5 @@
 -- Which starts pass the plan: the first row of the stack once it is ready, whose plan afterwards is the plan before, or
--- its tail; and any row while no window is open. And a step that ends early keeps the plan.
+-- its tail; and any row while no window is open.
 use Prim.Native.Nat.{ℕ, suc, _+_, _≤_, _<_}
 use mathlib.Core.Bool.{Bool, true, false, _&&_, cond}
 use mathlib.Core.List.{List, [], _∷_}
@@ -20,7 +20,8 @@ use Rattle.rules.specs.Ready.{released}
 use Rattle.rules.specs.Plan.{due, stack, finish, inTime, planPasses}
 use Rattle.rules.specs.Move.{started, startedFull, passes}
 use Rattle.rules.proofs.Good.{Good}
-use Rattle.rules.proofs.MoveLaws.{started-clock, started-finished-same, openingAfter-kept, openingAfter-new}
+use Rattle.rules.proofs.WindowsOpen.{opensAt-embedded}
+use Rattle.rules.proofs.MoveLaws.{started-clock, openingAfter-kept, openingAfter-new}
 use Rattle.rules.proofs.PlanLaws.{SameJob, inTime-ext, inTime-next, inTime-none}
 use Rattle.rules.proofs.StackLaws.{
   due-is,
@@ -29,15 +30,12 @@ use Rattle.rules.proofs.StackLaws.{
   stack-ext,
   stack-none,
   isOpen-other,
+  isOpen-same,
   job-other,
   released-same,
   windowLeft-same,
   due-same,
 }
-
--- the row that starts, afterwards
-isOpen-same : (L : View) (s : State) (k long : ℕ) → isOpen L (started L s k long) k ≡ opensAt L k (suc (s .finished k))
-isOpen-same L s k long = ap (opensAt L k) (started-finished-same L s k long)
 
 -- the first row of the stack is open
 pub head-there : (L : View) (s : State) (r : ℕ) (rest : List ℕ) → stack L s ≡ r ∷ rest
@@ -72,7 +70,7 @@ module _ (L : View) (s : State) (g : Good L) (r : ℕ) (rest : List ℕ) (first 
   pub head-embedded : embedded L r (s .finished r) ≡ true
   head-embedded =
       let h = head-there L s r rest first in
-      sym (g .opens r (s .finished r) (h .0)) ∙ h .1
+      sym (opensAt-embedded L r (s .finished r)) ∙ h .1
 
   pub head-passes : released L s r ≤ s .clock → planPasses L s (s .clock) ≡ true → passes L s r ≡ true
   unfolding passes
@@ -115,14 +113,14 @@ module _ (L : View) (s : State) (g : Good L) (r : ℕ) (rest : List ℕ) (first 
 
       go : (b : Bool) → embedded L r (suc f) ≡ b → planPasses L s′ (s′ .clock) ≡ true
       go false e =
-          let shut : opensAt L r (suc f) ≡ false = g .opens r (suc f) there ∙ e in
+          let shut : opensAt L r (suc f) ≡ false = opensAt-embedded L r (suc f) ∙ e in
           let q : s′ .clock ≡ t =
           omega (arith, now, windowLeft-is L s r, g .left-last r f there inside e) in
           ap (inTime L s′ (s′ .clock)) (stack-rest L s r rest c first shut) ∙ ap (λ u. inTime L s′ u rest) q ∙ tail
       go true e = ap (inTime L s′ (s′ .clock)) (same ∙ first) ∙ (inTime-next L s′ (s′ .clock) r rest ∙ on)
         where
           opened : opensAt L r (suc f) ≡ true
-          opened = g .opens r (suc f) there ∙ e
+          opened = opensAt-embedded L r (suc f) ∙ e
 
           kept : due L s′ r ≡ due L s r
           kept =
@@ -184,13 +182,13 @@ free-passes L s k g l none = go (embedded L k (suc (s .finished k))) refl
     s′ = startedFull L s k
 
     shut : (i : ℕ) → i < L .rows → isOpen L s i ≡ false
-    shut i li = g .opens i (s .finished i) li ∙ none i li
+    shut i li = opensAt-embedded L i (s .finished i) ∙ none i li
 
     other : (i : ℕ) → i < L .rows → i ≢ k → isOpen L s′ i ≡ false
     other i li ne = isOpen-other L s k c i ne ∙ shut i li
 
     own : isOpen L s′ k ≡ embedded L k (suc f)
-    own = isOpen-same L s k c ∙ g .opens k (suc f) l
+    own = isOpen-same L s k c ∙ opensAt-embedded L k (suc f)
 
     go : (b : Bool) → embedded L k (suc f) ≡ b → planPasses L s′ (s′ .clock) ≡ true
     go false e =
@@ -198,7 +196,7 @@ free-passes L s k g l none = go (embedded L k (suc (s .finished k))) refl
         stack-none L s′ (λ i li. elim (ℕ-discrete i k) [ yes z ↦ rw z (own ∙ e) | no z ↦ other i li z ]) in
         ap (inTime L s′ (s′ .clock)) q ∙ inTime-none L s′ (s′ .clock)
     go true e =
-        let opened : opensAt L k (suc f) ≡ true = g .opens k (suc f) l ∙ e in
+        let opened : opensAt L k (suc f) ≡ true = opensAt-embedded L k (suc f) ∙ e in
         let fits : finish L s′ (s′ .clock) k ≤ due L s′ k =
         omega (
           arith,
@@ -219,4 +217,5 @@ free-passes L s k g l none = go (embedded L k (suc (s .finished k))) refl
 pub fresh-passes : (L : View) → Good L → planPasses L fresh 0 ≡ true
 unfolding fresh
 fresh-passes L g =
-    ap (inTime L fresh 0) (stack-none L fresh (λ i l. g .opens i 0 l ∙ g .first-free i l)) ∙ inTime-none L fresh 0
+    ap (inTime L fresh 0) (stack-none L fresh (λ i l. opensAt-embedded L i 0 ∙ g .first-free i l))
+    ∙ inTime-none L fresh 0

@@ -5,9 +5,9 @@ use mathlib.Core.Bool.{Bool, true, false, cond, _||_}
 use mathlib.Core.Logic.{_≢_}
 use mathlib.Core.Path.{_≡_, refl, subst}
 use native.Mathlib.Omega.{arith}
-use borrow.Author.Tests.{le-leb}
+use borrow.Author.Tests.{leb-true, le-leb}
 use Rattle.counting.specs.Sums.{maxTo, allTo}
-use Rattle.counting.proofs.TestLaws.{true-allTo, true-false}
+use Rattle.counting.proofs.TestLaws.{allTo-true, true-allTo, true-false}
 use Rattle.counting.proofs.SumLaws.{sumTo-mono, value-le-maxTo}
 use Rattle.counting.proofs.ChangeLaws.{sumTo-change-ge, cond-mono}
 use Rattle.load.specs.View.{View, embedded, isFree}
@@ -21,18 +21,19 @@ use Rattle.rules.proofs.Invariant.{
   waitedRow,
   waitedOf,
   waited,
+  waitedRow-mono,
   worked,
   isOther,
   workedSince,
   isOther-other,
   isOther-free,
 }
-use Rattle.rules.proofs.Invariant.{waitedRow-mono}
 
 pub allowed-embedded : (L : View) (s : State) (i : ℕ) → embedded L i (s .finished i) ≡ true → isAllowed L s i ≡ true
 unfolding isAllowed
 allowed-embedded L s i e = rw e
 
+-- a lowest next step is allowed
 pub allowed-lowest : (L : View) (s : State) (i : ℕ)
     → ((k : ℕ) → k < L .rows → min (s .finished i) (L .steps k) ≤ s .finished k) → isAllowed L s i ≡ true
 unfolding isAllowed
@@ -45,6 +46,19 @@ allowed-lowest L s i h =
         → (b || allTo (finishedBelow L s (s .finished i)) (L .rows)) ≡ true
     go true e = refl
     go false e = e
+
+-- and an allowed next step that is free is one
+pub allowed-free : (L : View) (s : State) (i : ℕ) → isAllowed L s i ≡ true → embedded L i (s .finished i) ≡ false
+    → (k : ℕ) → k < L .rows → min (s .finished i) (L .steps k) ≤ s .finished k
+unfolding isAllowed
+allowed-free L s i allowed free k l = go (embedded L i (s .finished i)) free allowed
+  where
+    go : (b : Bool) → b ≡ false → (b || allTo (finishedBelow L s (s .finished i)) (L .rows)) ≡ true
+        → min (s .finished i) (L .steps k) ≤ s .finished k
+    go true e h = absurd (true-false true refl e)
+    go false e h =
+        leb-true (min (s .finished i) (L .steps k)) (s .finished k)
+        (allTo-true (finishedBelow L s (s .finished i)) (L .rows) h k l)
 
 -- a tick leaves what is spent and what was worked
 pub tick-worked : (L : View) (s : State) (p i : ℕ) → workedSince L (ticked s) p i ≡ workedSince L s p i

@@ -13,3 +13,4 @@ pub mod Slots
 pub mod Run
 pub mod Check
 pub mod ScheduleRules
+pub mod Demand3
