@@ -57,7 +57,7 @@ use Rattle.bench.proofs.JoinLaws.{
 }
 
 -- a list with one number stored, place by place
-stored : {A : Type 0} (l : List A) (i : ℕ) (v z : A) (f : ℕ → A) (rows : ℕ) → i < length l → v ≡ f i
+pub stored : {A : Type 0} (l : List A) (i : ℕ) (v z : A) (f : ℕ → A) (rows : ℕ) → i < length l → v ≡ f i
     → ((k : ℕ) → k < rows → (k ≡ i → ⊥) → getD l k z ≡ f k) → (k : ℕ) → k < rows → getD (set l i v) k z ≡ f k
 stored l i v z f rows inside here there k b =
     elim (ℕ-discrete k i) [
@@ -107,7 +107,7 @@ module _ (load : Load) (bench : Bench) (board : Board) (shows : Shows load bench
     abbrev cost : ℕ
     cost = L .cost i (s .finished i)
 
-    stays-after : lookIn board i .stays ≡ isOpen L after i
+    pub stays-after : lookIn board i .stays ≡ isOpen L after i
     stays-after =
         stays-same load bench board shows i l ∙ sym (ap (opensAt L i) (started-finished-same L s i cost))
 
@@ -117,7 +117,7 @@ module _ (load : Load) (bench : Bench) (board : Board) (shows : Shows load bench
         ∙ windowLeft-is L (further s) i
         ∙ sym (windowLeft-same L s i cost)
 
-    opening-after : openingBy (lookIn board i .stays) (lookIn board i .held) (lookIn board i .opening) (bench .clock)
+    pub opening-after : openingBy (lookIn board i .stays) (lookIn board i .held) (lookIn board i .opening) (bench .clock)
         ≡ openingAfter L s i
     opening-after =
         rw (

@@ -8,4 +8,5 @@ pub mod SearchLaws
 pub mod PassLaws
 pub mod JoinLaws
 pub mod ChoiceLaws
+pub mod NextLaws
 pub mod CallLaws

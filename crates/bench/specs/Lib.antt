@@ -6,3 +6,4 @@ pub mod Alike
 pub mod Boards
 pub mod Stacks
 pub mod Choices
+pub mod Moves

@@ -3,6 +3,7 @@
 mod boards;
 mod lamps;
 mod lookups;
+mod moves;
 mod plan;
 mod search;
 mod shape;
@@ -10,6 +11,7 @@ mod state;
 
 use load::MOST_ROWS;
 use rules::Outcome;
+pub use moves::next_move;
 pub use state::fresh;
 
 // A bench state: its clock, and per row the steps finished, the moment the last of them ended, and

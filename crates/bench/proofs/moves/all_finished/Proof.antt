@@ -1,0 +1,75 @@
+-- `all_finished` asks one row a turn: the first i rows are finished, and the first that is not ends the search.
+use Prim.Native.Nat.{_-_, _≤_}
+use mathlib.Core.Bool.{true}
+use mathlib.Core.Path.{_≡_, ap, sym, _∙_}
+use native.Mathlib.Omega.{arith}
+use borrow.Author.Tests.{le-leb, lt-leb}
+use Rattle.counting.proofs.TestLaws.{allTo-zero, allTo-next, false-allTo}
+use Rattle.bench.specs.Moves.{finishedIn}
+use borrow.Author.Needs.{needs}
+use Rattle.bench.proofs.moves.all_finished.Statement.{statement}
+use Rattle.bench.proofs.moves.all_finished.Tie as tie
+use Rattle.bench.proofs.moves.all_finished.Reads as reads
+use Rattle.bench.proofs.moves.all_finished.Lts as lts
+
+abbrev Inv-loop : tie.InvT-loop
+Inv-loop rows board i₀ i = (i ≤ rows) × (rows ≤ 24) × (finishedIn board i ≡ true)
+
+abbrev μ-loop : tie.MeasureT-loop
+μ-loop rows board i₀ i = rows - i
+
+-- src/moves.rt:37:5
+loop-holds : tie.Need-loop-holds Inv-loop μ-loop
+loop-holds c = (search needs, search needs, allTo-zero _)
+
+-- src/moves.rt:38:12
+element-copy-out-if1 : tie.Need-element-copy-out-if1 Inv-loop μ-loop
+element-copy-out-if1 c = search needs
+
+-- src/moves.rt:38:32
+element-copy-out-if1-2 : tie.Need-element-copy-out-if1-2 Inv-loop μ-loop
+element-copy-out-if1-2 c = search needs
+
+-- src/moves.rt:39:13
+returns : tie.Need-returns Inv-loop μ-loop
+returns c =
+    let turn = c .before .before .before in
+    let start = turn .before .before in
+    sym
+    (false-allTo _ (start .args .rows) (turn .before .loop .i) (turn .loop-test .taken) (lt-leb _ _ (c .if1 .taken)))
+
+-- src/moves.rt:37:9
+add-i : tie.Need-add-i Inv-loop μ-loop
+add-i c = search needs
+
+-- src/moves.rt:37:5
+loop-less : tie.Need-loop-less Inv-loop μ-loop
+loop-less c = search needs
+
+-- src/moves.rt:37:5
+loop-again : tie.Need-loop-again Inv-loop μ-loop
+loop-again c =
+    let turn = c .before .before .before in
+    (search needs, search needs, rw (allTo-next, turn .before .loop .inv .2, le-leb _ _ (c .if1 .left)))
+
+-- src/moves.rt:33:1
+returns-2 : tie.Need-returns-2 Inv-loop μ-loop
+returns-2 c =
+    let start = c .before .before in
+    let e : start .args .rows ≡ c .before .loop .i = omega arith in
+    sym (ap (finishedIn (start .args .t1)) e ∙ c .before .loop .inv .2)
+
+pub all-finished-spec : {M : Type 1} → statement M
+all-finished-spec =
+    tie.close
+    (tie.spec
+    Inv-loop
+    μ-loop
+    loop-holds
+    element-copy-out-if1
+    element-copy-out-if1-2
+    returns
+    add-i
+    loop-less
+    loop-again
+    returns-2)
