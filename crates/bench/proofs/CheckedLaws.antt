@@ -2,7 +2,7 @@
 -- and steps, ends and openings are within range.
 use Prim.Native.Nat.{ℕ, _≤_, _<_}
 use mathlib.Core.Bool.{Bool, true, false, cond, _&&_}
-use mathlib.Core.Path.{_≡_, refl}
+use mathlib.Core.Path.{_≡_}
 use native.Mathlib.Omega.{arith}
 use borrow.Author.Tests.{leb-true}
 use lib.Dec.{eqb, leb}
@@ -11,7 +11,7 @@ use Rattle.counting.specs.Sums.{allTo, allFrom}
 use Rattle.counting.proofs.TestLaws.{and-left, and-right, allTo-true}
 use Rattle.refusals.specs.declared.Checked.the-variants.{Good}
 use Rattle.load.specs.declared.Load.{Load}
-use Rattle.load.specs.Load.{mostRows, mostSteps, lastMoment, rowAt}
+use Rattle.load.specs.Load.{mostRows, lastMoment, rowAt}
 use Rattle.load.specs.Check.{checkLoad}
 use Rattle.load.specs.View.{View, viewOf}
 use Rattle.load.specs.Acceptable.{Acceptable}
@@ -32,7 +32,7 @@ module _ (load : Load) (ok : checkLoad load ≡ Good) where
       record {
         windows-there = there;
         windows-most =
-          omega (arith, good .windows-most i l, length-take (rowAt load i .windows) (rowAt load i .window));
+            omega (arith, good .windows-most i l, length-take (rowAt load i .windows) (rowAt load i .window));
         steps-most = good .steps-most i l;
         phase-most = good .phase-most i l;
       }

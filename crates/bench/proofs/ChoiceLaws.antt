@@ -1,12 +1,12 @@
 -- A board that shows a load and its bench has the candidates of the rules, and its plan of a candidate is the rules'
 -- plan at the candidate's end: so what the search chooses is what the rules choose.
 use Prim.Native.Nat.{ℕ, suc, _+_, min, _≤_, _<_}
-use mathlib.Core.Bool.{Bool, true, false, _||_}
+use mathlib.Core.Bool.{true, false}
 use mathlib.Core.List.{List}
-use mathlib.Core.Path.{_≡_, refl, ap, ap₂, sym, _∙_, subst}
+use mathlib.Core.Path.{_≡_, ap, ap₂, sym, _∙_}
 use native.Mathlib.Decide.{ℕ-discrete}
 use native.Mathlib.Omega.{arith}
-use lib.Dec.{leb, ltb}
+use lib.Dec.{leb}
 use lib.ListN.{length, getD, set}
 use lib.Seq.{getD-set-same, getD-set-other}
 use Rattle.counting.specs.Sums.{allTo}
@@ -21,7 +21,7 @@ use Rattle.load.proofs.WindowLaws.{open-embedded}
 use Rattle.rules.specs.State.{State, isOpen, opensAt, openWindow}
 use Rattle.rules.specs.Ready.{released, isAllowed, isCandidate, candidates, finishedBelow}
 use Rattle.rules.specs.Plan.{due, windowLeft}
-use Rattle.rules.specs.Move.{startedFull, passes, chosen, allFinished, openingAfter}
+use Rattle.rules.specs.Move.{startedFull, passes, chosen, openingAfter}
 use Rattle.rules.proofs.Good.{openAt, limitAt}
 use Rattle.rules.proofs.MoveLaws.{started-clock, started-finished-same}
 use Rattle.rules.proofs.StackLaws.{

@@ -1,48 +1,27 @@
 -- A board that shows a load and its bench has the candidates of the rules, and its plan of a candidate is the rules'
 -- plan at the candidate's end: so what the search chooses is what the rules choose.
-use Prim.Native.Nat.{ℕ, suc, _+_, _<_}
-use mathlib.Core.Bool.{Bool, true, false, _&&_, _||_}
+use Prim.Native.Nat.{ℕ, _<_}
+use mathlib.Core.Bool.{Bool}
 use mathlib.Core.List.{List, [], _∷_}
-use mathlib.Core.Path.{_≡_, refl, ap, ap₂, sym, _∙_, subst}
-use native.Mathlib.Decide.{ℕ-discrete}
-use native.Mathlib.Omega.{arith}
-use lib.Dec.{leb, ltb}
-use lib.ListN.{length, set}
-use lib.Seq.{getD-set-same, getD-set-other}
-use Rattle.counting.specs.Sums.{allTo}
-use Rattle.counting.specs.Searches.{at, none}
-use Rattle.counting.proofs.TestLaws.{allTo-ext}
+use mathlib.Core.Path.{_≡_, refl, ap, sym, _∙_}
 use Rattle.counting.proofs.SortLaws.{Every}
 use Rattle.counting.proofs.KeyLaws.{sorted-same}
-use Rattle.counting.proofs.SelectionLaws.{found-least, found-nothing}
 use Rattle.load.specs.declared.Load.{Load}
-use Rattle.load.specs.View.{View, viewOf, embedded}
-use Rattle.load.proofs.WindowLaws.{open-embedded}
-use Rattle.rules.specs.State.{State, isOpen, opensAt, openWindow}
-use Rattle.rules.specs.Ready.{released, isAllowed, isCandidate, candidates, finishedBelow}
+use Rattle.load.specs.View.{View, viewOf}
+use Rattle.rules.specs.State.{State, isOpen, openWindow}
+use Rattle.rules.specs.Ready.{released}
 use Rattle.rules.specs.Plan.{due, stack, windowLeft, finish, inTime, planPasses}
-use Rattle.rules.specs.Move.{startedFull, passes, chosen}
-use Rattle.rules.proofs.Good.{openAt}
-use Rattle.rules.proofs.MoveLaws.{started-clock, started-finished-same}
 use Rattle.rules.proofs.PlanLaws.{inTime-next, inTime-none}
 use Rattle.rules.proofs.StackLaws.{
   every-stack,
-  windowLeft-is,
-  isOpen-other,
-  job-other,
-  released-same,
-  windowLeft-same,
-  due-same,
 }
 use Rattle.bench.specs.declared.Bench.{Bench}
 use Rattle.bench.specs.declared.Look.{Look}
 use Rattle.bench.specs.declared.Board.{Board}
-use Rattle.bench.specs.declared.Stack.{Stack}
 use Rattle.bench.specs.Held.{stateOf}
 use Rattle.bench.specs.Alike.{further, lookOf}
 use Rattle.bench.specs.Boards.{lookIn, Shows}
 use Rattle.bench.specs.Stacks.{inTimeBy, stackBy, number, test, planBy}
-use Rattle.bench.specs.Choices.{belowIn, candidateBy, candidateIn, openingBy, passesIn, ChosenIn}
 use Rattle.bench.proofs.StackLaws.{inTimeBy-none, inTimeBy-next}
 
 -- the plan over lists that agree with a state is the plan of that state

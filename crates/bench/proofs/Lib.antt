@@ -9,4 +9,5 @@ pub mod PassLaws
 pub mod JoinLaws
 pub mod ChoiceLaws
 pub mod NextLaws
+pub mod SameMoves
 pub mod CallLaws

@@ -2,13 +2,12 @@
 -- is looked up of a row by itself is what is looked up of it in its load.
 use Prim.Native.Nat.{ℕ, zero, suc, _+_}
 use mathlib.Core.Bool.{_&&_}
-use mathlib.Core.Path.{_≡_, refl, ap, sym, _∙_}
+use mathlib.Core.Path.{_≡_, refl}
 use native.Mathlib.Numerals.{add-one}
 use native.Mathlib.Omega.{arith}
 use borrow.Author.Tests.{le-ltb}
 use lib.Dec.{leb, ltb}
 use Rattle.counting.specs.Sums.{allTo, allFrom}
-use Rattle.counting.specs.Lists.{anyIn, firstIn}
 use Rattle.counting.proofs.TestLaws.{and-right}
 use Rattle.counting.proofs.FirstInLaws.{anyIn-firstIn}
 use Rattle.load.specs.declared.Row.{Row}

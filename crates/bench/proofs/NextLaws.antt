@@ -1,22 +1,25 @@
 -- What the code hands back, over a board that shows the load and the bench, is the move of the rules in memory: Done, a
--- refusal, Idle, or the start of the row that is chosen. And two loads that differ only in identifiers and boxes have
--- the same moves.
+-- refusal, Idle, or the start of the row that is chosen.
 use Prim.Native.Nat.{ℕ, _*_, _^_, _≤_, _<_}
 use mathlib.Core.Bool.{Bool, true, false}
 use mathlib.Core.List.{List}
-use mathlib.Core.Path.{_≡_, refl, ap, ap₂, sym, _∙_}
+use mathlib.Core.Path.{_≡_, ap, ap₂, sym, _∙_}
+use native.Mathlib.Decide.{decLt}
 use native.Mathlib.Omega.{arith}
 use borrow.Author.Tests.{le-leb}
 use lib.Dec.{leb}
 use lib.ListN.{set}
 use Rattle.counting.specs.Sums.{allTo, bit, countTo}
-use Rattle.counting.specs.Searches.{Found, at, none}
+use Rattle.counting.specs.Searches.{at, none}
 use Rattle.counting.proofs.SumLaws.{sumTo-ext}
 use Rattle.counting.proofs.TestLaws.{allTo-ext}
+use Rattle.refusals.specs.declared.Refusal.{Refusal}
 use Rattle.refusals.specs.declared.Refusal.the-variants.{StateShape, ClockFull}
+use Rattle.refusals.specs.declared.Checked.the-variants.{Good, Refused}
 use Rattle.words.specs.LampWord.{wordOf}
 use Rattle.load.specs.declared.Load.{Load}
 use Rattle.load.specs.Load.{lastMoment, shown}
+use Rattle.load.specs.Check.{checkLoad}
 use Rattle.load.specs.View.{View, viewOf}
 use Rattle.rules.specs.declared.Outcome.{Outcome}
 use Rattle.rules.specs.declared.Outcome.the-variants.{Start, Idle, Done}
@@ -28,7 +31,6 @@ use Rattle.rules.specs.Move.{
   allFinished,
   chosen,
   nextSlot,
-  handedBack,
   refusedMove,
   startOrIdle,
   shapedMove,
@@ -39,15 +41,26 @@ use Rattle.rules.proofs.StackLaws.{isOpen-other}
 use Rattle.bench.specs.declared.Bench.{Bench}
 use Rattle.bench.specs.declared.Board.{Board}
 use Rattle.bench.specs.declared.Moved.{Moved}
-use Rattle.bench.specs.Held.{stateOf, benchOf, handedOn, refusedWith}
+use Rattle.bench.specs.Held.{stateOf, benchOf, handedOn, refusedWith, nextMove}
 use Rattle.bench.specs.Updates.{benchStarted, benchTicked}
 use Rattle.bench.specs.Boards.{lookIn, Shows}
 use Rattle.bench.specs.Stacks.{test}
 use Rattle.bench.specs.Choices.{openingBy}
-use Rattle.bench.specs.Moves.{finishedIn, handedWith, startedIn}
+use Rattle.bench.specs.Moves.{finishedIn, handedWith, startedIn, Stepped}
 use Rattle.bench.proofs.HeldLaws.{Sized, benchOf-stateOf, benchTicked-is, benchStarted-is}
 use Rattle.bench.proofs.JoinLaws.{rows-are, finished-same, steps-same, cost-same, held-same}
-use Rattle.bench.proofs.ChoiceLaws.{stored, stays-after, opening-after}
+use Rattle.bench.proofs.ChoiceLaws.{stored, stays-after, opening-after, chosen-row, chosen-nothing}
+
+-- a load that is accepted, and one that is refused
+pub nextMove-good : (load : Load) (bench : Bench) → checkLoad load ≡ Good
+    → nextMove load bench ≡ handedOn bench (move (viewOf load) (stateOf bench))
+unfolding nextMove
+nextMove-good load bench e = rw (e, nextMove)
+
+pub nextMove-refused : (load : Load) (bench : Bench) (refusal : Refusal) → checkLoad load ≡ Refused refusal
+    → nextMove load bench ≡ refusedWith bench refusal
+unfolding nextMove
+nextMove-refused load bench refusal e = rw (e, nextMove)
 
 -- the lamps of a state, where a list of tests agrees with its open windows
 module _ (L : View) (s : State) (rows : ℕ) (rows-are′ : L .rows ≡ rows) (held : List Bool)
@@ -121,7 +134,7 @@ module _ (load : Load) (bench : Bench) (board : Board) (shows : Shows load bench
   open-ticked = held-same load bench board shows
 
   module _ (e : shaped L s ≡ true) (d : allFinished L s ≡ false) (h : bench .clock < lastMoment) where
-    pub idle-move : chosen L s ≡ none
+    idle-move : chosen L s ≡ none
         → handedOn bench (move L s) ≡ handedWith (benchTicked bench) Idle (board .held) (load .rows)
     idle-move q =
         ap (handedOn bench) (move-goes L s e d h ∙ ap (startOrIdle L s) q)
@@ -129,7 +142,7 @@ module _ (load : Load) (bench : Bench) (board : Board) (shows : Shows load bench
         (word-is L (ticked s) (load .rows) (rows-are load bench board shows) (board .held) open-ticked)
         (count-is L (ticked s) (load .rows) (rows-are load bench board shows) (board .held) open-ticked)
 
-    pub start-move : (i : ℕ) → i < load .rows → chosen L s ≡ at i
+    start-move : (i : ℕ) → i < load .rows → chosen L s ≡ at i
         → handedOn bench (move L s) ≡ startedIn bench board (load .rows) i
     unfolding startedIn
     start-move i l q =
@@ -165,3 +178,14 @@ module _ (load : Load) (bench : Bench) (board : Board) (shows : Shows load bench
             (omega (arith, shows .wide .held-length)) (stays-after load bench board shows i l)
             (λ k b ne. held-same load bench board shows k b
             ∙ sym (isOpen-other L s i (L .cost i (s .finished i)) k ne))
+
+    pub stepped-move : (moved : Moved) → Stepped bench board (load .rows) moved → moved ≡ handedOn bench (move L s)
+    stepped-move moved t =
+        elim (decLt (t .row) (load .rows)) [
+          | yes l ↦
+              t .starts l
+              ∙ sym (start-move (t .row) l (chosen-row load bench board shows most (t .row) (t .chosen) l))
+          | no l ↦
+              t .idles (omega arith)
+              ∙ sym (idle-move (chosen-nothing load bench board shows most (t .row) (t .chosen) (omega arith)))
+        ]

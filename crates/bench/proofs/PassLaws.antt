@@ -3,7 +3,7 @@
 use Prim.Native.Nat.{ℕ, _+_, _≤_, _<_}
 use mathlib.Core.Bool.{Bool, true, false}
 use mathlib.Core.List.{List}
-use mathlib.Core.Path.{_≡_, _∙_}
+use mathlib.Core.Path.{_∙_}
 use native.Mathlib.Decide.{ℕ-discrete}
 use native.Mathlib.Omega.{arith}
 use lib.ListN.{length, set, length-set}
@@ -50,18 +50,18 @@ module _ (board : Board) (clock rows i opening : ℕ) (fits : BoardFits board cl
         waiting-length = length-set (board .held) i (look .stays) ∙ wide .held-length;
         time-most = omega (arith, here .cost-most);
         release-most =
-          set-most (board .release) i (clock + look .cost + look .wait) 100000000 rows
-          (omega (arith, wide .release-length))
-          (omega (arith, here .cost-most, here .wait-most))
-          (λ k b. omega (arith, fits .modest k b .release-most));
+            set-most (board .release) i (clock + look .cost + look .wait) 100000000 rows
+            (omega (arith, wide .release-length))
+            (omega (arith, here .cost-most, here .wait-most))
+            (λ k b. omega (arith, fits .modest k b .release-most));
         left-most =
-          set-most (board .left) i (look .rest) 100000000 rows
-          (omega (arith, wide .left-length))
-          (omega (arith, here .rest-most))
-          (λ k b. omega (arith, fits .modest k b .left-most));
+            set-most (board .left) i (look .rest) 100000000 rows
+            (omega (arith, wide .left-length))
+            (omega (arith, here .rest-most))
+            (λ k b. omega (arith, fits .modest k b .left-most));
         due-most =
-          set-most (board .due) i (opening + look .limit) 100000000 rows
-          (omega (arith, wide .due-length))
-          (omega (arith, here .limit-most))
-          (λ k b. omega (arith, fits .modest k b .due-most));
+            set-most (board .due) i (opening + look .limit) 100000000 rows
+            (omega (arith, wide .due-length))
+            (omega (arith, here .limit-most))
+            (λ k b. omega (arith, fits .modest k b .due-most));
       }

@@ -1,6 +1,6 @@
 -- The search by step number and row: what has been passed over, one row and one step number at a time; and the lowest
 -- unfinished step, which tells whether every row has finished all its steps of lower number.
-use Prim.Native.Nat.{ℕ, suc, _+_, min, _≤_, _<_}
+use Prim.Native.Nat.{ℕ, _+_, min, _≤_, _<_}
 use mathlib.Core.Bool.{Bool, true, false, _&&_, _||_}
 use mathlib.Core.Path.{_≡_, refl, ap, sym, _∙_, subst}
 use native.Mathlib.Decide.{ℕ-discrete, decLt}

@@ -2,11 +2,12 @@
 -- Stacks.
 use Prim.Native.Nat.{ℕ, _+_, min, _≤_, _<_}
 use mathlib.Core.Bool.{Bool, true, false, cond, _&&_, _||_}
+use mathlib.Core.List.{List}
 use mathlib.Core.Path.{_≡_}
 use lib.Dec.{leb, ltb}
 use lib.ListN.{set}
 use Rattle.counting.specs.Sums.{allTo}
-use Rattle.load.specs.Load.{mostRows, mostSteps, lastMoment}
+use Rattle.load.specs.Load.{mostRows, lastMoment}
 use Rattle.bench.specs.declared.Look.{Look}
 use Rattle.bench.specs.declared.Board.{Board}
 use Rattle.bench.specs.Alike.{Modest}
@@ -35,18 +36,23 @@ candidateIn board clock rows i =
 abbrev pub openingBy : Bool → Bool → ℕ → ℕ → ℕ
 openingBy stays held opening clock = cond stays (cond held opening clock) 0
 
+-- row i's opening once its next step, started at a moment, is over
+abbrev pub openingIn : Board → ℕ → ℕ → ℕ
+openingIn board clock i =
+    openingBy (lookIn board i .stays) (lookIn board i .held) (lookIn board i .opening) clock
+
+-- the open windows once row i's next step is over
+abbrev pub heldAfter : Board → ℕ → List Bool
+heldAfter board i = set (board .held) i (lookIn board i .stays)
+
 -- the plan at the end of row i's next step passes: the row is seen as it will be then
 unfoldable pub passesIn : Board → ℕ → ℕ → ℕ → Bool
 passesIn board clock rows i =
-    planBy
-    (record { waiting = set (board .held) i (look .stays); time = clock + look .cost })
-    (set (board .release) i (clock + look .cost + look .wait))
-    (set (board .left) i (look .rest))
-    (set (board .due) i (openingBy (look .stays) (look .held) (look .opening) clock + look .limit))
+    planBy (record { waiting = heldAfter board i; time = clock + lookIn board i .cost })
+    (set (board .release) i (clock + lookIn board i .cost + lookIn board i .wait))
+    (set (board .left) i (lookIn board i .rest))
+    (set (board .due) i (openingIn board clock i + lookIn board i .limit))
     rows
-  where
-    look : Look
-    look = lookIn board i
 
 -- what the search counts on
 pub record BoardFits (board : Board) (clock rows : ℕ) : Type 0 where

@@ -1,6 +1,5 @@
 -- "One move of the bench": "Each move takes the bench state and hands the next one back". The
 -- bridge between a bench held in memory, 24 places to a field, and the state of the rules.
-use Prim.Native.Nat.{ℕ}
 use lib.ListN.{getD}
 use Rattle.counting.specs.Lists.{listTo}
 use Rattle.refusals.specs.declared.Refusal.{Refusal}

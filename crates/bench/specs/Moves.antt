@@ -1,23 +1,23 @@
 -- What a move hands back in memory, over a board: with the lamps of the windows that are open after
 -- the move. To be read after Choices.
-use Prim.Native.Nat.{ℕ, _+_}
+use Prim.Native.Nat.{ℕ, _≤_, _<_}
 use mathlib.Core.Bool.{Bool}
 use mathlib.Core.List.{List}
+use mathlib.Core.Path.{_≡_}
 use lib.Dec.{leb}
-use lib.ListN.{set}
 use Rattle.counting.specs.Sums.{allTo, countTo}
 use Rattle.words.specs.LampWord.{wordOf}
 use Rattle.load.specs.Load.{shown}
 use Rattle.rules.specs.declared.Outcome.{Outcome}
-use Rattle.rules.specs.declared.Outcome.the-variants.{Start}
+use Rattle.rules.specs.declared.Outcome.the-variants.{Start, Idle}
+use Rattle.rules.specs.declared.Slot.{Slot}
 use Rattle.bench.specs.declared.Bench.{Bench}
-use Rattle.bench.specs.declared.Look.{Look}
 use Rattle.bench.specs.declared.Board.{Board}
 use Rattle.bench.specs.declared.Moved.{Moved}
-use Rattle.bench.specs.Updates.{benchStarted}
+use Rattle.bench.specs.Updates.{benchStarted, benchTicked}
 use Rattle.bench.specs.Boards.{lookIn}
 use Rattle.bench.specs.Stacks.{test}
-use Rattle.bench.specs.Choices.{openingBy}
+use Rattle.bench.specs.Choices.{openingIn, heldAfter, ChosenIn}
 
 -- all steps are finished
 abbrev pub finishedIn : Board → ℕ → Bool
@@ -33,15 +33,23 @@ handedWith bench outcome held rows =
       count = countTo (test held) rows;
     }
 
+-- row i's next step as a slot: rows and steps counted from 1
+abbrev pub slotIn : Bench → Board → ℕ → Slot
+slotIn bench board i =
+    record { row = shown i; step = shown (lookIn board i .finished); start = bench .clock }
+
 -- the move that starts row i's next step
 unfoldable pub startedIn : Bench → Board → ℕ → ℕ → Moved
 startedIn bench board rows i =
     handedWith
-    (benchStarted bench i (look .cost)
-    (openingBy (look .stays) (look .held) (look .opening) (bench .clock)))
-    (Start (record { row = shown i; step = shown (look .finished); start = bench .clock }))
-    (set (board .held) i (look .stays))
+    (benchStarted bench i (lookIn board i .cost) (openingIn board (bench .clock) i))
+    (Start (slotIn bench board i))
+    (heldAfter board i)
     rows
-  where
-    look : Look
-    look = lookIn board i
+
+-- row r was chosen, and its next step is started; where it is no row, the clock moves one tick
+pub record Stepped (bench : Bench) (board : Board) (rows : ℕ) (moved : Moved) : Type 0 where
+  pub row : ℕ
+  pub chosen : ChosenIn board (bench .clock) rows row
+  pub starts : row < rows → moved ≡ startedIn bench board rows row
+  pub idles : rows ≤ row → moved ≡ handedWith (benchTicked bench) Idle (board .held) rows

@@ -1,5 +1,5 @@
-// The bench, by value: a fresh one, and one move of it. A move is refused by the load's own numbers,
-// by a state that does not have the load's shape (10), and with the clock full (11).
+// The bench, by value: a fresh one, and one move of it. A move is refused by the load's own
+// numbers, by a state that does not have the load's shape (10), and with the clock full (11).
 mod boards;
 mod lamps;
 mod lookups;
@@ -10,8 +10,8 @@ mod shape;
 mod state;
 
 use load::MOST_ROWS;
-use rules::Outcome;
 pub use moves::next_move;
+use rules::Outcome;
 pub use state::fresh;
 
 // A bench state: its clock, and per row the steps finished, the moment the last of them ended, and
@@ -31,10 +31,10 @@ pub struct Moved {
     pub count: u32,
 }
 
-// What is looked up of a row: steps finished and steps in all, the opening, its next step's cost and
-// the moment from which that may start; whether a window is open, what is left of it, and when it is
-// due; and, once the next step is over, the wait after it, whether a window is open then, what is
-// left of that, and its limit.
+// What is looked up of a row: steps finished and steps in all, the opening, its next step's cost
+// and the moment from which that may start; whether a window is open, what is left of it, and when
+// it is due; and, once the next step is over, the wait after it, whether a window is open then,
+// what is left of that, and its limit.
 pub struct Look {
     pub finished: u8,
     pub steps: u8,
@@ -67,8 +67,8 @@ pub struct Board {
     pub limit: [u32; MOST_ROWS],
 }
 
-// What the plan has come to: the rows whose open windows are still to be finished, and the moment at
-// which those before them are.
+// What the plan has come to: the rows whose open windows are still to be finished, and the moment
+// at which those before them are.
 pub struct Stack {
     pub waiting: [bool; MOST_ROWS],
     pub time: u32,

@@ -4,8 +4,8 @@ use load::Row;
 use load::Window;
 use load::step_at;
 ghost use mathlib.Core.Path.{_≡_};
-ghost use Prim.Native.Nat.{_+_, _≤_, _<_};
-ghost use Rattle.load.specs.Load.{stepAt, mostWindows, mostSteps, latestPhase, lastMoment};
+ghost use Prim.Native.Nat.{_≤_};
+ghost use Rattle.load.specs.Load.{stepAt, mostSteps, latestPhase, lastMoment};
 ghost use Rattle.load.specs.View.{chain};
 ghost use Rattle.rules.specs.State.{openWindow};
 ghost use Rattle.rules.specs.Ready.{release};
@@ -50,8 +50,8 @@ pub fn ticks_left(row: Row, from: u8, last: u8) -> u32
     sum + step.cost as u32
 }
 
-// Gives the moment from which a row's next step may start: its phase before the first step, then the
-// end of the step before, and the wait after that.
+// Gives the moment from which a row's next step may start: its phase before the first step, then
+// the end of the step before, and the wait after that.
 pub fn release_of(row: Row, finished: u8, end: u32) -> u32
     requires { ⌜ (row .phase ≤ latestPhase) × (end ≤ lastMoment) ⌝ }
     ensures { λ r. ⌜ r ≡ release (viewAlike row) 0 finished end ⌝ }

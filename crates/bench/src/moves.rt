@@ -1,5 +1,5 @@
-// One move of the bench: Start, Idle, Done, or a refusal, each with the lamps of the windows that are
-// open after it.
+// One move of the bench: Start, Idle, Done, or a refusal, each with the lamps of the windows that
+// are open after it.
 use crate::Bench;
 use crate::Board;
 use crate::Moved;
@@ -17,16 +17,18 @@ use refusals::Refusal;
 use rules::Outcome;
 use rules::Slot;
 ghost use mathlib.Core.Path.{_≡_};
-ghost use Prim.Native.Nat.{_≤_, _<_};
-ghost use lib.ListN.{getD};
+ghost use mathlib.Core.Bool.{true};
+ghost use Prim.Native.Nat.{ℕ, _≤_, _<_};
 ghost use Rattle.refusals.specs.declared.Checked.the-variants.{Good};
 ghost use Rattle.load.specs.Check.{checkLoad};
 ghost use Rattle.load.specs.View.{viewOf};
+ghost use Rattle.rules.specs.State.{shaped};
 ghost use Rattle.rules.specs.Move.{move};
 ghost use Rattle.bench.specs.Held.{stateOf, handedOn, refusedWith};
 ghost use Rattle.bench.specs.Boards.{lookIn};
+ghost use Rattle.bench.specs.Stacks.{number};
 ghost use Rattle.bench.specs.Choices.{BoardFits};
-ghost use Rattle.bench.specs.Moves.{finishedIn, handedWith, startedIn};
+ghost use Rattle.bench.specs.Moves.{finishedIn, handedWith, startedIn, Stepped};
 ghost use Rattle.bench.specs.Calls.{NextMove};
 
 // Says whether all steps are finished.
@@ -72,7 +74,7 @@ fn handed(bench: Bench, outcome: Outcome, held: [bool; MOST_ROWS], rows: usize) 
 fn started(bench: Bench, board: Board, rows: usize, i: usize) -> Moved
     requires { ⌜ BoardFits board (bench .clock) rows ⌝ }
     requires { ⌜ (i < rows) × (lookIn board i .finished < 8)
-        × (getD (bench .finished) i 0 ≡ lookIn board i .finished) ⌝ }
+        × (number (bench .finished) i ≡ lookIn board i .finished) ⌝ }
     ensures { λ r. ⌜ r ≡ startedIn bench board rows i ⌝ }
 {
     let clock = bench.clock;
@@ -88,8 +90,41 @@ fn started(bench: Bench, board: Board, rows: usize, i: usize) -> Moved
     handed(next, Outcome::Start(slot), held, rows)
 }
 
-// Makes one move of a bench with a load that was checked; refuses a state that does not have the
-// load's shape (10), and a full clock with work left (11).
+// Starts the first candidate that passes, or moves the clock one tick.
+fn start_or_idle(bench: Bench, board: Board, rows: usize) -> Moved
+    requires { ⌜ BoardFits board (bench .clock) rows ⌝ }
+    requires { ⌜ ((i : ℕ) → i < rows → number (bench .finished) i ≡ lookIn board i .finished) ⌝ }
+    ensures { λ r. ⌜ Stepped bench board rows r ⌝ }
+{
+    let i = search(board, bench.clock, rows);
+    if i < rows {
+        return started(bench, board, rows, i);
+    }
+    let held = board.held;
+    handed(bench.idle(), Outcome::Idle, held, rows)
+}
+
+// Makes one move of a bench that has the shape of its load, which was checked: Done where all steps
+// are finished; a full clock with work left is refused (11).
+fn move_shaped(load: Load, bench: Bench) -> Moved
+    requires { ⌜ checkLoad load ≡ Good ⌝ }
+    requires { ⌜ shaped (viewOf load) (stateOf bench) ≡ true ⌝ }
+    ensures { λ r. ⌜ r ≡ handedOn bench (move (viewOf load) (stateOf bench)) ⌝ }
+{
+    let board = board_of(load, bench);
+    let rows = load.rows as usize;
+    if all_finished(board, rows) {
+        let held = board.held;
+        return handed(bench, Outcome::Done, held, rows);
+    }
+    if LAST_MOMENT <= bench.clock {
+        return refused(bench, Refusal::ClockFull);
+    }
+    start_or_idle(bench, board, rows)
+}
+
+// Makes one move of a bench with a load that was checked; a state that does not have the load's
+// shape is refused (10).
 fn move_checked(load: Load, bench: Bench) -> Moved
     requires { ⌜ checkLoad load ≡ Good ⌝ }
     ensures { λ r. ⌜ r ≡ handedOn bench (move (viewOf load) (stateOf bench)) ⌝ }
@@ -97,20 +132,7 @@ fn move_checked(load: Load, bench: Bench) -> Moved
     if !has_shape(load, bench) {
         return refused(bench, Refusal::StateShape);
     }
-    let board = board_of(load, bench);
-    let rows = load.rows as usize;
-    let held = board.held;
-    if all_finished(board, rows) {
-        return handed(bench, Outcome::Done, held, rows);
-    }
-    if LAST_MOMENT <= bench.clock {
-        return refused(bench, Refusal::ClockFull);
-    }
-    let i = search(board, bench.clock, rows);
-    if i < rows {
-        return started(bench, board, rows, i);
-    }
-    handed(bench.idle(), Outcome::Idle, held, rows)
+    move_shaped(load, bench)
 }
 
 // Makes one move of the bench. A load that is out of order refuses it with the load's number, and a

@@ -1,6 +1,6 @@
 -- The first member that has p, looked for from a place on: it is the member there, or it is looked for from the next
 -- place on. And some member has p exactly where the first that has it passes a test that nothing else would.
-use Prim.Native.Nat.{ℕ, zero, suc, _+_, min, _≤_, _<_}
+use Prim.Native.Nat.{ℕ, zero, suc, _+_, _≤_, _<_}
 use mathlib.Core.Bool.{Bool, true, false, cond, _||_}
 use mathlib.Core.List.{List, [], _∷_}
 use mathlib.Core.Path.{_≡_, refl, ap, sym, _∙_}

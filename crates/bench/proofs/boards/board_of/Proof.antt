@@ -1,6 +1,6 @@
 -- `board_of` looks one row up a turn: the board shows the first i rows, and storing a row leaves the others as they are.
 use Prim.Native.Nat.{ℕ, _-_, _≤_, _<_}
-use mathlib.Core.Path.{_≡_, sym, _∙_, subst}
+use mathlib.Core.Path.{_≡_, _∙_}
 use native.Mathlib.Decide.{ℕ-discrete}
 use native.Mathlib.Nat.{le-trans}
 use native.Mathlib.Omega.{arith}
@@ -9,18 +9,13 @@ use Rattle.load.specs.Load.{mostSteps, rowAt}
 use Rattle.load.specs.View.{viewOf}
 use Rattle.bench.specs.Held.{stateOf}
 use Rattle.bench.specs.Alike.{lookOf, Modest}
-use Rattle.bench.specs.Boards.{lookIn, boardWith, Wide, Shows}
+use Rattle.bench.specs.Boards.{lookIn, Wide}
 use Rattle.bench.proofs.CheckedLaws.{checked-rows, checked-fitting, shaped-clock, shaped-row}
 use Rattle.bench.proofs.LookLaws.{look-of-row}
 use Rattle.bench.proofs.BoardLaws.{boardWith-same, boardWith-other, boardWith-wide}
 use borrow.Author.Needs.{needs}
 use Rattle.bench.proofs.boards.board_of.Statement.{statement}
 use Rattle.bench.proofs.boards.board_of.Tie as tie
-use Rattle.bench.proofs.boards.board_of.Reads as reads
-use Rattle.bench.proofs.boards.board_of.Lts as lts
-use Rattle.bench.proofs.Board.with_look.Reads as with-look-reads
-use Rattle.bench.proofs.boards.zero_board.Reads as zero-board-reads
-use Rattle.bench.proofs.lookups.look_of.Reads as look-of-reads
 
 abbrev Inv-loop : tie.InvT-loop
 Inv-loop load bench board₀ rows i₀ board i =
@@ -41,52 +36,15 @@ steps-are : (load : Load) (i f : ℕ) → f ≤ viewOf load .steps i → rowAt l
 unfolding viewOf
 steps-are load i f h m = le-trans h m
 
--- src/boards.rt:67:9
-zero-board-requires : tie.Need-zero-board-requires Inv-loop μ-loop
-zero-board-requires c κs = search needs
-
--- src/boards.rt:68:16
-cast-rows : tie.Need-cast-rows Inv-loop μ-loop
-cast-rows c = search needs
-
--- src/boards.rt:69:5
 loop-holds : tie.Need-loop-holds Inv-loop μ-loop
-loop-holds c =
-    (search needs,
-    checked-rows _ (c .before .pre .0),
-    c .zero-board .ensures,
-    (λ k l. absurd (omega arith)),
-    λ k l. absurd (omega arith))
+loop-holds c = (
+  search needs,
+  checked-rows _ (c .before .pre .0),
+  c .zero-board .ensures,
+  (λ k l. absurd (omega arith)),
+  λ k l. absurd (omega arith),
+)
 
--- src/boards.rt:70:19
-mul-row : tie.Need-mul-row Inv-loop μ-loop
-mul-row c = search needs
-
--- src/boards.rt:70:19
-element-copy-out-row : tie.Need-element-copy-out-row Inv-loop μ-loop
-element-copy-out-row c = search needs
-
--- src/boards.rt:71:33
-element-copy-out-look-of : tie.Need-element-copy-out-look-of Inv-loop μ-loop
-element-copy-out-look-of c = search needs
-
--- src/boards.rt:71:52
-mul-look-of : tie.Need-mul-look-of Inv-loop μ-loop
-mul-look-of c = search needs
-
--- src/boards.rt:71:52
-element-copy-out-look-of-2 : tie.Need-element-copy-out-look-of-2 Inv-loop μ-loop
-element-copy-out-look-of-2 c = search needs
-
--- src/boards.rt:71:66
-mul-look-of-2 : tie.Need-mul-look-of-2 Inv-loop μ-loop
-mul-look-of-2 c = search needs
-
--- src/boards.rt:71:66
-element-copy-out-look-of-3 : tie.Need-element-copy-out-look-of-3 Inv-loop μ-loop
-element-copy-out-look-of-3 c = search needs
-
--- src/boards.rt:71:13
 look-of-requires : tie.Need-look-of-requires Inv-loop μ-loop
 look-of-requires c κs =
     let turn = c .before .before .before .before in
@@ -96,45 +54,35 @@ look-of-requires c κs =
     let l = turn .loop-test .taken in
     let fits = checked-fitting (start .args .t1) (start .pre .0) (turn .before .loop .i) l in
     let shape = shaped-row L (stateOf bench) (start .pre .1) (turn .before .loop .i) (rows-are (start .args .t1) _ l) in
-    let clock = shaped-clock L (stateOf bench) (start .pre .1) in
-    (fits,
-    (steps-are (start .args .t1) _ _ (shape .finished-le) (fits .steps-most),
-    le-trans (shape .end-le) clock,
-    le-trans (shape .opening-le) clock))
+    let clock = shaped-clock L (stateOf bench) (start .pre .1) in (
+      fits,
+      (
+        steps-are (start .args .t1) _ _ (shape .finished-le) (fits .steps-most),
+        le-trans (shape .end-le) clock,
+        le-trans (shape .opening-le) clock,
+      ),
+    )
 
--- src/boards.rt:72:9
-with-look-requires : tie.Need-with-look-requires Inv-loop μ-loop
-with-look-requires c κs = search needs
-
--- src/boards.rt:69:9
-add-i : tie.Need-add-i Inv-loop μ-loop
-add-i c = search needs
-
--- src/boards.rt:69:5
-loop-less : tie.Need-loop-less Inv-loop μ-loop
-loop-less c = search needs
-
--- src/boards.rt:69:5
 loop-again : tie.Need-loop-again Inv-loop μ-loop
 loop-again c =
     let turn = c .before .before .before .before .before .before in
     let start = turn .before .before .before in
     let inv = turn .before .loop .inv in
     let i = turn .before .loop .i in
-    let e = c .with-look .ensures in
-    (search needs,
-    search needs,
-    rw e (boardWith-wide _ i _ (inv .2)),
-    (λ k l. elim (ℕ-discrete k i) [
-      | yes q ↦ rw (q, e) (boardWith-same _ i _ (inv .2) (omega arith) ∙ c .before .look-of .ensures .0 ∙ look-of-row (start .args .t1) (start .args .t2) i)
-      | no q ↦ rw e (boardWith-other _ i _ k q ∙ inv .3 k (omega arith))
-    ]),
-    λ k l. elim (ℕ-discrete k i) [
-      | yes q ↦ rw (q, e) (rw (boardWith-same _ i _ (inv .2) (omega arith)) (c .before .look-of .ensures .1))
-      | no q ↦ rw e (rw (boardWith-other _ i _ k q) (inv .4 k (omega arith)))
-    ])
+    let e = c .with-look .ensures in (
+      search needs,
+      search needs,
+      rw e (boardWith-wide _ i _ (inv .2)),
+      (λ k l. elim (ℕ-discrete k i) [
+        | yes q ↦ rw (q, e) (boardWith-same _ i _ (inv .2) (omega arith) ∙ c .before .look-of .ensures .0 ∙ look-of-row (start .args .t1) (start .args .t2) i)
+        | no q ↦ rw e (boardWith-other _ i _ k q ∙ inv .3 k (omega arith))
+      ]),
+      λ k l. elim (ℕ-discrete k i) [
+        | yes q ↦ rw (q, e) (rw (boardWith-same _ i _ (inv .2) (omega arith)) (c .before .look-of .ensures .1))
+        | no q ↦ rw e (rw (boardWith-other _ i _ k q) (inv .4 k (omega arith)))
+      ],
+    )
 
--- src/boards.rt:62:1
 returns : tie.Need-returns Inv-loop μ-loop
 returns c =
     let start = c .before .before .before in
@@ -151,19 +99,19 @@ board-of-spec =
     (tie.spec
     Inv-loop
     μ-loop
-    zero-board-requires
-    cast-rows
+    (λ c κs. search needs)
+    (λ c. search needs)
     loop-holds
-    mul-row
-    element-copy-out-row
-    element-copy-out-look-of
-    mul-look-of
-    element-copy-out-look-of-2
-    mul-look-of-2
-    element-copy-out-look-of-3
+    (λ c. search needs)
+    (λ c. search needs)
+    (λ c. search needs)
+    (λ c. search needs)
+    (λ c. search needs)
+    (λ c. search needs)
+    (λ c. search needs)
     look-of-requires
-    with-look-requires
-    add-i
-    loop-less
+    (λ c κs. search needs)
+    (λ c. search needs)
+    (λ c. search needs)
     loop-again
     returns)

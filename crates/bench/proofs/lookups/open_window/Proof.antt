@@ -1,12 +1,11 @@
 -- `open_window` asks one window a turn: until one is open, the first open one is to be found among those from here on.
-use Prim.Native.Nat.{_-_, _≤_, _+_}
+use Prim.Native.Nat.{_-_, _≤_}
 use mathlib.Core.Bool.{and-false}
 use mathlib.Core.Logic.{⊎-elim}
 use mathlib.Core.Path.{_≡_, refl, sym, _∙_}
-use native.Mathlib.Omega.{arith}
 use borrow.Author.Needs.{needs}
 use borrow.Author.Tests.{le-leb, lt-leb, lt-ltb, le-ltb}
-use lib.ListN.{take, drop, length}
+use lib.ListN.{take, drop}
 use Rattle.counting.specs.Lists.{firstIn}
 use Rattle.counting.proofs.FirstInLaws.{firstIn-from, firstIn-past}
 use Rattle.load.specs.Load.{noWindow}

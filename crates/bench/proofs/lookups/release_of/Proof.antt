@@ -27,10 +27,11 @@ returns-2 : tie.Need-returns-2
 returns-2 c =
     let asked = c .before in
     let start = asked .before .before in
-    let end = start .args .end in
-    (ap (λ s. end + s .wait) (asked .step-at .ensures)
-    ∙ later (start .args .row) (start .args .finished) end (asked .before .if1 .left),
-    search needs)
+    let end = start .args .end in (
+      ap (λ s. end + s .wait) (asked .step-at .ensures)
+          ∙ later (start .args .row) (start .args .finished) end (asked .before .if1 .left),
+      search needs,
+    )
 
 pub release-of-spec : {M : Type 1} → statement M
 release-of-spec =

@@ -9,8 +9,6 @@ use Rattle.bench.specs.Moves.{finishedIn}
 use borrow.Author.Needs.{needs}
 use Rattle.bench.proofs.moves.all_finished.Statement.{statement}
 use Rattle.bench.proofs.moves.all_finished.Tie as tie
-use Rattle.bench.proofs.moves.all_finished.Reads as reads
-use Rattle.bench.proofs.moves.all_finished.Lts as lts
 
 abbrev Inv-loop : tie.InvT-loop
 Inv-loop rows board i₀ i = (i ≤ rows) × (rows ≤ 24) × (finishedIn board i ≡ true)
@@ -18,19 +16,9 @@ Inv-loop rows board i₀ i = (i ≤ rows) × (rows ≤ 24) × (finishedIn board 
 abbrev μ-loop : tie.MeasureT-loop
 μ-loop rows board i₀ i = rows - i
 
--- src/moves.rt:37:5
 loop-holds : tie.Need-loop-holds Inv-loop μ-loop
 loop-holds c = (search needs, search needs, allTo-zero _)
 
--- src/moves.rt:38:12
-element-copy-out-if1 : tie.Need-element-copy-out-if1 Inv-loop μ-loop
-element-copy-out-if1 c = search needs
-
--- src/moves.rt:38:32
-element-copy-out-if1-2 : tie.Need-element-copy-out-if1-2 Inv-loop μ-loop
-element-copy-out-if1-2 c = search needs
-
--- src/moves.rt:39:13
 returns : tie.Need-returns Inv-loop μ-loop
 returns c =
     let turn = c .before .before .before in
@@ -38,21 +26,11 @@ returns c =
     sym
     (false-allTo _ (start .args .rows) (turn .before .loop .i) (turn .loop-test .taken) (lt-leb _ _ (c .if1 .taken)))
 
--- src/moves.rt:37:9
-add-i : tie.Need-add-i Inv-loop μ-loop
-add-i c = search needs
-
--- src/moves.rt:37:5
-loop-less : tie.Need-loop-less Inv-loop μ-loop
-loop-less c = search needs
-
--- src/moves.rt:37:5
 loop-again : tie.Need-loop-again Inv-loop μ-loop
 loop-again c =
     let turn = c .before .before .before in
     (search needs, search needs, rw (allTo-next, turn .before .loop .inv .2, le-leb _ _ (c .if1 .left)))
 
--- src/moves.rt:33:1
 returns-2 : tie.Need-returns-2 Inv-loop μ-loop
 returns-2 c =
     let start = c .before .before in
@@ -66,10 +44,10 @@ all-finished-spec =
     Inv-loop
     μ-loop
     loop-holds
-    element-copy-out-if1
-    element-copy-out-if1-2
+    (λ c. search needs)
+    (λ c. search needs)
     returns
-    add-i
-    loop-less
+    (λ c. search needs)
+    (λ c. search needs)
     loop-again
     returns-2)

@@ -10,15 +10,7 @@ use Rattle.bench.specs.Stacks.{test}
 use borrow.Author.Needs.{needs}
 use Rattle.bench.proofs.moves.handed.Statement.{statement}
 use Rattle.bench.proofs.moves.handed.Tie as tie
-use Rattle.bench.proofs.moves.handed.Reads as reads
-use Rattle.bench.proofs.moves.handed.Lts as lts
-use Rattle.bench.proofs.lamps.lamp_word.Reads as lamp-word-reads
 
--- src/moves.rt:62:9
-lamp-word-requires : tie.Need-lamp-word-requires
-lamp-word-requires c κs = search needs
-
--- src/moves.rt:58:1
 abbrev handedOf : Bench → Outcome → ℕ → ℕ → Moved
 handedOf bench outcome word count = record { bench = bench; outcome = outcome; lamps = word; count = count }
 
@@ -30,4 +22,4 @@ returns c =
     (ap ones (c .lamp-word .ensures) ∙ wordOf-ones (test (start .args .held)) (start .args .rows))
 
 pub handed-spec : {M : Type 1} → statement M
-handed-spec = tie.close (tie.spec lamp-word-requires returns)
+handed-spec = tie.close (tie.spec (λ c κs. search needs) returns)

@@ -4,25 +4,15 @@ use borrow.Author.Tests.{lt-ltb, le-ltb, le-leb, lt-leb, not-true, not-false}
 use borrow.Author.Needs.{needs}
 use Rattle.bench.proofs.search.is_candidate.Statement.{statement}
 use Rattle.bench.proofs.search.is_candidate.Tie as tie
-use Rattle.bench.proofs.search.is_candidate.Reads as reads
-use Rattle.bench.proofs.search.is_candidate.Lts as lts
-use Rattle.bench.proofs.search.is_allowed.Reads as is-allowed-reads
 
--- src/search.rt:71:9
 returns : tie.Need-returns
 returns c = rw (le-ltb _ _ (c .if1 .taken))
 
--- src/search.rt:74:9
 returns-2 : tie.Need-returns-2
 returns-2 c = rw (lt-ltb _ _ (c .before .if1 .left), lt-leb _ _ (c .if2 .taken))
 
--- src/search.rt:76:9
-is-allowed-requires : tie.Need-is-allowed-requires
-is-allowed-requires c κs = search needs
-
--- src/search.rt:77:9
 returns-3 : tie.Need-returns-3
-returns-3 c = 
+returns-3 c =
     let asked = c .before in
     rw (
       lt-ltb _ _ (asked .before .before .if1 .left),
@@ -30,13 +20,8 @@ returns-3 c =
       sym (asked .is-allowed .ensures) ∙ not-true _ (c .if3 .taken),
     )
 
--- src/search.rt:79:5
-add-result : tie.Need-add-result
-add-result c = search needs
-
--- src/search.rt:57:1
 returns-4 : tie.Need-returns-4
-returns-4 c = 
+returns-4 c =
     let asked = c .before in
     rw (
       lt-ltb _ _ (asked .before .before .if1 .left),
@@ -46,4 +31,4 @@ returns-4 c =
 
 pub is-candidate-spec : {M : Type 1} → statement M
 is-candidate-spec =
-    tie.close (tie.spec returns returns-2 is-allowed-requires returns-3 add-result returns-4)
+    tie.close (tie.spec returns returns-2 (λ c κs. search needs) returns-3 (λ c. search needs) returns-4)

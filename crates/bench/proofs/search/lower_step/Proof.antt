@@ -2,18 +2,13 @@
 use Rattle.bench.proofs.SearchLaws.{lower-finished, lower-ahead, lower-behind}
 use Rattle.bench.proofs.search.lower_step.Statement.{statement}
 use Rattle.bench.proofs.search.lower_step.Tie as tie
-use Rattle.bench.proofs.search.lower_step.Reads as reads
-use Rattle.bench.proofs.search.lower_step.Lts as lts
 
--- src/search.rt:25:9
 returns : tie.Need-returns
 returns c = λ j. lower-finished j _ _ _ (c .if1 .taken)
 
--- src/search.rt:28:9
 returns-2 : tie.Need-returns-2
 returns-2 c = λ j. lower-ahead j _ _ _ (c .if2 .taken)
 
--- src/search.rt:21:1
 returns-3 : tie.Need-returns-3
 returns-3 c = λ j. lower-behind j _ _ _ (c .before .if1 .left) (c .if2 .left)
 

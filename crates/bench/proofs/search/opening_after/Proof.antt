@@ -2,18 +2,13 @@
 use borrow.Author.Tests.{not-true, not-false}
 use Rattle.bench.proofs.search.opening_after.Statement.{statement}
 use Rattle.bench.proofs.search.opening_after.Tie as tie
-use Rattle.bench.proofs.search.opening_after.Reads as reads
-use Rattle.bench.proofs.search.opening_after.Lts as lts
 
--- src/search.rt:88:9
 returns : tie.Need-returns
 returns c = rw (not-true (c .before .args .stays) (c .if1 .taken))
 
--- src/search.rt:84:1
 returns-2 : tie.Need-returns-2
 returns-2 c = rw (not-false (c .before .before .args .stays) (c .before .if1 .left), c .if2 .taken)
 
--- src/search.rt:84:1
 returns-3 : tie.Need-returns-3
 returns-3 c = rw (not-false (c .before .before .args .stays) (c .before .if1 .left), c .if2 .left)
 

@@ -2,18 +2,13 @@
 use borrow.Author.Tests.{eq-eqb, ne-eqb}
 use Rattle.bench.proofs.shape.is_unused.Statement.{statement}
 use Rattle.bench.proofs.shape.is_unused.Tie as tie
-use Rattle.bench.proofs.shape.is_unused.Reads as reads
-use Rattle.bench.proofs.shape.is_unused.Lts as lts
 
--- src/shape.rt:77:9
 returns : tie.Need-returns
 returns c = rw (ne-eqb _ _ (c .if1 .taken))
 
--- src/shape.rt:80:9
 returns-2 : tie.Need-returns-2
 returns-2 c = rw (eq-eqb _ _ (c .before .if1 .left), ne-eqb _ _ (c .if2 .taken))
 
--- src/shape.rt:73:1
 returns-3 : tie.Need-returns-3
 returns-3 c = rw (eq-eqb _ _ (c .before .if1 .left), eq-eqb _ _ (c .if2 .left))
 

@@ -2,14 +2,10 @@
 use borrow.Author.Tests.{eq-eqb, ne-eqb}
 use Rattle.bench.proofs.shape.latest_end.Statement.{statement}
 use Rattle.bench.proofs.shape.latest_end.Tie as tie
-use Rattle.bench.proofs.shape.latest_end.Reads as reads
-use Rattle.bench.proofs.shape.latest_end.Lts as lts
 
--- src/shape.rt:22:1
 returns : tie.Need-returns
 returns c = rw (eq-eqb _ _ (c .if1 .taken))
 
--- src/shape.rt:22:1
 returns-2 : tie.Need-returns-2
 returns-2 c = rw (ne-eqb _ _ (c .if1 .left))
 

@@ -2,14 +2,10 @@
 use borrow.Author.Tests.{lt-ltb, le-ltb}
 use Rattle.bench.proofs.shape.latest_opening.Statement.{statement}
 use Rattle.bench.proofs.shape.latest_opening.Tie as tie
-use Rattle.bench.proofs.shape.latest_opening.Reads as reads
-use Rattle.bench.proofs.shape.latest_opening.Lts as lts
 
--- src/shape.rt:29:1
 returns : tie.Need-returns
 returns c = rw (lt-ltb _ _ (c .if1 .taken))
 
--- src/shape.rt:29:1
 returns-2 : tie.Need-returns-2
 returns-2 c = rw (le-ltb _ _ (c .if1 .left))
 
