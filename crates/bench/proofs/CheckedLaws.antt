@@ -47,7 +47,8 @@ module _ (L : View) (s : State) (h : shaped L s ≡ true) where
   clock-and-rows : (leb (s .clock) lastMoment && allTo (rowShaped L s) (L .rows)) ≡ true
   unfolding shaped
   clock-and-rows =
-      and-left (leb (s .clock) lastMoment && allTo (rowShaped L s) (L .rows)) (allFrom (rowUnused s) (L .rows) mostRows) h
+      and-left (leb (s .clock) lastMoment && allTo (rowShaped L s) (L .rows))
+      (allFrom (rowUnused s) (L .rows) mostRows) h
 
   pub shaped-clock : s .clock ≤ lastMoment
   shaped-clock =

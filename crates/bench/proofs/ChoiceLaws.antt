@@ -38,7 +38,7 @@ use Rattle.bench.specs.Held.{stateOf}
 use Rattle.bench.specs.Alike.{further}
 use Rattle.bench.specs.Boards.{lookIn, Wide, Shows}
 use Rattle.bench.specs.Stacks.{planBy}
-use Rattle.bench.specs.Choices.{belowIn, candidateIn, openingBy, passesIn, ChosenIn}
+use Rattle.bench.specs.Choices.{belowIn, candidateIn, openingIn, heldAfter, passesIn, ChosenIn}
 use Rattle.bench.proofs.JoinLaws.{
   planBy-is,
   rows-are,
@@ -117,8 +117,7 @@ module _ (load : Load) (bench : Bench) (board : Board) (shows : Shows load bench
         ∙ windowLeft-is L (further s) i
         ∙ sym (windowLeft-same L s i cost)
 
-    pub opening-after : openingBy (lookIn board i .stays) (lookIn board i .held) (lookIn board i .opening) (bench .clock)
-        ≡ openingAfter L s i
+    pub opening-after : openingIn board (bench .clock) i ≡ openingAfter L s i
     opening-after =
         rw (
           stays-same load bench board shows i l,
@@ -136,13 +135,13 @@ module _ (load : Load) (bench : Bench) (board : Board) (shows : Shows load bench
     pub passes-same : rows ≤ 24 → passesIn board (bench .clock) rows i ≡ passes L s i
     unfolding passesIn passes
     passes-same most =
-        ap (λ t. planBy (record { waiting = set (board .held) i (lookIn board i .stays); time = t })
+        ap (λ t. planBy (record { waiting = heldAfter board i; time = t })
         (set (board .release) i (t + lookIn board i .wait))
         (set (board .left) i (lookIn board i .rest))
         (set (board .due) i (opening + lookIn board i .limit))
         rows) end-is
         ∙ planBy-is L after rows (rows-are load bench board shows)
-        (set (board .held) i (lookIn board i .stays))
+        (heldAfter board i)
         (set (board .release) i (after .clock + lookIn board i .wait))
         (set (board .left) i (lookIn board i .rest))
         (set (board .due) i (opening + lookIn board i .limit))
@@ -166,8 +165,7 @@ module _ (load : Load) (bench : Bench) (board : Board) (shows : Shows load bench
         wide = shows .wide
 
         opening : ℕ
-        opening =
-            openingBy (lookIn board i .stays) (lookIn board i .held) (lookIn board i .opening) (bench .clock)
+        opening = openingIn board (bench .clock) i
 
         end-is : bench .clock + lookIn board i .cost ≡ after .clock
         end-is =

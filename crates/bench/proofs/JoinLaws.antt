@@ -25,7 +25,8 @@ use Rattle.bench.specs.Stacks.{inTimeBy, stackBy, number, test, planBy}
 use Rattle.bench.proofs.StackLaws.{inTimeBy-none, inTimeBy-next}
 
 -- the plan over lists that agree with a state is the plan of that state
-module _ (L : View) (s : State) (rows : ℕ) (rows-are : L .rows ≡ rows) (waiting : List Bool) (release left due′ : List ℕ)
+module _ (L : View) (s : State) (rows : ℕ) (rows-are : L .rows ≡ rows)
+    (waiting : List Bool) (release left due′ : List ℕ)
     (opens : (k : ℕ) → k < rows → test waiting k ≡ isOpen L s k)
     (releases : (k : ℕ) → k < rows → number release k ≡ released L s k)
     (lefts : (k : ℕ) → k < rows → number left k ≡ windowLeft L s k)

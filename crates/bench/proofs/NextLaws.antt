@@ -8,7 +8,6 @@ use native.Mathlib.Decide.{decLt}
 use native.Mathlib.Omega.{arith}
 use borrow.Author.Tests.{le-leb}
 use lib.Dec.{leb}
-use lib.ListN.{set}
 use Rattle.counting.specs.Sums.{allTo, bit, countTo}
 use Rattle.counting.specs.Searches.{at, none}
 use Rattle.counting.proofs.SumLaws.{sumTo-ext}
@@ -45,7 +44,7 @@ use Rattle.bench.specs.Held.{stateOf, benchOf, handedOn, refusedWith, ne
 use Rattle.bench.specs.Updates.{benchStarted, benchTicked}
 use Rattle.bench.specs.Boards.{lookIn, Shows}
 use Rattle.bench.specs.Stacks.{test}
-use Rattle.bench.specs.Choices.{openingBy}
+use Rattle.bench.specs.Choices.{openingIn, heldAfter}
 use Rattle.bench.specs.Moves.{finishedIn, handedWith, startedIn, Stepped}
 use Rattle.bench.proofs.HeldLaws.{Sized, benchOf-stateOf, benchTicked-is, benchStarted-is}
 use Rattle.bench.proofs.JoinLaws.{rows-are, finished-same, steps-same, cost-same, held-same}
@@ -159,11 +158,10 @@ module _ (load : Load) (bench : Bench) (board : Board) (shows : Shows load bench
         after = startedFull L s i
 
         opening : ℕ
-        opening =
-            openingBy (lookIn board i .stays) (lookIn board i .held) (lookIn board i .opening) (bench .clock)
+        opening = openingIn board (bench .clock) i
 
         lit : List Bool
-        lit = set (board .held) i (lookIn board i .stays)
+        lit = heldAfter board i
 
         bench-is : benchOf after ≡ benchStarted bench i (lookIn board i .cost) opening
         bench-is =

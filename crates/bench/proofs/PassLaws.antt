@@ -1,5 +1,5 @@
--- What the plan of a candidate adds up fits: every number of a board is modest, and so are those that the candidate's row
--- will have.
+-- What the plan of a candidate adds up fits: every number of a board is modest, and so are those that the candidate's
+-- row will have.
 use Prim.Native.Nat.{ℕ, _+_, _≤_, _<_}
 use mathlib.Core.Bool.{Bool, true, false}
 use mathlib.Core.List.{List}

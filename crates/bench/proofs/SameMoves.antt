@@ -1,4 +1,5 @@
--- Two accepted loads that differ only in identifiers and boxes have the same moves: no wait is kept under an identifier.
+-- Two accepted loads that differ only in identifiers and boxes have the same moves: no wait is kept under an
+-- identifier.
 use mathlib.Core.Path.{_≡_, ap, sym, _∙_}
 use Rattle.refusals.specs.declared.Checked.the-variants.{Good}
 use Rattle.load.specs.declared.Load.{Load}

@@ -1,5 +1,5 @@
--- The lamp word of the tests p 0, .., p (n - 1): it is below 2 ^ n, and its ones are as many as the tests that hold, for
--- any n.
+-- The lamp word of the tests p 0, .., p (n - 1): it is below 2 ^ n, and its ones are as many as the tests that hold,
+-- for any n.
 use Prim.Native.Nat.{ℕ, zero, suc, _+_, _*_, _^_, _<_}
 use mathlib.Core.Bool.{Bool, true, false}
 use mathlib.Core.Path.{_≡_, refl, ap, ap₂, _∙_}

@@ -1,4 +1,5 @@
--- `board_of` looks one row up a turn: the board shows the first i rows, and storing a row leaves the others as they are.
+-- `board_of` looks one row up a turn: the board shows the first i rows, and storing a row leaves the others as they
+-- are.
 use Prim.Native.Nat.{ℕ, _-_, _≤_, _<_}
 use mathlib.Core.Path.{_≡_, _∙_}
 use native.Mathlib.Decide.{ℕ-discrete}
@@ -74,7 +75,11 @@ loop-again c =
       search needs,
       rw e (boardWith-wide _ i _ (inv .2)),
       (λ k l. elim (ℕ-discrete k i) [
-        | yes q ↦ rw (q, e) (boardWith-same _ i _ (inv .2) (omega arith) ∙ c .before .look-of .ensures .0 ∙ look-of-row (start .args .t1) (start .args .t2) i)
+        | yes q ↦
+            rw (q, e)
+            (boardWith-same _ i _ (inv .2) (omega arith)
+            ∙ c .before .look-of .ensures .0
+            ∙ look-of-row (start .args .t1) (start .args .t2) i)
         | no q ↦ rw e (boardWith-other _ i _ k q ∙ inv .3 k (omega arith))
       ]),
       λ k l. elim (ℕ-discrete k i) [

@@ -43,7 +43,8 @@ loop-again c = (
   search needs,
   rw (add-one, pow-suc) (omega arith),
   rw sumTo-next
-      (⊎-elim (λ w. rw (w .0 .taken) (omega (arith, w .1))) (λ w. rw (w .0 .left) (omega (arith, w .1))) (c .if1 .came)),
+      (⊎-elim (λ w. rw (w .0 .taken) (omega (arith, w .1))) (λ w. rw (w .0 .left) (omega (arith, w .1)))
+      (c .if1 .came)),
 )
 
 returns : tie.Need-returns Inv-loop μ-loop

@@ -1,4 +1,5 @@
--- `ticks_left` adds one step and its wait a turn: what is added and the chain from here on are the chain from the start.
+-- `ticks_left` adds one step and its wait a turn: what is added and the chain from here on are the chain from the
+-- start.
 use Prim.Native.Nat.{ℕ, suc, _+_, _-_, _*_, _≤_, _<_}
 use mathlib.Core.Path.{_≡_, ap, sym, _∙_}
 use native.Mathlib.Numerals.{add-one}

@@ -1,8 +1,6 @@
 -- `move_shaped` goes the rules' ways over the board of the load and the bench: Done, a full clock, a start or a tick.
 use Prim.Native.Nat.{_≤_}
-use mathlib.Core.Bool.{false}
 use mathlib.Core.Path.{_≡_, sym, _∙_}
-use native.Mathlib.Omega.{arith}
 use lib.ListN.{length-map}
 use Rattle.load.specs.View.{viewOf}
 use Rattle.rules.specs.Move.{allFinished}
@@ -14,13 +12,6 @@ use Rattle.bench.proofs.NextLaws.{full-move, finished-is, done-move, st
 use borrow.Author.Needs.{needs}
 use Rattle.bench.proofs.moves.move_shaped.Statement.{statement}
 use Rattle.bench.proofs.moves.move_shaped.Tie as tie
-use Rattle.bench.proofs.moves.move_shaped.Reads as reads
-use Rattle.bench.proofs.moves.move_shaped.Lts as lts
-use Rattle.bench.proofs.boards.board_of.Reads as board-of-reads
-use Rattle.bench.proofs.moves.all_finished.Reads as all-finished-reads
-use Rattle.bench.proofs.moves.handed.Reads as handed-reads
-use Rattle.bench.proofs.moves.refused.Reads as refused-reads
-use Rattle.bench.proofs.moves.start_or_idle.Reads as start-or-idle-reads
 
 -- a bench has 24 places to a field, which its own fields tell
 size : (c : tie.Start) → Sized (c .args .bench)
@@ -46,25 +37,14 @@ asked c =
     ∙ finished-is (start .args .load) (start .args .bench) (made .board-of .result) (made .board-of .ensures)
     (size start) (rows-most start)
 
--- src/moves.rt:114:9
-board-of-requires : tie.Need-board-of-requires
-board-of-requires c κs = search needs
-
--- src/moves.rt:115:16
-cast-rows : tie.Need-cast-rows
-cast-rows c = search needs
-
--- src/moves.rt:116:8
 all-finished-requires : tie.Need-all-finished-requires
 all-finished-requires c κs =
     rows-most (c .before .before)
 
--- src/moves.rt:118:9
 handed-requires : tie.Need-handed-requires
 handed-requires c κs =
     rows-most (c .before .before .before .before .before)
 
--- src/moves.rt:118:9
 returns : tie.Need-returns
 returns c =
     let tested = c .before .before .before in
@@ -75,11 +55,6 @@ returns c =
     (done-move (start .args .load) (start .args .bench) (made .board-of .result) (made .board-of .ensures) (size start)
     (rows-most start) (start .pre .1) (sym (asked tested) ∙ c .before .before .if1 .taken))
 
--- src/moves.rt:121:9
-refused-requires : tie.Need-refused-requires
-refused-requires c κs = search needs
-
--- src/moves.rt:121:9
 returns-2 : tie.Need-returns-2
 returns-2 c =
     let left = c .before .before .before in
@@ -89,40 +64,39 @@ returns-2 c =
     (full-move (start .args .bench) (viewOf (start .args .load)) (start .pre .1)
     (sym (asked (left .before)) ∙ left .if1 .left) (c .before .if2 .taken))
 
--- src/moves.rt:123:5
 start-or-idle-requires : tie.Need-start-or-idle-requires
 start-or-idle-requires c κs =
     let made = c .before .before .before .before .before in
     let start = made .before in
-    let shows = made .board-of .ensures in
-    (record {
-      rows-most = rows-most start;
-      clock-most = shaped-clock (viewOf (start .args .load)) (stateOf (start .args .bench)) (start .pre .1);
-      wide = shows .wide;
-      modest = shows .modest;
-    },
-    λ i l. sym (finished-same (start .args .load) (start .args .bench) (made .board-of .result) shows i l))
+    let shows = made .board-of .ensures in (
+      record {
+        rows-most = rows-most start;
+        clock-most = shaped-clock (viewOf (start .args .load)) (stateOf (start .args .bench)) (start .pre .1);
+        wide = shows .wide;
+        modest = shows .modest;
+      },
+      λ i l. sym (finished-same (start .args .load) (start .args .bench) (made .board-of .result) shows i l),
+    )
 
--- src/moves.rt:109:1
 returns-3 : tie.Need-returns-3
 returns-3 c =
     let left = c .before .before .before in
     let made = left .before .before .before in
     let start = made .before in
-    stepped-move (start .args .load) (start .args .bench) (made .board-of .result) (made .board-of .ensures) (size start)
-    (rows-most start) (start .pre .1) (sym (asked (left .before)) ∙ left .if1 .left) (c .before .if2 .left)
+    stepped-move (start .args .load) (start .args .bench) (made .board-of .result) (made .board-of .ensures)
+    (size start) (rows-most start) (start .pre .1) (sym (asked (left .before)) ∙ left .if1 .left) (c .before .if2 .left)
     (c .start-or-idle .result) (c .start-or-idle .ensures)
 
 pub move-shaped-spec : {M : Type 1} → statement M
 move-shaped-spec =
     tie.close
     (tie.spec
-    board-of-requires
-    cast-rows
+    (λ c κs. search needs)
+    (λ c. search needs)
     all-finished-requires
     handed-requires
     returns
-    refused-requires
+    (λ c κs. search needs)
     returns-2
     start-or-idle-requires
     returns-3)

@@ -8,18 +8,7 @@ use Rattle.bench.proofs.SearchLaws.{candidate-more}
 use borrow.Author.Needs.{needs}
 use Rattle.bench.proofs.moves.start_or_idle.Statement.{statement}
 use Rattle.bench.proofs.moves.start_or_idle.Tie as tie
-use Rattle.bench.proofs.moves.start_or_idle.Reads as reads
-use Rattle.bench.proofs.moves.start_or_idle.Lts as lts
-use Rattle.bench.proofs.Bench.idle.Reads as idle-reads
-use Rattle.bench.proofs.moves.handed.Reads as handed-reads
-use Rattle.bench.proofs.moves.started.Reads as started-reads
-use Rattle.bench.proofs.search.search.Reads as search-reads
 
--- src/moves.rt:99:9
-search-requires : tie.Need-search-requires
-search-requires c κs = search needs
-
--- src/moves.rt:101:9
 started-requires : tie.Need-started-requires
 started-requires c κs =
     let start = c .before .before in
@@ -31,7 +20,6 @@ started-requires c κs =
     candidate-more (lookIn board i) (start .args .bench .clock) below (c .before .search .ensures .candidate l) in
     (start .pre .0, (l, omega (arith, more, start .pre .0 .modest i l .steps-most), start .pre .1 i l))
 
--- src/moves.rt:101:9
 returns : tie.Need-returns
 returns c =
     record {
@@ -41,15 +29,6 @@ returns c =
       idles = λ l. absurd (omega (arith, c .before .if1 .taken));
     }
 
--- src/moves.rt:104:12
-idle-requires : tie.Need-idle-requires
-idle-requires c κs = search needs
-
--- src/moves.rt:104:5
-handed-requires : tie.Need-handed-requires
-handed-requires c κs = search needs
-
--- src/moves.rt:94:1
 returns-2 : tie.Need-returns-2
 returns-2 c =
     let left = c .before .before .before in
@@ -63,4 +42,4 @@ returns-2 c =
 pub start-or-idle-spec : {M : Type 1} → statement M
 start-or-idle-spec =
     tie.close
-    (tie.spec search-requires started-requires returns idle-requires handed-requires returns-2)
+    (tie.spec (λ c κs. search needs) started-requires returns (λ c κs. search needs) (λ c κs. search needs) returns-2)

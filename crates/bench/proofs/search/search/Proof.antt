@@ -40,22 +40,6 @@ loop-holds : tie.Need-loop-holds Inv-loop μ-loop Inv-search μ-search
 loop-holds c =
     (search needs, c .before .search .inv .1, c .before .search .inv .2, λ k l h. absurd (omega arith))
 
-element-copy-out-is-candidate :
-    tie.Need-element-copy-out-is-candidate Inv-loop μ-loop Inv-search μ-search
-element-copy-out-is-candidate c = search needs
-
-element-copy-out-is-candidate-2 :
-    tie.Need-element-copy-out-is-candidate-2 Inv-loop μ-loop Inv-search μ-search
-element-copy-out-is-candidate-2 c = search needs
-
-element-copy-out-is-candidate-3 :
-    tie.Need-element-copy-out-is-candidate-3 Inv-loop μ-loop Inv-search μ-search
-element-copy-out-is-candidate-3 c = search needs
-
-element-copy-out-is-candidate-4 :
-    tie.Need-element-copy-out-is-candidate-4 Inv-loop μ-loop Inv-search μ-search
-element-copy-out-is-candidate-4 c = search needs
-
 is-candidate-requires : tie.Need-is-candidate-requires Inv-loop μ-loop Inv-search μ-search
 is-candidate-requires c κs =
     let turn = c .before .before .before .before .before .before in
@@ -97,16 +81,15 @@ loop-again c =
 search-again : tie.Need-search-again Inv-loop μ-loop Inv-search μ-search
 search-again c =
     let start = c .before .before .before .before .before in
+    let round = c .before .before .before .search in
     let e : c .before .loop .i ≡ start .args .rows = omega arith in
     let inv = c .before .loop .inv in
-    let outer = c .before .before .before .search .inv in
-    let rows = subst
-    (λ n. PassedRows (start .args .t1) (start .args .clock) (start .args .rows) (c .before .before .before .search .step) n)
-    e (inv .3) in (
+    let rows =
+    subst (λ n. PassedRows (start .args .t1) (start .args .clock) (start .args .rows) (round .step) n) e (inv .3) in (
       search needs,
       search needs,
       inv .2,
-      passed-step (start .args .t1) (start .args .clock) (start .args .rows) _ (outer .3) rows,
+      passed-step (start .args .t1) (start .args .clock) (start .args .rows) _ (round .inv .3) rows,
     )
 
 returns : tie.Need-returns Inv-loop μ-loop Inv-search μ-search
@@ -147,12 +130,12 @@ search-spec =
     search-holds
     loop-holds
     (λ c. search needs)
-    element-copy-out-is-candidate
     (λ c. search needs)
-    element-copy-out-is-candidate-2
-    element-copy-out-is-candidate-3
     (λ c. search needs)
-    element-copy-out-is-candidate-4
+    (λ c. search needs)
+    (λ c. search needs)
+    (λ c. search needs)
+    (λ c. search needs)
     is-candidate-requires
     passes-requires
     (λ c. search needs)

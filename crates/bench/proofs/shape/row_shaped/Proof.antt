@@ -11,7 +11,8 @@ returns : tie.Need-returns
 returns c = rw (lt-leb _ _ (c .if1 .taken))
 
 returns-2 : tie.Need-returns-2
-returns-2 c = rw (le-leb _ _ (c .before .before .if1 .left), ← c .before .latest-end .ensures, lt-leb _ _ (c .if2 .taken))
+returns-2 c =
+    rw (le-leb _ _ (c .before .before .if1 .left), ← c .before .latest-end .ensures, lt-leb _ _ (c .if2 .taken))
 
 returns-3 : tie.Need-returns-3
 unfolding openWindow
