@@ -70,7 +70,7 @@ module _ (bench : Bench) (size : Sized bench) where
 
   pub benchStarted-is : (L : View) (i long : ℕ) → i < 24
       → benchStarted bench i long (openingAfter L (stateOf bench) i) ≡ benchOf (started L (stateOf bench) i long)
-  unfolding benchOf benchStarted started
+  unfolding benchOf started
   benchStarted-is L i long h =
       rw (
         changed-is (bench .finished) 24 i (getD (bench .finished) i 0 + 1) (size .finished-length) h,

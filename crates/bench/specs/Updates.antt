@@ -4,7 +4,7 @@ use lib.ListN.{getD, set}
 use Rattle.bench.specs.declared.Bench.{Bench}
 
 -- a bench once row i has started a step that takes so long, with its opening
-unfoldable pub benchStarted : Bench → ℕ → ℕ → ℕ → Bench
+abbrev pub benchStarted : Bench → ℕ → ℕ → ℕ → Bench
 benchStarted bench i long opening =
     record {
       clock = bench .clock + long;

@@ -70,6 +70,15 @@ fn handed(bench: Bench, outcome: Outcome, held: [bool; MOST_ROWS], rows: usize) 
     }
 }
 
+// Done changes nothing.
+fn done(bench: Bench, board: Board, rows: usize) -> Moved
+    requires { ⌜ rows ≤ 24 ⌝ }
+    ensures { λ r. ⌜ r ≡ handedWith bench Outcome.Done (board .held) rows ⌝ }
+{
+    let held = board.held;
+    handed(bench, Outcome::Done, held, rows)
+}
+
 // Starts a row's next step: rows and steps are shown counted from 1.
 fn started(bench: Bench, board: Board, rows: usize, i: usize) -> Moved
     requires { ⌜ BoardFits board (bench .clock) rows ⌝ }
@@ -114,8 +123,7 @@ fn move_shaped(load: Load, bench: Bench) -> Moved
     let board = board_of(load, bench);
     let rows = load.rows as usize;
     if all_finished(board, rows) {
-        let held = board.held;
-        return handed(bench, Outcome::Done, held, rows);
+        return done(bench, board, rows);
     }
     if LAST_MOMENT <= bench.clock {
         return refused(bench, Refusal::ClockFull);

@@ -41,19 +41,18 @@ all-finished-requires : tie.Need-all-finished-requires
 all-finished-requires c κs =
     rows-most (c .before .before)
 
-handed-requires : tie.Need-handed-requires
-handed-requires c κs =
-    rows-most (c .before .before .before .before .before)
+done-requires : tie.Need-done-requires
+done-requires c κs = rows-most (c .before .before .before .before)
 
 returns : tie.Need-returns
 returns c =
-    let tested = c .before .before .before in
+    let tested = c .before .before in
     let made = tested .before .before in
     let start = made .before in
-    c .handed .ensures
+    c .done .ensures
     ∙ sym
     (done-move (start .args .load) (start .args .bench) (made .board-of .result) (made .board-of .ensures) (size start)
-    (rows-most start) (start .pre .1) (sym (asked tested) ∙ c .before .before .if1 .taken))
+    (rows-most start) (start .pre .1) (sym (asked tested) ∙ c .before .if1 .taken))
 
 returns-2 : tie.Need-returns-2
 returns-2 c =
@@ -94,7 +93,7 @@ move-shaped-spec =
     (λ c κs. search needs)
     (λ c. search needs)
     all-finished-requires
-    handed-requires
+    done-requires
     returns
     (λ c κs. search needs)
     returns-2
