@@ -5,6 +5,7 @@ pub mod MaxLaws
 pub mod FromLaws
 pub mod ListLaws
 pub mod MemberLaws
+pub mod FirstInLaws
 pub mod FirstToLaws
 pub mod SortLaws
 pub mod NumbersLaws
@@ -14,6 +15,7 @@ pub mod OrderLaws
 pub mod KeyLaws
 pub mod ChangeLaws
 pub mod LeastLaws
+pub mod SelectionLaws
 pub mod ThresholdLaws
 pub mod PairLaws
 pub mod KeepLaws

@@ -35,3 +35,8 @@ pub chain-ext : (c d w v : ℕ → ℕ) (a b : ℕ) → ((j : ℕ) → a ≤ j �
 unfolding chain
 chain-ext c d w v a b costs waits =
     ap₂ _+_ (sumFrom-ext c d a b costs) (sumFrom-ext w v a (b - 1) (λ j from l. waits j from (omega arith)))
+
+pub chain-none : (cost wait : ℕ → ℕ) (a b : ℕ) → b ≤ a → chain cost wait a b ≡ 0
+unfolding chain
+chain-none cost wait a b h =
+    omega (arith, sumFrom-none cost a b h, sumFrom-none wait a (b - 1) (omega arith))

@@ -1,4 +1,6 @@
--- Laws of numbers as bytes, over any width, of bytes written over others, and sameness of results.
+-- Laws of numbers as bytes, over any width, of bytes written over others, of the lamp
+-- word, and sameness of results.
 pub mod LittleEndianLaws
 pub mod OverwriteLaws
+pub mod LampLaws
 pub mod CallLaws

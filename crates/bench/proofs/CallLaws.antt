@@ -1,0 +1,13 @@
+-- Any two results that meet a call's contract are equal.
+use mathlib.Core.Path.{_≡_, sym, _∙_}
+use Rattle.load.specs.declared.Load.{Load}
+use Rattle.bench.specs.declared.Bench.{Bench}
+use Rattle.bench.specs.declared.Moved.{Moved}
+use Rattle.bench.specs.Calls.{Fresh, NextMove}
+
+pub Fresh-unique : (r s : Bench) → Fresh r → Fresh s → r ≡ s
+Fresh-unique r s p q = p ∙ sym q
+
+pub NextMove-unique : (load : Load) (bench : Bench) (r s : Moved) → NextMove load bench r → NextMove load bench s
+    → r ≡ s
+NextMove-unique load bench r s p q = p ∙ sym q

@@ -1,0 +1,13 @@
+-- Laws of the bench in memory, and sameness of results.
+pub mod HeldLaws
+pub mod LookLaws
+pub mod CheckedLaws
+pub mod BoardLaws
+pub mod StackLaws
+pub mod SearchLaws
+pub mod PassLaws
+pub mod JoinLaws
+pub mod ChoiceLaws
+pub mod NextLaws
+pub mod SameMoves
+pub mod CallLaws

@@ -1,0 +1,58 @@
+-- `look_of` puts together what the calls find of the row.
+use native.Mathlib.Omega.{arith}
+use borrow.Author.Needs.{needs}
+use Rattle.bench.proofs.LookLaws.{found-is}
+use Rattle.bench.proofs.lookups.look_of.Statement.{statement}
+use Rattle.bench.proofs.lookups.look_of.Tie as tie
+
+returns : tie.Need-returns
+returns c =
+    let looked = c .before .before .before .before .before in
+    let released = looked .before .before in
+    let opened = released .before .before in
+    let start = opened .before .before .before in (
+      found-is (start .args .row) (start .args .finished) (start .args .end) (start .args .opening)
+          (opened .before .before .step-at .result)
+          (opened .before .open-window .result)
+          (opened .open-window2 .result)
+          (released .release-of .result)
+          (looked .ticks-left .result)
+          (c .before .ticks-left2 .result)
+          (opened .before .before .step-at .ensures)
+          (opened .before .open-window .ensures)
+          (opened .open-window2 .ensures)
+          (released .release-of .ensures .0)
+          (looked .ticks-left .ensures .0)
+          (c .before .ticks-left2 .ensures .0),
+      record {
+        steps-most = start .pre .0 .steps-most;
+        opening-most = start .pre .1 .2;
+        cost-most = omega (arith, opened .before .before .step-at .ok);
+        release-most = released .release-of .ensures .1;
+        left-most = looked .ticks-left .ensures .1;
+        due-most = omega (arith, start .pre .1 .2, opened .before .open-window .ok);
+        wait-most = omega (arith, opened .before .before .step-at .ok);
+        rest-most = c .before .ticks-left2 .ensures .1;
+        limit-most = omega (arith, opened .open-window2 .ok);
+      },
+    )
+
+pub look-of-spec : {M : Type 1} → statement M
+look-of-spec =
+    tie.close
+    (tie.spec
+    (λ c κs. search needs)
+    (λ c κs. search needs)
+    (λ c. search needs)
+    (λ c κs. search needs)
+    (λ c. search needs)
+    (λ c κs. search needs)
+    (λ c κs. search needs)
+    (λ c. search needs)
+    (λ c. search needs)
+    (λ c. search needs)
+    (λ c. search needs)
+    (λ c. search needs)
+    (λ c κs. search needs)
+    (λ c. search needs)
+    returns)

@@ -1,0 +1,44 @@
+-- `started` puts the row as it will be in its places, and starts the step.
+use native.Mathlib.Omega.{arith}
+use mathlib.Core.Path.{_∙_}
+use Rattle.bench.specs.Moves.{startedIn}
+use borrow.Author.Needs.{needs}
+use Rattle.bench.proofs.moves.started.Statement.{statement}
+use Rattle.bench.proofs.moves.started.Tie as tie
+
+start-requires : tie.Need-start-requires
+start-requires c κs =
+    let start = c .before .before .before .before .before .before .before .before in
+    let fits = start .pre .0 in
+    let here = fits .modest _ (start .pre .1 .0) in (
+      omega (arith, start .pre .1 .0, fits .rows-most),
+      omega (arith, fits .clock-most, here .cost-most),
+      omega (arith, start .pre .1 .1, start .pre .1 .2),
+    )
+
+returns : tie.Need-returns
+unfolding startedIn
+returns c =
+    let opened = c .before .before .before .before .before .before in
+    c .handed .ensures ∙ rw (c .before .start .ensures, opened .opening-after .ensures)
+
+pub started-spec : {M : Type 1} → statement M
+started-spec =
+    tie.close
+    (tie.spec
+    (λ c. search needs)
+    (λ c. search needs)
+    (λ c. search needs)
+    (λ c. search needs)
+    (λ c κs. search needs)
+    (λ c. search needs)
+    (λ c. search needs)
+    (λ c. search needs)
+    (λ c. search needs)
+    (λ c. search needs)
+    (λ c. search needs)
+    (λ c. search needs)
+    (λ c. search needs)
+    start-requires
+    (λ c κs. search needs)
+    returns)

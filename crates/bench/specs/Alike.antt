@@ -1,0 +1,77 @@
+-- What the code looks up of a row for its next step, so that the search and the plan need not read
+-- the load: the row as it stands, and as it will stand once its next step is over. A row taken by
+-- itself is seen as a load and a state in which every row is alike.
+use Prim.Native.Nat.{ℕ, suc, _≤_}
+use lib.ListN.{length, take}
+use Rattle.load.specs.declared.Row.{Row}
+use Rattle.load.specs.Load.{mostSteps, mostWindows, latestPhase, lastMoment, stepAt}
+use Rattle.load.specs.View.{View}
+use Rattle.rules.specs.State.{State, isOpen, openWindow}
+use Rattle.rules.specs.Ready.{released}
+use Rattle.rules.specs.Plan.{due, windowLeft}
+use Rattle.bench.specs.declared.Look.{Look}
+
+-- what the code needs to know of a row of a load that was checked
+pub record Fitting (row : Row) : Type 0 where
+  pub windows-there : row .windows ≤ length (row .window)
+  pub windows-most : row .windows ≤ mostWindows
+  pub steps-most : row .steps ≤ mostSteps
+  pub phase-most : row .phase ≤ latestPhase
+
+-- the view in which every row is that row
+abbrev pub viewAlike : Row → View
+viewAlike row =
+    record {
+      rows = 1;
+      phase = λ i. row .phase;
+      deadline = λ i. row .deadline;
+      steps = λ i. row .steps;
+      cost = λ i j. stepAt row j .cost;
+      wait = λ i j. stepAt row j .wait;
+      windows = λ i. take (row .windows) (row .window);
+    }
+
+-- the state in which every row has those numbers
+abbrev pub stateAlike : ℕ → ℕ → ℕ → ℕ → State
+stateAlike clock finished end opening =
+    record { clock = clock; finished = λ i. finished; end = λ i. end; opening = λ i. opening }
+
+-- the state in which every row has one more step finished
+abbrev pub further : State → State
+further s =
+    record {
+      clock = s .clock;
+      finished = λ i. suc (s .finished i);
+      end = s .end;
+      opening = s .opening;
+    }
+
+-- what is looked up of row i
+unfoldable pub lookOf : View → State → ℕ → Look
+lookOf L s i =
+    record {
+      finished = s .finished i;
+      steps = L .steps i;
+      opening = s .opening i;
+      cost = L .cost i (s .finished i);
+      release = released L s i;
+      held = isOpen L s i;
+      left = windowLeft L s i;
+      due = due L s i;
+      wait = L .wait i (s .finished i);
+      stays = isOpen L (further s) i;
+      rest = windowLeft L (further s) i;
+      limit = openWindow L (further s) i .limit;
+    }
+
+-- what is looked up is modest: sums of it fit
+pub record Modest (look : Look) : Type 0 where
+  pub steps-most : look .steps ≤ mostSteps
+  pub opening-most : look .opening ≤ lastMoment
+  pub cost-most : look .cost ≤ 65535
+  pub release-most : look .release ≤ 2000000
+  pub left-most : look .left ≤ 40000000
+  pub due-most : look .due ≤ 2000000
+  pub wait-most : look .wait ≤ 65535
+  pub rest-most : look .rest ≤ 40000000
+  pub limit-most : look .limit ≤ 65535

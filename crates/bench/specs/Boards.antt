@@ -1,0 +1,70 @@
+-- The board: what is looked up of every row of a load, one list a number, so that the search and
+-- the plan read plain lists. To be read after Alike.
+use Prim.Native.Nat.{ℕ, _<_}
+use mathlib.Core.Bool.{false}
+use mathlib.Core.Path.{_≡_}
+use lib.ListN.{length, getD, set}
+use Rattle.load.specs.declared.Load.{Load}
+use Rattle.load.specs.View.{viewOf}
+use Rattle.bench.specs.declared.Bench.{Bench}
+use Rattle.bench.specs.declared.Look.{Look}
+use Rattle.bench.specs.declared.Board.{Board}
+use Rattle.bench.specs.Held.{stateOf}
+use Rattle.bench.specs.Alike.{lookOf, Modest}
+
+-- what a board has of row i
+abbrev pub lookIn : Board → ℕ → Look
+lookIn board i =
+    record {
+      finished = getD (board .finished) i 0;
+      steps = getD (board .steps) i 0;
+      opening = getD (board .opening) i 0;
+      cost = getD (board .cost) i 0;
+      release = getD (board .release) i 0;
+      held = getD (board .held) i false;
+      left = getD (board .left) i 0;
+      due = getD (board .due) i 0;
+      wait = getD (board .wait) i 0;
+      stays = getD (board .stays) i false;
+      rest = getD (board .rest) i 0;
+      limit = getD (board .limit) i 0;
+    }
+
+-- a board with another look of row i
+unfoldable pub boardWith : Board → ℕ → Look → Board
+boardWith board i look =
+    record {
+      finished = set (board .finished) i (look .finished);
+      steps = set (board .steps) i (look .steps);
+      opening = set (board .opening) i (look .opening);
+      cost = set (board .cost) i (look .cost);
+      release = set (board .release) i (look .release);
+      held = set (board .held) i (look .held);
+      left = set (board .left) i (look .left);
+      due = set (board .due) i (look .due);
+      wait = set (board .wait) i (look .wait);
+      stays = set (board .stays) i (look .stays);
+      rest = set (board .rest) i (look .rest);
+      limit = set (board .limit) i (look .limit);
+    }
+
+-- 24 places to a list
+pub record Wide (board : Board) : Type 0 where
+  pub finished-length : length (board .finished) ≡ 24
+  pub steps-length : length (board .steps) ≡ 24
+  pub opening-length : length (board .opening) ≡ 24
+  pub cost-length : length (board .cost) ≡ 24
+  pub release-length : length (board .release) ≡ 24
+  pub held-length : length (board .held) ≡ 24
+  pub left-length : length (board .left) ≡ 24
+  pub due-length : length (board .due) ≡ 24
+  pub wait-length : length (board .wait) ≡ 24
+  pub stays-length : length (board .stays) ≡ 24
+  pub rest-length : length (board .rest) ≡ 24
+  pub limit-length : length (board .limit) ≡ 24
+
+-- a board shows every row of a load and its bench as it is looked up
+pub record Shows (load : Load) (bench : Bench) (board : Board) : Type 0 where
+  pub wide : Wide board
+  pub looks : (i : ℕ) → i < load .rows → lookIn board i ≡ lookOf (viewOf load) (stateOf bench) i
+  pub modest : (i : ℕ) → i < load .rows → Modest (lookIn board i)

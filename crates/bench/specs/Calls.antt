@@ -1,0 +1,16 @@
+-- What each public call's contract says: one relation a call, over what it takes and what it gives.
+-- To be read after Held.
+use mathlib.Core.Path.{_≡_}
+use Rattle.load.specs.declared.Load.{Load}
+use Rattle.rules.specs.State.{fresh}
+use Rattle.bench.specs.declared.Bench.{Bench}
+use Rattle.bench.specs.declared.Moved.{Moved}
+use Rattle.bench.specs.Held.{benchOf, nextMove}
+
+-- fresh(): fresh is all zero
+abbrev pub Fresh : Bench → Type 0
+Fresh r = r ≡ benchOf fresh
+
+-- next_move(load, bench): one move of the bench
+abbrev pub NextMove : Load → Bench → Moved → Type 0
+NextMove load bench r = r ≡ nextMove load bench

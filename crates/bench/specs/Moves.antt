@@ -1,0 +1,55 @@
+-- What a move hands back in memory, over a board: with the lamps of the windows that are open after
+-- the move. To be read after Choices.
+use Prim.Native.Nat.{ℕ, _≤_, _<_}
+use mathlib.Core.Bool.{Bool}
+use mathlib.Core.List.{List}
+use mathlib.Core.Path.{_≡_}
+use lib.Dec.{leb}
+use Rattle.counting.specs.Sums.{allTo, countTo}
+use Rattle.words.specs.LampWord.{wordOf}
+use Rattle.load.specs.Load.{shown}
+use Rattle.rules.specs.declared.Outcome.{Outcome}
+use Rattle.rules.specs.declared.Outcome.the-variants.{Start, Idle}
+use Rattle.rules.specs.declared.Slot.{Slot}
+use Rattle.bench.specs.declared.Bench.{Bench}
+use Rattle.bench.specs.declared.Board.{Board}
+use Rattle.bench.specs.declared.Moved.{Moved}
+use Rattle.bench.specs.Updates.{benchStarted, benchTicked}
+use Rattle.bench.specs.Boards.{lookIn}
+use Rattle.bench.specs.Stacks.{test}
+use Rattle.bench.specs.Choices.{openingIn, heldAfter, ChosenIn}
+
+-- all steps are finished
+abbrev pub finishedIn : Board → ℕ → Bool
+finishedIn board rows = allTo (λ i. leb (lookIn board i .steps) (lookIn board i .finished)) rows
+
+-- a bench handed back with its lamps
+abbrev pub handedWith : Bench → Outcome → List Bool → ℕ → Moved
+handedWith bench outcome held rows =
+    record {
+      bench = bench;
+      outcome = outcome;
+      lamps = wordOf (test held) rows;
+      count = countTo (test held) rows;
+    }
+
+-- row i's next step as a slot: rows and steps counted from 1
+abbrev pub slotIn : Bench → Board → ℕ → Slot
+slotIn bench board i =
+    record { row = shown i; step = shown (lookIn board i .finished); start = bench .clock }
+
+-- the move that starts row i's next step
+unfoldable pub startedIn : Bench → Board → ℕ → ℕ → Moved
+startedIn bench board rows i =
+    handedWith
+    (benchStarted bench i (lookIn board i .cost) (openingIn board (bench .clock) i))
+    (Start (slotIn bench board i))
+    (heldAfter board i)
+    rows
+
+-- row r was chosen, and its next step is started; where it is no row, the clock moves one tick
+pub record Stepped (bench : Bench) (board : Board) (rows : ℕ) (moved : Moved) : Type 0 where
+  pub row : ℕ
+  pub chosen : ChosenIn board (bench .clock) rows row
+  pub starts : row < rows → moved ≡ startedIn bench board rows row
+  pub idles : rows ≤ row → moved ≡ handedWith (benchTicked bench) Idle (board .held) rows

@@ -1,0 +1,156 @@
+// One move of the bench: Start, Idle, Done, or a refusal, each with the lamps of the windows that
+// are open after it.
+use crate::Bench;
+use crate::Board;
+use crate::Moved;
+use crate::boards::board_of;
+use crate::lamps::lamp_word;
+use crate::search::opening_after;
+use crate::search::search;
+use crate::shape::has_shape;
+use load::Load;
+use load::MOST_ROWS;
+use load::check_load;
+use load::ranges::LAST_MOMENT;
+use refusals::Checked;
+use refusals::Refusal;
+use rules::Outcome;
+use rules::Slot;
+ghost use mathlib.Core.Path.{_≡_};
+ghost use mathlib.Core.Bool.{true};
+ghost use Prim.Native.Nat.{ℕ, _≤_, _<_};
+ghost use Rattle.refusals.specs.declared.Checked.the-variants.{Good};
+ghost use Rattle.load.specs.Check.{checkLoad};
+ghost use Rattle.load.specs.View.{viewOf};
+ghost use Rattle.rules.specs.State.{shaped};
+ghost use Rattle.rules.specs.Move.{move};
+ghost use Rattle.bench.specs.Held.{stateOf, handedOn, refusedWith};
+ghost use Rattle.bench.specs.Boards.{lookIn};
+ghost use Rattle.bench.specs.Stacks.{number};
+ghost use Rattle.bench.specs.Choices.{BoardFits};
+ghost use Rattle.bench.specs.Moves.{finishedIn, handedWith, startedIn, Stepped};
+ghost use Rattle.bench.specs.Calls.{NextMove};
+
+// Says whether all steps are finished.
+fn all_finished(board: Board, rows: usize) -> bool
+    requires { ⌜ rows ≤ 24 ⌝ }
+    ensures { λ r. ⌜ r ≡ finishedIn board rows ⌝ }
+{
+    for i in 0..rows {
+        if board.finished[i] < board.steps[i] {
+            return false;
+        }
+    }
+    true
+}
+
+// Hands the bench back as it was given, with lamp word and count 0.
+fn refused(bench: Bench, refusal: Refusal) -> Moved
+    ensures { λ r. ⌜ r ≡ refusedWith bench refusal ⌝ }
+{
+    Moved {
+        bench,
+        outcome: Outcome::Refused(refusal),
+        lamps: 0,
+        count: 0,
+    }
+}
+
+// Hands a bench back with the lamps of the rows that have an open window, and their count.
+fn handed(bench: Bench, outcome: Outcome, held: [bool; MOST_ROWS], rows: usize) -> Moved
+    requires { ⌜ rows ≤ 24 ⌝ }
+    ensures { λ r. ⌜ r ≡ handedWith bench outcome held rows ⌝ }
+{
+    let lamps = lamp_word(held, rows);
+    Moved {
+        bench,
+        outcome,
+        lamps,
+        count: u32::count_ones(lamps),
+    }
+}
+
+// Done changes nothing.
+fn done(bench: Bench, board: Board, rows: usize) -> Moved
+    requires { ⌜ rows ≤ 24 ⌝ }
+    ensures { λ r. ⌜ r ≡ handedWith bench Outcome.Done (board .held) rows ⌝ }
+{
+    let held = board.held;
+    handed(bench, Outcome::Done, held, rows)
+}
+
+// Starts a row's next step: rows and steps are shown counted from 1.
+fn started(bench: Bench, board: Board, rows: usize, i: usize) -> Moved
+    requires { ⌜ BoardFits board (bench .clock) rows ⌝ }
+    requires { ⌜ (i < rows) × (lookIn board i .finished < 8)
+        × (number (bench .finished) i ≡ lookIn board i .finished) ⌝ }
+    ensures { λ r. ⌜ r ≡ startedIn bench board rows i ⌝ }
+{
+    let clock = bench.clock;
+    let opening = opening_after(board.stays[i], board.held[i], board.opening[i], clock);
+    let mut held = board.held;
+    held[i] = board.stays[i];
+    let slot = Slot {
+        row: i as u8 + 1,
+        step: board.finished[i] + 1,
+        start: clock,
+    };
+    let next = bench.start(i, board.cost[i], opening);
+    handed(next, Outcome::Start(slot), held, rows)
+}
+
+// Starts the first candidate that passes, or moves the clock one tick.
+fn start_or_idle(bench: Bench, board: Board, rows: usize) -> Moved
+    requires { ⌜ BoardFits board (bench .clock) rows ⌝ }
+    requires { ⌜ ((i : ℕ) → i < rows → number (bench .finished) i ≡ lookIn board i .finished) ⌝ }
+    ensures { λ r. ⌜ Stepped bench board rows r ⌝ }
+{
+    let i = search(board, bench.clock, rows);
+    if i < rows {
+        return started(bench, board, rows, i);
+    }
+    let held = board.held;
+    handed(bench.idle(), Outcome::Idle, held, rows)
+}
+
+// Makes one move of a bench that has the shape of its load, which was checked: Done where all steps
+// are finished; a full clock with work left is refused (11).
+fn move_shaped(load: Load, bench: Bench) -> Moved
+    requires { ⌜ checkLoad load ≡ Good ⌝ }
+    requires { ⌜ shaped (viewOf load) (stateOf bench) ≡ true ⌝ }
+    ensures { λ r. ⌜ r ≡ handedOn bench (move (viewOf load) (stateOf bench)) ⌝ }
+{
+    let board = board_of(load, bench);
+    let rows = load.rows as usize;
+    if all_finished(board, rows) {
+        return done(bench, board, rows);
+    }
+    if LAST_MOMENT <= bench.clock {
+        return refused(bench, Refusal::ClockFull);
+    }
+    start_or_idle(bench, board, rows)
+}
+
+// Makes one move of a bench with a load that was checked; a state that does not have the load's
+// shape is refused (10).
+fn move_checked(load: Load, bench: Bench) -> Moved
+    requires { ⌜ checkLoad load ≡ Good ⌝ }
+    ensures { λ r. ⌜ r ≡ handedOn bench (move (viewOf load) (stateOf bench)) ⌝ }
+{
+    if !has_shape(load, bench) {
+        return refused(bench, Refusal::StateShape);
+    }
+    move_shaped(load, bench)
+}
+
+// Makes one move of the bench. A load that is out of order refuses it with the load's number, and a
+// refused move hands the bench back as it was given.
+pub fn next_move(load: Load, bench: Bench) -> Moved
+    ensures { λ r. ⌜ NextMove load bench r ⌝ }
+{
+    let checked = check_load(load);
+    match checked {
+        Checked::Good => move_checked(load, bench),
+        Checked::Refused(refusal) => refused(bench, refusal),
+    }
+}

@@ -1,0 +1,46 @@
+// The bench state by value: a fresh one, and what a start and a tick make of one.
+use crate::Bench;
+use load::MOST_ROWS;
+ghost use mathlib.Core.Path.{_≡_};
+ghost use Prim.Native.Nat.{_+_, _≤_, _<_};
+ghost use lib.ListN.{getD};
+ghost use Rattle.bench.specs.Updates.{benchStarted, benchTicked};
+ghost use Rattle.bench.specs.Calls.{Fresh};
+
+// Gives the fresh bench, which is all zero.
+pub fn fresh() -> Bench
+    ensures { λ r. ⌜ Fresh r ⌝ }
+{
+    Bench {
+        clock: 0,
+        finished: [0; MOST_ROWS],
+        end: [0; MOST_ROWS],
+        opening: [0; MOST_ROWS],
+    }
+}
+
+impl Bench {
+    // Starts a row's next step, which takes so long, and sets the row's opening: the clock and the
+    // row's end move to the end of the step.
+    pub fn start(mut self, i: usize, long: u32, opening: u32) -> Bench
+        requires { ⌜ (i < 24) × (self .clock + long ≤ 4294967295)
+            × (getD (self .finished) i 0 < 255) ⌝ }
+        ensures { λ r. ⌜ r ≡ benchStarted self i long opening ⌝ }
+    {
+        let end = self.clock + long;
+        self.clock = end;
+        self.finished[i] += 1;
+        self.end[i] = end;
+        self.opening[i] = opening;
+        self
+    }
+
+    // Moves the clock one tick.
+    pub fn idle(mut self) -> Bench
+        requires { ⌜ self .clock < 4294967295 ⌝ }
+        ensures { λ r. ⌜ r ≡ benchTicked self ⌝ }
+    {
+        self.clock += 1;
+        self
+    }
+}
