@@ -23,20 +23,11 @@ use Rattle.rules.specs.declared.Slot.{Slot}
 use Rattle.rules.specs.Slots.{slotAt}
 use Rattle.rules.specs.Check.{checkSlots, checkSchedule}
 use Rattle.schedule.specs.declared.Seen.{Seen}
-use Rattle.schedule.specs.Seen.{
-  counted,
-  begun,
-  foundAt,
-  advanced,
-  withFound,
-  byFinding,
-  nextSlot,
-  stepSlot,
-  seenOf,
-  foldSlots,
-}
+use Rattle.schedule.specs.Seen.{counted, begun, foundAt}
+use Rattle.schedule.specs.SeenFold.{advanced, withFound, byFinding, nextSlot, stepSlot, seenOf, foldSlots}
 use Rattle.schedule.proofs.SeenLaws.{testsAt, Before}
-use Rattle.schedule.proofs.StepLaws.{tests-right, tests-same}
+use Rattle.schedule.proofs.RightLaws.{tests-right}
+use Rattle.schedule.proofs.StepLaws.{tests-same}
 use Rattle.schedule.proofs.KeepLaws.{advanced-kept}
 use Rattle.schedule.proofs.FoldLaws.{foldSlots-next, foldSlots-end}
 

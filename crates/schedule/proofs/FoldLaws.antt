@@ -9,7 +9,7 @@ use Rattle.rules.specs.declared.Slot.{Slot}
 use Rattle.rules.specs.Slots.{slotAt}
 use Rattle.schedule.specs.declared.Seen.{Seen}
 use Rattle.schedule.specs.declared.Gathered.{Gathered}
-use Rattle.schedule.specs.Seen.{seenOf, foldSlots}
+use Rattle.schedule.specs.SeenFold.{seenOf, foldSlots}
 use Rattle.schedule.specs.Gathered.{gatheredOf, gathered}
 
 pub foldSlots-next : (load : Load) (slots : List Slot) (i : ℕ) (seen : Seen) → i < length slots

@@ -22,9 +22,11 @@ use Rattle.rules.specs.Slots.{slotAt, rowOf, stepOf}
 use Rattle.rules.proofs.SlotLaws.{ofRow}
 use Rattle.rules.proofs.NextLaws.{ofRow-lt}
 use Rattle.schedule.specs.declared.Seen.{Seen}
-use Rattle.schedule.specs.Seen.{startAt, withStart, advanced}
+use Rattle.schedule.specs.Seen.{startAt, withStart}
+use Rattle.schedule.specs.SeenFold.{advanced}
 use Rattle.schedule.proofs.SeenLaws.{testsAt, Kept}
-use Rattle.schedule.proofs.StepLaws.{Right, right}
+use Rattle.schedule.proofs.RightLaws.{Right}
+use Rattle.schedule.proofs.StepLaws.{right}
 
 module _ (load : Load) (ok : Acceptable (viewOf load)) (placed : Placed load) (slots : List Slot) (k : ℕ) (seen : Seen)
     (kept : Kept (viewOf load) slots k seen)

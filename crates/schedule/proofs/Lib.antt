@@ -1,5 +1,6 @@
 -- The laws of the calls on slots: what the code keeps is what the definitions read off the slots.
 pub mod SeenLaws
+pub mod RightLaws
 pub mod StepLaws
 pub mod KeepLaws
 pub mod FoldLaws

@@ -9,7 +9,7 @@ use lib.Dec.{eqb, ltb}
 use lib.ListN.{length, drop, getD, length-take}
 use borrow.Author.Tests.{ltb-false, le-ltb, lt-leb, eqb-true, eq-eqb, not-false}
 use Rattle.counting.specs.Sums.{anyTo}
-use Rattle.counting.proofs.TestLaws.{and-left, and-right, and-both, or-left, or-right, anyTo-ext}
+use Rattle.counting.proofs.TestLaws.{and-left, and-right, and-both, anyTo-ext}
 use Rattle.counting.proofs.MemberLaws.{First, true-anyIn, anyIn-true}
 use Rattle.refusals.specs.declared.Refusal.the-variants.{
   NoSuchSlot,
@@ -21,14 +21,12 @@ use Rattle.refusals.specs.declared.Refusal.the-variants.{
 use Rattle.refusals.specs.declared.Checked.the-variants.{Good, Refused}
 use Rattle.refusals.specs.FirstMet.{firstMet, firstFaultTo}
 use Rattle.refusals.proofs.FirstMetLaws.{firstFaultTo-good}
-use Rattle.refusals.proofs.FirstFaultLaws.{firstMet-good}
 use Rattle.load.specs.declared.Load.{Load}
 use Rattle.load.specs.declared.Window.{Window}
 use Rattle.load.specs.Load.{lastMoment, rowAt, windowAt, noWindow, shown}
 use Rattle.load.specs.View.{View, viewOf}
 use Rattle.load.specs.Acceptable.{Acceptable, Placed}
 use Rattle.load.proofs.AcceptableLaws.{window-is}
-use Rattle.load.specs.Faults.{outside}
 use Rattle.rules.specs.declared.Slot.{Slot}
 use Rattle.rules.specs.Ready.{release}
 use Rattle.rules.specs.Slots.{noSlot, slotAt, rowOf, stepOf, slotEnd, isFor, slotFor}
@@ -37,35 +35,8 @@ use Rattle.rules.proofs.SlotLaws.{ofRow}
 use Rattle.rules.proofs.NextLaws.{Ranked, countTo-ranked}
 use Rattle.schedule.specs.declared.Seen.{Seen}
 use Rattle.schedule.specs.Seen.{startAt, started, releasedAt, endAt, lateWindow, stepTests, foundAt}
+use Rattle.schedule.proofs.RightLaws.{Right, tests-right}
 use Rattle.schedule.proofs.SeenLaws.{rest-ext, names-ext, anyIn-take, endBefore, testsAt, Kept}
-
--- a slot names a step, and the row's next one
-pub record Right (L : View) (slots : List Slot) (k : ℕ) (x : Slot) : Type 0 where
-  pub row-from : 1 ≤ x .row
-  pub row-to : x .row ≤ L .rows
-  pub step-from : 1 ≤ x .step
-  pub step-to : x .step ≤ L .steps (rowOf x)
-  pub next : x .step ≡ shown (ofRow slots (x .row) k)
-
--- a slot whose tests are not met is right
-pub tests-right : (L : View) (slots : List Slot) (k : ℕ) → testsAt L slots k ≡ Good
-    → Right L slots k (slotAt slots k)
-unfolding ruleTests
-tests-right L slots k e =
-    let x = slotAt slots k in
-    let t = firstMet-good (ruleTests L slots k x) e in
-    let last = L .steps (rowOf x) in
-    let rows = or-left (outside 1 (L .rows) (x .row)) (outside 1 last (x .step)) (t 0) in
-    let steps = or-right (outside 1 (L .rows) (x .row)) (outside 1 last (x .step)) (t 0) in
-    record {
-      row-from = ltb-false (x .row) 1 (or-left (ltb (x .row) 1) (ltb (L .rows) (x .row)) rows);
-      row-to = ltb-false (L .rows) (x .row) (or-right (ltb (x .row) 1) (ltb (L .rows) (x .row)) rows);
-      step-from = ltb-false (x .step) 1 (or-left (ltb (x .step) 1) (ltb last (x .step)) steps);
-      step-to = ltb-false last (x .step) (or-right (ltb (x .step) 1) (ltb last (x .step)) steps);
-      next =
-          eqb-true (x .step) (shown (ofRow slots (x .row) k))
-          (not-false (eqb (x .step) (shown (ofRow slots (x .row) k))) (t 1));
-    }
 
 module _ (load : Load) (ok : Acceptable (viewOf load)) (placed : Placed load) (slots : List Slot) (k : ℕ) (seen : Seen)
     (kept : Kept (viewOf load) slots k seen)

@@ -2,4 +2,5 @@
 pub mod ScheduleFile
 pub mod Calls
 pub mod Seen
+pub mod SeenFold
 pub mod Gathered

@@ -16,14 +16,12 @@ use Rattle.refusals.specs.declared.Refusal.the-variants.{
   RowLate,
 }
 use Rattle.refusals.specs.declared.Checked.{Checked}
-use Rattle.refusals.specs.declared.Checked.the-variants.{Good, Refused}
 use Rattle.refusals.specs.FirstMet.{andThen, firstMet}
 use Rattle.load.specs.declared.Load.{Load}
 use Rattle.load.specs.declared.Row.{Row}
 use Rattle.load.specs.Load.{lastMoment, mostRows, shown, rowAt, stepAt, windowAt}
 use Rattle.load.specs.View.{viewOf, stepsInAll}
 use Rattle.load.specs.Check.{checkLoad}
-use Rattle.rules.specs.declared.Slot.{Slot}
 use Rattle.schedule.specs.declared.Seen.{Seen}
 
 -- 12: as many slots as steps
@@ -92,44 +90,3 @@ slotTests load seen row step start =
 -- the first of them that is met
 abbrev pub foundAt : Load → Seen → ℕ → ℕ → ℕ → Checked
 foundAt load seen row step start = firstMet (slotTests load seen row step start)
-
--- a slot that is right is kept
-abbrev pub advanced : Load → Seen → ℕ → ℕ → ℕ → Seen
-advanced load seen row step start =
-    record {
-      found = Good;
-      end = endAt (rowAt load (row - 1)) step start;
-      next = set (seen .next) (row - 1) step;
-      starts = withStart (seen .starts) ((row - 1) * 8 + (step - 1)) start;
-    }
-
--- what was found is kept
-abbrev pub withFound : Seen → Checked → Seen
-withFound seen found =
-    record { found = found; end = seen .end; next = seen .next; starts = seen .starts }
-
--- by a finding: the first where something is refused, the second where nothing is
-abbrev pub byFinding : Checked → Seen → Seen → Seen
-byFinding Good stays goes = goes
-byFinding (Refused refusal) stays goes = stays
-
--- a slot's numbers, where nothing was refused yet
-abbrev pub nextSlot : Load → Seen → ℕ → ℕ → ℕ → Seen
-nextSlot load seen row step start =
-    byFinding (foundAt load seen row step start)
-    (withFound seen (foundAt load seen row step start))
-    (advanced load seen row step start)
-
--- a slot's numbers: the first refusal stays
-unfoldable pub stepSlot : Load → Seen → ℕ → ℕ → ℕ → Seen
-stepSlot load seen row step start =
-    byFinding (seen .found) seen (nextSlot load seen row step start)
-
--- a slot
-abbrev pub seenOf : Load → Seen → Slot → Seen
-seenOf load seen slot = stepSlot load seen (slot .row) (slot .step) (slot .start)
-
--- a list of slots
-unfoldable pub foldSlots : Load → List Slot → Seen → Seen
-foldSlots load [] seen = seen
-foldSlots load (slot ∷ rest) seen = foldSlots load rest (seenOf load seen slot)

@@ -7,10 +7,11 @@ use load::check_load;
 use refusals::Checked;
 use refusals::Refusal;
 ghost use mathlib.Core.Path.{_≡_};
-ghost use Prim.Native.Nat.{_≤_, min};
+ghost use Prim.Native.Nat.{_-_, _≤_, min};
 ghost use Rattle.load.specs.Load.{rowAt};
 ghost use Rattle.load.specs.View.{viewOf, stepsInAll};
 ghost use Rattle.schedule.specs.Seen.{begun, counted};
+ghost use Rattle.schedule.specs.SeenFold.{withFound};
 ghost use Rattle.schedule.specs.Calls.{places};
 
 // Gives the number of steps of the row at a place, and past the last place 0.
@@ -86,4 +87,25 @@ pub fn at_most_places(n: usize) -> usize
     ensures { λ r. ⌜ r ≡ min n places ⌝ }
 {
     if n < PLACES { n } else { PLACES }
+}
+
+// Gives the place of what is counted from 1, and 0 for 0.
+pub fn place_of(n: u8) -> usize
+    ensures { λ r. ⌜ (r ≡ n - 1) × (r ≤ 254) ⌝ }
+{
+    if 0 < n { n as usize - 1 } else { 0 }
+}
+
+// Keeps what was found.
+pub fn with_found(seen: Seen, found: Checked) -> Seen
+    ensures { λ r. ⌜ r ≡ withFound seen found ⌝ }
+{
+    let next = seen.next;
+    let starts = seen.starts;
+    Seen {
+        found: found,
+        end: seen.end,
+        next: next,
+        starts: starts,
+    }
 }

@@ -1,5 +1,7 @@
 // The tests 13 to 17 of one slot, on plain numbers.
 use crate::Seen;
+use crate::before::place_of;
+use crate::before::with_found;
 use load::Load;
 use load::MOST_ROWS;
 use load::Row;
@@ -12,21 +14,12 @@ use refusals::Refusal;
 ghost use mathlib.Core.Path.{_≡_};
 ghost use mathlib.Core.Bool.{_&&_};
 ghost use lib.Dec.{eqb, ltb};
-ghost use Prim.Native.Nat.{_-_, _≤_, _<_};
+ghost use Prim.Native.Nat.{_≤_, _<_};
 ghost use Rattle.counting.specs.Sums.{anyTo};
 ghost use Rattle.refusals.specs.FirstMet.{firstMet};
-ghost use Rattle.schedule.specs.Seen.{
-  startAt,
-  releasedAt,
-  endAt,
-  lateWindow,
-  stepTests,
-  foundAt,
-  advanced,
-  withFound,
-  nextSlot,
-  stepSlot,
-};
+ghost use Rattle.schedule.specs.Seen.{startAt, releasedAt, endAt, lateWindow};
+ghost use Rattle.schedule.specs.Seen.{stepTests, foundAt};
+ghost use Rattle.schedule.specs.SeenFold.{advanced, nextSlot, stepSlot};
 
 // Gives the start at a place of the table, and past the last place 0.
 fn start_of(starts: [u32; 192], place: usize) -> u64
@@ -38,13 +31,6 @@ fn start_of(starts: [u32; 192], place: usize) -> u64
     } else {
         0
     }
-}
-
-// Gives the place of what is counted from 1, and 0 for 0.
-fn place_of(n: u8) -> usize
-    ensures { λ r. ⌜ (r ≡ n - 1) × (r ≤ 254) ⌝ }
-{
-    if 0 < n { n as usize - 1 } else { 0 }
 }
 
 // Gives the moment from which a step, counted from 1, of the row at place i may start.
@@ -177,20 +163,6 @@ fn keep_slot(load: Load, seen: Seen, row: u8, step: u8, start: u32) -> Seen
     Seen {
         found: Checked::Good,
         end: end,
-        next: next,
-        starts: starts,
-    }
-}
-
-// Keeps what was found.
-fn with_found(seen: Seen, found: Checked) -> Seen
-    ensures { λ r. ⌜ r ≡ withFound seen found ⌝ }
-{
-    let next = seen.next;
-    let starts = seen.starts;
-    Seen {
-        found: found,
-        end: seen.end,
         next: next,
         starts: starts,
     }

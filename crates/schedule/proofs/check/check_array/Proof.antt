@@ -11,7 +11,8 @@ use Rattle.rules.specs.declared.Slot.{Slot}
 use Rattle.rules.specs.Slots.{noSlot}
 use Rattle.rules.specs.Check.{checkSchedule}
 use Rattle.schedule.specs.declared.Seen.{Seen}
-use Rattle.schedule.specs.Seen.{begun, seenOf, foldSlots}
+use Rattle.schedule.specs.Seen.{begun}
+use Rattle.schedule.specs.SeenFold.{seenOf, foldSlots}
 use Rattle.schedule.proofs.FoldLaws.{foldSlots-next, foldSlots-end}
 use Rattle.schedule.proofs.CheckFold.{fold-checks}
 use Rattle.schedule.proofs.check.check_array.Statement.{statement}
