@@ -79,10 +79,12 @@ gathered-bytes slots l =
     let sized : length file ≡ 4 + 8 * n =
     omega (arith, length-append (headBytes n) (joinIn slotRecord slots), head-length n, joinIn-length slots) in
     let whole : gathered slots (headed n) ≡ front file =
-    ap (gathered slots) (ap (λ at. record { at = at; bytes = sets (replicate 1540 0) 0 (headBytes n) }) (sym (head-length n)))
+    ap (gathered slots)
+    (ap (λ at. record { at = at; bytes = sets (replicate 1540 0) 0 (headBytes n) }) (sym (head-length n)))
     ∙ front-all slots (headBytes n) (omega (arith, head-length n)) in
     ap (λ (g : Gathered). take (4 + 8 * n) (g .bytes)) whole
-    ∙ (ap (take (4 + 8 * n)) (sets-front (replicate 1540 0) file (omega (arith, sized, length-replicate {A = ℕ} 1540 0)))
+    ∙ (ap (take (4 + 8 * n))
+    (sets-front (replicate 1540 0) file (omega (arith, sized, length-replicate {A = ℕ} 1540 0)))
     ∙ (take-at file (drop (length file) (replicate 1540 0)) (4 + 8 * n) sized
     ∙ ap (λ m. (0x53 ∷ 0x43 ∷ littleEndian 2 m) ++ joinIn slotRecord slots) small))
 

@@ -100,7 +100,8 @@ module _ (load : Load) (ok : Acceptable (viewOf load)) (placed : Placed load) (s
           let there : rowOf y < viewOf load .rows = omega (arith, its .row-from, its .row-to) in
           let few : y .step ≤ 8 = omega (arith, its .step-to, ok .steps-most (rowOf y) there) in
           let differ : rowOf y * 8 + stepOf y ≡ place → ⊥ =
-          λ e. (let row : y .row ≡ x .row = omega (arith, its .row-from, mine .row-from, its .step-from, mine .step-from, few, step-few) in
+          λ e. (let row : y .row ≡ x .row =
+          omega (arith, its .row-from, mine .row-from, its .step-from, mine .step-from, few, step-few) in
           let step : y .step ≡ x .step = omega (arith, its .step-from, mine .step-from, few, step-few) in
           omega (
             arith,
@@ -116,7 +117,8 @@ module _ (load : Load) (ok : Acceptable (viewOf load)) (placed : Placed load) (s
               ≡ slotAt slots h .start
           other differ =
               ap (λ s. cond (ltb (rowOf (slotAt slots h) * 8 + stepOf (slotAt slots h)) 192) s 0)
-              (getD-set-other (seen .starts) place (rowOf (slotAt slots h) * 8 + stepOf (slotAt slots h)) (x .start) 0 differ)
+              (getD-set-other (seen .starts) place (rowOf (slotAt slots h) * 8 + stepOf (slotAt slots h)) (x .start) 0
+              differ)
               ∙ kept .starts h q
 
   pub advanced-kept : Kept (viewOf load) slots (suc k) (advanced load seen (x .row) (x .step) (x .start))

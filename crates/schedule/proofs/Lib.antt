@@ -7,4 +7,5 @@ pub mod FoldLaws
 pub mod CheckFold
 pub mod GatheredLaws
 pub mod CheckExactly
+pub mod SlotCalls
 pub mod CallLaws

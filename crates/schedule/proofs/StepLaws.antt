@@ -95,16 +95,19 @@ module _ (load : Load) (ok : Acceptable (viewOf load)) (placed : Placed load) (s
           ]
 
       row : slotAt slots (f .place) .row ≡ shown i
-      row = eqb-true (slotAt slots (f .place) .row) (shown i) (and-left (eqb (slotAt slots (f .place) .row) (shown i)) (eqb (slotAt slots (f .place) .step) (shown j))
+      row =
+          eqb-true (slotAt slots (f .place) .row) (shown i)
+          (and-left (eqb (slotAt slots (f .place) .row) (shown i)) (eqb (slotAt slots (f .place) .step) (shown j))
           (f .has))
 
       step : slotAt slots (f .place) .step ≡ shown j
-      step = eqb-true (slotAt slots (f .place) .step) (shown j) (and-right (eqb (slotAt slots (f .place) .row) (shown i)) (eqb (slotAt slots (f .place) .step) (shown j))
+      step =
+          eqb-true (slotAt slots (f .place) .step) (shown j)
+          (and-right (eqb (slotAt slots (f .place) .row) (shown i)) (eqb (slotAt slots (f .place) .step) (shown j))
           (f .has))
 
       place : i * 8 + j ≡ rowOf (slotAt slots (f .place)) * 8 + stepOf (slotAt slots (f .place))
       place = omega (arith, row, step)
-
 
   module _ (below : k < length slots) where
     abbrev x : Slot

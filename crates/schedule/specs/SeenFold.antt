@@ -1,5 +1,6 @@
--- What the code of the check does with each slot, one after the other. Nothing here is to be believed:
--- check_schedule's own contract cites checkSchedule, which keeps no state. To be read after Seen.
+-- What the code of the check does with each slot, one after the other. Nothing here is to be
+-- believed: check_schedule's own contract cites checkSchedule, which keeps no state. To be read
+-- after Seen.
 use Prim.Native.Nat.{ℕ, _+_, _-_, _*_}
 use mathlib.Core.List.{List, [], _∷_}
 use lib.ListN.{set}

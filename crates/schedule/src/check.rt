@@ -1,12 +1,12 @@
 // The check of a schedule against its load. The slots are lent as a slice of slot records, the form
-// that the scope asks for by name; a function over it is proved by a walk by hand, so there are two:
-// one that takes a slot apart, and one loop.
+// that the scope asks for by name; a function over it is proved by a walk by hand, so there are
+// two: one that takes a slot apart, and one loop.
 use crate::PLACES;
 use crate::Seen;
-use crate::found::check_slot;
 use crate::before::at_most_places;
 use crate::before::begin;
 use crate::before::finish;
+use crate::found::check_slot;
 use load::Load;
 use refusals::Checked;
 use rules::Slot;

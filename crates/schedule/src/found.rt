@@ -26,11 +26,7 @@ fn start_of(starts: [u32; 192], place: usize) -> u64
     ensures { λ r. ⌜ r ≡ startAt starts place ⌝ }
     ensures { λ r. ⌜ r ≤ 4294967295 ⌝ }
 {
-    if place < 192 {
-        starts[place] as u64
-    } else {
-        0
-    }
+    if place < 192 { starts[place] as u64 } else { 0 }
 }
 
 // Gives the moment from which a step, counted from 1, of the row at place i may start.

@@ -5,10 +5,9 @@ mod check;
 mod found;
 mod write;
 
-use refusals::Checked;
-
 pub use check::check_array;
 pub use check::check_schedule;
+use refusals::Checked;
 pub use write::write_array;
 pub use write::write_schedule;
 

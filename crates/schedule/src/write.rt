@@ -1,6 +1,6 @@
 // The writing of a schedule file. The slots are lent as a slice of slot records, their numbers
-// unchecked; a function over it is proved by a walk by hand, so there are two: one that takes a slot
-// apart, and one loop. The file is gathered by value, and written where it fits.
+// unchecked; a function over it is proved by a walk by hand, so there are two: one that takes a
+// slot apart, and one loop. The file is gathered by value, and written where it fits.
 use crate::Gathered;
 use crate::PLACES;
 use crate::before::at_most_places;
@@ -27,7 +27,7 @@ ghost use Rattle.schedule.specs.Calls.{WriteSchedule, WriteArray};
 pub const MOST_SLOTS: usize = 192;
 
 // Begins a file of n slots with its head.
-fn head(n: usize) -> Gathered
+pub fn head(n: usize) -> Gathered
     ensures { λ r. ⌜ r ≡ headed n ⌝ }
 {
     let count = bytes16((n % 65536) as u16);
@@ -51,7 +51,16 @@ fn with_slot(file: Gathered, row: u8, step: u8, start: u32) -> Gathered
         return file;
     }
     let number = bytes32(start);
-    let record = [0x53, 0x4C, row, step, number[0], number[1], number[2], number[3]];
+    let record = [
+        0x53,
+        0x4C,
+        row,
+        step,
+        number[0],
+        number[1],
+        number[2],
+        number[3],
+    ];
     let mut bytes = file.bytes;
     overwrite(&mut bytes, at, &record);
     Gathered {
@@ -62,8 +71,9 @@ fn with_slot(file: Gathered, row: u8, step: u8, start: u32) -> Gathered
 
 // Writes the file of n slots; refuses with 3 for more than 192, then 9. A refusal alters no byte,
 // and bytes past the file stay.
-fn flush(n: usize, file: Gathered, out: &mut [u8]) -> Checked
-    ensures { λ r. ⌜ Given (firstMet ((ltb mostSlots n, OutOfRange) ∷ [])) (take (4 + 8 * n) (file .bytes)) (now (out .entry)) r (now (out .exit)) ⌝ }
+pub fn flush(n: usize, file: Gathered, out: &mut [u8]) -> Checked
+    ensures { λ r. ⌜ Given (firstMet ((ltb mostSlots n, OutOfRange) ∷ []))
+        (take (4 + 8 * n) (file .bytes)) (now (out .entry)) r (now (out .exit)) ⌝ }
 {
     if MOST_SLOTS < n {
         return Checked::Refused(Refusal::OutOfRange);

@@ -10,9 +10,11 @@ use Rattle.schedule.proofs.before.steps_of.Tie as tie
 
 past : tie.Need-returns-2
 past c =
-    let h : length (c .before .args .t1 .row) ≡ 24 = simp length-map at (c .before .good .0 .1 .1 .1 .0 .1 .0 .1) in
-    (sym (ap (λ (row : Row). row .steps) (List·getD-eq-default (c .before .args .t1 .row) noRow (omega arith))),
-    search needs)
+    let h : length (c .before .args .t1 .row) ≡ 24 = simp length-map at (c .before .good .0 .1 .1 .1 .0 .1 .0 .1) in (
+      sym (ap (λ (row : Row). row .steps) (List·getD-eq-default (c .before .args .t1 .row) noRow (omega arith))),
+      search needs,
+    )
 
 pub steps-of-spec : {M : Type 1} → statement M
-steps-of-spec = tie.close (tie.spec (λ c. search needs) (λ c. search needs) (λ c. search needs) (λ c. search needs) past)
+steps-of-spec =
+    tie.close (tie.spec (λ c. search needs) (λ c. search needs) (λ c. search needs) (λ c. search needs) past)

@@ -2,7 +2,6 @@
 use Prim.Native.Nat.{ℕ, min, _-_, _≤_, _<_}
 use mathlib.Core.List.{List}
 use mathlib.Core.Path.{_≡_, ap, sym, _∙_}
-use native.Mathlib.Numerals.{add-one}
 use native.Mathlib.Omega.{arith}
 use lib.ListN.{length, take, drop, getD, length-take}
 use lib.Seq.{getD-take}
@@ -13,7 +12,7 @@ use Rattle.rules.specs.Check.{checkSchedule}
 use Rattle.schedule.specs.declared.Seen.{Seen}
 use Rattle.schedule.specs.Seen.{begun}
 use Rattle.schedule.specs.SeenFold.{seenOf, foldSlots}
-use Rattle.schedule.proofs.FoldLaws.{foldSlots-next, foldSlots-end}
+use Rattle.schedule.proofs.FoldLaws.{foldSlots-turn, foldSlots-end}
 use Rattle.schedule.proofs.CheckFold.{fold-checks}
 use Rattle.schedule.proofs.check.check_array.Statement.{statement}
 use Rattle.schedule.proofs.check.check_array.Tie as tie
@@ -52,7 +51,7 @@ loop-again c =
     ∙ ap (seenOf (start .args .load) (here .seen))
     (sym (getD-take (counted .result) (start .args .t2) (here .k) noSlot below)) in (
       search needs,
-      rw (add-one (here .k), same) (sym (foldSlots-next (start .args .load) slots (here .k) (here .seen) inside) ∙ here .inv .1),
+      foldSlots-turn (start .args .load) slots (here .k) (here .seen) _ inside same ∙ here .inv .1,
     )
 
 returns : tie.Need-returns Inv-loop μ-loop

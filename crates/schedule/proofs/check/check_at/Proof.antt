@@ -64,8 +64,13 @@ use Rattle.schedule.proofs.check.check_at.Statement as stated
 use Rattle.schedule.proofs.check.check_at.Code as code
 
 abbrev stayed : Stays (self.ended .signature .params) (self.ended .kept)
-stayed = (stay-none (λ _. D.the-row) yes, (stay-none-slice (0 ∷ []) tt (plain (λ _. T.the-row)) yes, (stay-none (λ _.
-    usize) yes, (stay-none (λ _. S.the-row) yes, tt))))
+stayed = (
+  stay-none (λ _. D.the-row) yes,
+  (
+    stay-none-slice (0 ∷ []) tt (plain (λ _. T.the-row)) yes,
+    (stay-none (λ _. usize) yes, (stay-none (λ _. S.the-row) yes, tt)),
+  ),
+)
 
 -- the machine values of a slot, a load and a state
 abbrev slotVals : Slot → List Val
@@ -103,8 +108,8 @@ module _ {M : Type 1} (𝓤 : URA M) (H : Heap 𝓤) (A : Atoms 𝓤) (W : Given
   at = (loadVals ld, (slice-vals x, (vint w64 i ∷ [], (seenVals st, tt))))
 
   abbrev Post : Val → SProp 𝓤
-  Post = walkOf 𝓤 H A self.ended stayed (self.clauses 𝓤 H A mem run) .post (((κ, tt), (q, tt), tt, (ld, (x, (i, (st,
-      tt)))), at), tt)
+  Post = walkOf 𝓤 H A self.ended stayed (self.clauses 𝓤 H A mem run) .post
+      (((κ, tt), (q, tt), tt, (ld, (x, (i, (st, tt)))), at), tt)
 
   abbrev Own : Fml
   Own = ShrSlice (named 0) κ T.the-row .own x (slice-vals x)
@@ -113,9 +118,12 @@ module _ {M : Type 1} (𝓤 : URA M) (H : Heap 𝓤) (A : Atoms 𝓤) (W : Given
   abbrev args : Load × (Seen × (ℕ × (ℕ × (ℕ × Unit {0}))))
   args = (ld, (st, (slot .row, (slot .step, (slot .start, tt)))))
 
+  abbrev numbers : List Val × (List Val × (List Val × Unit {0}))
+  numbers = (vint w8 (slot .row) ∷ [], (vint w8 (slot .step) ∷ [], (vint w32 (slot .start) ∷ [], tt)))
+
   abbrev to : Callee 𝓤 H A mem run .Ghost
-  to = ((tt, tt, tt, args, (loadVals ld, (seenVals st, (vint w8 (slot .row) ∷ [], (vint w8 (slot .step) ∷ [], (vint w32
-      (slot .start) ∷ [], tt)))))), tt)
+  to =
+      ((tt, tt, tt, args, (loadVals ld, (seenVals st, numbers))), tt)
 
   goes : slot .row < 2 ^ 8 → slot .step < 2 ^ 8 → slot .start < 2 ^ 32 → ent 𝓤 (emp 𝓤) (Callee 𝓤 H A mem run .pre to)
   goes g₀ g₁ g₂ =
@@ -133,11 +141,11 @@ module _ {M : Type 1} (𝓤 : URA M) (H : Heap 𝓤) (A : Atoms 𝓤) (W : Given
       (Post u)
   exits r u e =
       qed W (‵ (S.the-row .own r (u ∷ [])) ∷ ‵ (flft κ q) ∷ ‵ Own ∷ []) ∵ suffices ! _ (ends-at 𝓤 H A self.ended stayed
-      (self.clauses 𝓤 H A mem run) W (((κ, tt), (q, tt), tt, (ld, (x, (i, (st, tt)))), at), tt) u r (tt, (tt, (tt, (tt,
-      tt)))) (tt, (tt, (tt, (tt, tt))))) $ says ! e $ nothing ! $ move ! (2 ∷ 0 ∷ []) $ join ! $ frame ! $ nothing ! $
-      owned ! S.the-row (Is S.the-row) (LL.makes S.the-type S′.the-plain 𝓤 H A) st _ isS $ fjoin ! $ owned ! usize (Is
-      usize) (uint-makes 𝓤 H A W w64) i _ (refl, gi) $ fjoin ! $ move ! (2 ∷ 0 ∷ []) $ fjoin ! $ owned ! D.the-row (Is
-      D.the-row) (LL.makes D.the-type D′.the-plain 𝓤 H A) ld _ isD $ fjoin ! $ frame ! $ done !
+      (self.clauses 𝓤 H A mem run) W (((κ, tt), (q, tt), tt, (ld, (x, (i, (st, tt)))), at), tt) u r
+      (tt, (tt, (tt, (tt, tt)))) (tt, (tt, (tt, (tt, tt))))) $ says ! e $ nothing ! $ move ! (2 ∷ 0 ∷ []) $ join ! $
+      frame ! $ nothing ! $ owned ! S.the-row (Is S.the-row) (LL.makes S.the-type S′.the-plain 𝓤 H A) st _ isS $ fjoin !
+      $ owned ! usize (Is usize) (uint-makes 𝓤 H A W w64) i _ (refl, gi) $ fjoin ! $ move ! (2 ∷ 0 ∷ []) $ fjoin ! $
+      owned ! D.the-row (Is D.the-row) (LL.makes D.the-type D′.the-plain 𝓤 H A) ld _ isD $ fjoin ! $ frame ! $ done !
 
   module _ (C : Calls 𝓤 H) (Λ : Loops 𝓤 H) (fm : FmC 𝓤 H (W .laws) C) (known : Triple 𝓤 (C #schedule·check-slot) (Callee
       𝓤 H A mem run)) where
@@ -154,20 +162,17 @@ module _ {M : Type 1} (𝓤 : URA M) (H : Heap 𝓤) (A : Atoms 𝓤) (W : Given
         refl (shr-slice-lawful 𝓤 H A W (named 0) κ T.the-row .typed x (slice-vals x) isX .0)) $ pass1 ! (init ! 10 refl
         (tt, record { fits = gi })) $ pass1 ! (init ! 8 refl (LL.lawful S.the-type S′.the-laws 𝓤 H A W .typed st
         (seenVals st) isS .0)) $ pass0 ! $
-        -- [_8; …; _7; …; _6; …; _5; …; _4; …; _3; …; _2; …; _1; …; _0; …; what the slice owns; the token]
-        assigns ! (bin ! (load ! (from ! (stop !)) (look ! 10 refl)) (lit ! tt) (record { fits = place-fits i (length
-        ys) l (isX .0 .1 .1) })) (from ! (stop !)) (init ! 4 refl (tt, record { fits = place-fits i (length ys) l (isX
-        .0 .1 .1) })) $ assigns ! (bin ! (load ! (from ! (fld ! refl (stop !))) (look-in ! 12 (sub ! 0 refl (whole !))))
-        (load ! (from ! (stop !)) (look ! 4 refl)) tt) (from ! (stop !)) (init ! 2 refl (tt, tt)) $ rewrite ! 2 (λ (p :
-        ℕ). ‵ (fat fullShare tyPtr l₇ 0 (vptr (x .ptr .0) p))) (sym (place-is 8 (x .ptr .1) i)) refl $
-        -- a copy of what the slice owns is looked into, and slot i is copied out
+        assigns ! (bin ! (load ! (from ! (stop !)) (look ! 10 refl)) (lit ! tt) (record
+        { fits = place-fits i (length ys) l (isX .0 .1 .1) })) (from ! (stop !)) (init ! 4 refl
+        (tt, record { fits = place-fits i (length ys) l (isX .0 .1 .1) })) $ assigns ! (bin ! (load ! (from ! (fld !
+        refl (stop !))) (look-in ! 12 (sub ! 0 refl (whole !)))) (load ! (from ! (stop !)) (look ! 4 refl)) tt) (from !
+        (stop !)) (init ! 2 refl (tt, tt)) $ rewrite ! 2 (λ (p : ℕ). ‵ (fat fullShare tyPtr l₇ 0 (vptr (x .ptr .0) p)))
+        (sym (place-is 8 (x .ptr .1) i)) refl $
         move ! (18 ∷ []) $ use1 W (‵ Own ⊛ ‵ Own) (shr-slice-copy 𝓤 H A W (named 0) κ T.the-row .twice x (slice-vals x))
         $ split ! $ fsplit ! $ drop ! $ fsplit ! $ drop ! $ move ! (0 ∷ 20 ∷ []) $ looks-slice ! tt T.the-row (Is
         T.the-row) (shows 𝓤 H A T.the-row) slotVals (LL.tells T.the-type T′.the-laws) (LL.copy T.the-type T′.the-copy 𝓤
         H A W) ys (x .ptr .0) (x .ptr .1) (λ q′. elem-out ! T.the-row (Is T.the-row) (shows 𝓤 H A T.the-row) slotVals
         (LL.tells T.the-type T′.the-laws) q′ ys i noSlot (x .ptr .0) (x .ptr .1) l (λ g.
-        -- [slots[i]; what it owns; the others; what shuts; the fractured borrow; what the slice owns; _8; …; _7; …; _6;
-        -- …; _5; …; _4; …; _3; …; _2; …; _1; …; _0; …]
         assigns ! (of-opd ! (load ! (from ! (hop ! (look ! 8 refl) (stop !))) (look-raw ! 0 refl))) (from ! (stop !))
         (init ! 6 refl (LL.lawful T.the-type T′.the-laws 𝓤 H A W .typed slot (slotVals slot) g .0)) $ assigns ! (of-opd
         ! (load ! (from ! (stop !)) (look ! 6 refl))) (from ! (stop !)) (init ! 12 refl (LL.lawful T.the-type
@@ -175,8 +180,6 @@ module _ {M : Type 1} (𝓤 : URA M) (H : Heap 𝓤) (A : Atoms 𝓤) (W : Given
         .ptr .0) (x .ptr .1) l $ shuts-slice ! tt T.the-row q′ ys (x .ptr .0) (x .ptr .1) $ move ! (1 ∷ []) $ drop ! $
         use0 W (raw (Callee 𝓤 H A mem run .pre to)) (goes (LL.owed T.the-type T′.the-laws slot _ g .0 .1) (LL.owed
         T.the-type T′.the-laws slot _ g .1 .0 .1) (LL.owed T.the-type T′.the-laws slot _ g .1 .1 .0 .1)) $
-        -- [what is asked; the token; what the slice owns; _8; …; _7; …; _6; …; _5; …; _4; …; _3; …; _2; …; _1; …; _0;
-        -- …]
         calls-at ! fm (Callee 𝓤 H A mem run) known to (and-then ! (load ! (from ! (stop !)) (look ! 17 refl)) (and-then
         ! (load ! (from ! (stop !)) (look ! 11 refl)) (and-then ! (load ! (from ! (fld ! refl (stop !))) (look-in ! 9
         (sub ! 0 refl (whole !)))) (and-then ! (load ! (from ! (fld ! refl (stop !))) (look-in ! 9 (sub ! 1 refl (whole
@@ -197,19 +200,28 @@ module _ {M : Type 1} (𝓤 : URA M) (H : Heap 𝓤) (A : Atoms 𝓤) (W : Given
   check-at-walks : (C : Calls 𝓤 H) (Λ : Loops 𝓤 H) → FmC 𝓤 H (W .laws) C → Triple 𝓤 (C #schedule·check-slot) (Callee 𝓤 H
       A mem run) → Walks 𝓤 H A self.ended stayed (WpFn 𝓤 H C Λ code.function) (self.clauses 𝓤 H A mem run)
   check-at-walks C Λ fm known = walked 𝓤 H A self.ended stayed (self.clauses 𝓤 H A mem run) (WpFn 𝓤 H C Λ code.function)
-      (λ κs. (loadVals, (slice-vals, (uint-vals w64, (seenVals, tt))))) (λ κs. (LL.tells D.the-type D′.the-laws,
-      (shr-slice-tells (named 0) (κs .0) T.the-row, (uint-tells w64, (LL.tells S.the-type S′.the-laws, tt))))) (λ κs qs
-      bounds a g are. needs 𝓤 _ _ (walk 𝓤 H A W mem run (κs .0) (qs .0) (a .0) (a .1 .0) (a .1 .1 .0) (a .1 .1 .1 .0)
-      (are .0) (are .1 .0) (are .1 .1 .0 .1) (are .1 .1 .1 .0) C Λ fm known))
+      (λ κs. (loadVals, (slice-vals, (uint-vals w64, (seenVals, tt))))) (λ κs. (
+        LL.tells D.the-type D′.the-laws,
+        (shr-slice-tells (named 0) (κs .0) T.the-row, (uint-tells w64, (LL.tells S.the-type S′.the-laws, tt))),
+      ))
+      (λ κs qs bounds a g are. needs 𝓤 _ _ (walk 𝓤 H A W mem run (κs .0) (qs .0) (a .0) (a .1 .0) (a .1 .1 .0) (a .1 .1
+      .1 .0) (are .0) (are .1 .0) (are .1 .1 .0 .1) (are .1 .1 .1 .0) C Λ fm known))
 
 check-at-meets : {M : Type 1} (𝓤 : URA M) (H : Heap 𝓤) (A : Atoms 𝓤) (W : Given 𝓤 H A) (mem : Memory → SProp 𝓤) (run :
     Routine → Fun 𝓤) (𝓣 : Tables 𝓤 H) → Triple 𝓤 (𝓣 .C #schedule·check-slot) (Callee 𝓤 H A mem run) → Meets 𝓤 H A
     self.signature (WpFn 𝓤 H (𝓣 .C) (𝓣 .Λ) code.function) (self.spec 𝓤 H A mem run)
-check-at-meets 𝓤 H A W mem run 𝓣 known = walk-meets 𝓤 H A self.ended stayed W (goes-none 𝓤 H A W 1 (λ _. D.the-row) yes
-    (λ κs x f. refl), (goes-none-slice 𝓤 H A W 1 (0 ∷ []) tt (plain (λ _. T.the-row)) yes, (goes-none 𝓤 H A W 1 (λ _.
-    usize) yes (λ κs x f. refl), (goes-none 𝓤 H A W 1 (λ _. S.the-row) yes (λ κs x f. refl), tt)))) (self.clauses 𝓤 H A
-    mem run) (WpFn 𝓤 H (𝓣 .C) (𝓣 .Λ) code.function) (WpFn-mono 𝓤 H (W .laws) 𝓣 code.function) (check-at-walks 𝓤 H A W
-    mem run (𝓣 .C) (𝓣 .Λ) (fmOf 𝓤 H (W .laws) 𝓣) known)
+check-at-meets 𝓤 H A W mem run 𝓣 known = walk-meets 𝓤 H A self.ended stayed W (
+  goes-none 𝓤 H A W 1 (λ _. D.the-row) yes (λ κs x f. refl),
+  (
+    goes-none-slice 𝓤 H A W 1 (0 ∷ []) tt (plain (λ _. T.the-row)) yes,
+    (
+      goes-none 𝓤 H A W 1 (λ _. usize) yes (λ κs x f. refl),
+      (goes-none 𝓤 H A W 1 (λ _. S.the-row) yes (λ κs x f. refl), tt),
+    ),
+  ),
+)
+    (self.clauses 𝓤 H A mem run) (WpFn 𝓤 H (𝓣 .C) (𝓣 .Λ) code.function) (WpFn-mono 𝓤 H (W .laws) 𝓣 code.function)
+    (check-at-walks 𝓤 H A W mem run (𝓣 .C) (𝓣 .Λ) (fmOf 𝓤 H (W .laws) 𝓣) known)
 
 pub check-at-spec : {M : Type 1} → stated.statement M
 unfolding code.routine tablesOf

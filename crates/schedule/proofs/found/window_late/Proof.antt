@@ -41,7 +41,8 @@ none c =
     let args = c .before .before .before .args in
     let e : c .before .loop .k ≡ args .row .windows = omega arith in
     sym
-    (ap (anyTo (lateWindow (args .row) (args .seen) (args .i) (args .step) (args .end))) (sym e) ∙ c .before .loop .inv .1)
+    (ap (anyTo (lateWindow (args .row) (args .seen) (args .i) (args .step) (args .end))) (sym e)
+    ∙ c .before .loop .inv .1)
 
 pub window-late-spec : {M : Type 1} → statement M
 window-late-spec =

@@ -17,7 +17,8 @@ many c = record { finding-is = rw (lt-ltb _ _ (c .if1 .taken)); output-is = refl
 room : (c : tie.Start) → length (c .args .file .bytes) ≡ 1540
 room c = simp length-map at (c .good .1 .0 .1 .1 .1 .0 .1 .0 .1)
 
-sized : (c : tie.Else1) → let args = c .before .before .args in length (take (4 + 8 * args .n) (args .file .bytes)) ≡ 4 + 8 * args .n
+sized : (c : tie.Else1)
+    → let args = c .before .before .args in length (take (4 + 8 * args .n) (args .file .bytes)) ≡ 4 + 8 * args .n
 sized c = length-take-le _ _ (omega (arith, room (c .before .before)))
 
 short : tie.Need-returns-2

@@ -2,7 +2,6 @@
 use Prim.Native.Nat.{ℕ, min, _+_, _*_, _-_, _≤_, _<_}
 use mathlib.Core.List.{List, [], _∷_}
 use mathlib.Core.Path.{_≡_, ap, sym, _∙_, subst}
-use native.Mathlib.Numerals.{add-one}
 use native.Mathlib.Omega.{arith}
 use lib.Dec.{ltb}
 use lib.ListN.{length, take, drop, getD, length-take}
@@ -18,7 +17,7 @@ use Rattle.schedule.specs.declared.Gathered.{Gathered}
 use Rattle.schedule.specs.ScheduleFile.{mostSlots}
 use Rattle.schedule.specs.Gathered.{headed, gatheredOf, gathered}
 use Rattle.schedule.specs.Calls.{WriteSchedule}
-use Rattle.schedule.proofs.FoldLaws.{gathered-next, gathered-end}
+use Rattle.schedule.proofs.FoldLaws.{gathered-turn, gathered-end}
 use Rattle.schedule.proofs.GatheredLaws.{gathered-given}
 use Rattle.schedule.proofs.write.write_array.Statement.{statement}
 use Rattle.schedule.proofs.write.write_array.Tie as tie
@@ -71,7 +70,7 @@ loop-again c =
     c .with-slot .ensures
     ∙ ap (gatheredOf (here .file)) (sym (getD-take (counted .result) (start .args .t1) (here .k) noSlot below)) in (
       search needs,
-      rw (add-one (here .k), same) (sym (gathered-next slots (here .k) (here .file) inside) ∙ here .inv .1),
+      gathered-turn slots (here .k) (here .file) _ inside same ∙ here .inv .1,
     )
 
 returns : tie.Need-returns Inv-loop μ-loop
