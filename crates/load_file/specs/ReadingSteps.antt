@@ -1,5 +1,5 @@
--- What the parts of the reading call give: definitions that only its code cites. To be read after
--- Reading.
+-- What the parts of the reading call give: definitions that its private functions cite, and no
+-- public contract. To be read after Reading.
 use Prim.Native.Nat.{ℕ, _+_, _*_, _≤_}
 use mathlib.Core.List.{List, [], _∷_, _++_}
 use mathlib.Core.Path.{_≡_}

@@ -1,2 +1,6 @@
--- The schedule file as bytes, and when its slots are too many.
+-- The schedule file as bytes, when its slots are too many, and what the calls on slots give.
 pub mod ScheduleFile
+pub mod Calls
+pub mod Seen
+pub mod SeenFold
+pub mod Gathered

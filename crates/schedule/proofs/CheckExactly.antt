@@ -1,0 +1,43 @@
+-- The schedule check says yes exactly when none of 3 to 7 is given and the rules of a schedule hold.
+use mathlib.Core.List.{List}
+use mathlib.Core.Logic.{_↔_}
+use mathlib.Core.Path.{_≡_, refl}
+use Rattle.refusals.specs.declared.Checked.the-variants.{Good}
+use Rattle.refusals.proofs.FirstMetLaws.{andThen-both, andThen-good-first, andThen-good-second}
+use Rattle.refusals.specs.FirstMet.{andThen}
+use Rattle.load.specs.declared.Load.{Load}
+use Rattle.load.specs.View.{viewOf}
+use Rattle.load.specs.Check.{checkLoad}
+use Rattle.load.proofs.AcceptableLaws.{check-acceptable}
+use Rattle.rules.specs.declared.Slot.{Slot}
+use Rattle.rules.specs.Check.{checkSlots, checkSchedule}
+use Rattle.rules.specs.ScheduleRules.{ScheduleRules}
+use Rattle.rules.proofs.CheckLaws.{check-rules, rules-check}
+
+-- a load that is accepted, and slots that keep the rules
+pub record KeepsRules (load : Load) (slots : List Slot) : Type 0 where
+  pub accepted : checkLoad load ≡ Good
+  pub rules : ScheduleRules (viewOf load) slots
+
+module _ (load : Load) (slots : List Slot) where
+  check-keeps : checkSchedule load slots ≡ Good → KeepsRules load slots
+  unfolding checkSchedule
+  check-keeps e =
+      let good = andThen-good-first (checkLoad load) (andThen (checkSlots (viewOf load) slots) Good) e in
+      let slots-good = andThen-good-second (checkLoad load) (andThen (checkSlots (viewOf load) slots) Good) e in
+      record {
+        accepted = good;
+        rules =
+            check-rules (viewOf load) (check-acceptable load good) slots
+            (andThen-good-first (checkSlots (viewOf load) slots) Good slots-good);
+      }
+
+  keeps-check : KeepsRules load slots → checkSchedule load slots ≡ Good
+  unfolding checkSchedule
+  keeps-check k =
+      let slots-good = rules-check (viewOf load) (check-acceptable load (k .accepted)) slots (k .rules) in
+      andThen-both (checkLoad load) (andThen (checkSlots (viewOf load) slots) Good) (k .accepted)
+      (andThen-both (checkSlots (viewOf load) slots) Good slots-good refl)
+
+  pub checkSchedule-exactly : (checkSchedule load slots ≡ Good) ↔ KeepsRules load slots
+  checkSchedule-exactly = (check-keeps, keeps-check)

@@ -1,0 +1,111 @@
+// What the check keeps from one slot to the next.
+use crate::PLACES;
+use crate::Seen;
+use load::Load;
+use load::MOST_ROWS;
+use load::check_load;
+use refusals::Checked;
+use refusals::Refusal;
+ghost use mathlib.Core.Path.{_≡_};
+ghost use Prim.Native.Nat.{_-_, _≤_, min};
+ghost use Rattle.load.specs.Load.{rowAt};
+ghost use Rattle.load.specs.View.{viewOf, stepsInAll};
+ghost use Rattle.schedule.specs.Seen.{begun, counted};
+ghost use Rattle.schedule.specs.SeenFold.{withFound};
+ghost use Rattle.schedule.specs.Calls.{places};
+
+// Gives the number of steps of the row at a place, and past the last place 0.
+fn steps_of(load: Load, i: usize) -> usize
+    ensures { λ r. ⌜ r ≡ rowAt load i .steps ⌝ }
+    ensures { λ r. ⌜ r ≤ 255 ⌝ }
+{
+    if i < MOST_ROWS {
+        let row = load.row[i];
+        row.steps as usize
+    } else {
+        0
+    }
+}
+
+// Gives the number of steps in the whole load.
+fn steps_in_all(load: Load) -> usize
+    ensures { λ r. ⌜ r ≡ stepsInAll (viewOf load) ⌝ }
+{
+    let rows = load.rows as usize;
+    let mut sum: usize = 0;
+    for i in 0..rows {
+        sum += steps_of(load, i);
+    }
+    sum
+}
+
+// Compares the number of slots with the load's number of steps.
+fn count_found(load: Load, n: usize) -> Checked
+    ensures { λ r. ⌜ r ≡ counted load n ⌝ }
+{
+    let steps = steps_in_all(load);
+    if n != steps {
+        return Checked::Refused(Refusal::SlotCount);
+    }
+    Checked::Good
+}
+
+// Finds 3 to 7, then 12.
+fn found_first(load: Load, n: usize) -> Checked
+    ensures { λ r. ⌜ r ≡ begun load n .found ⌝ }
+{
+    let found = check_load(load);
+    match found {
+        Checked::Good => count_found(load, n),
+        Checked::Refused(refusal) => Checked::Refused(refusal),
+    }
+}
+
+// Begins a check of n slots: 3 to 7 and 12 are found here.
+pub fn begin(load: Load, n: usize) -> Seen
+    ensures { λ r. ⌜ r ≡ begun load n ⌝ }
+{
+    let found = found_first(load, n);
+    Seen {
+        found: found,
+        end: 0,
+        next: [0; 24],
+        starts: [0; 192],
+    }
+}
+
+// Gives what was found.
+pub fn finish(seen: Seen) -> Checked
+    ensures { λ r. ⌜ r ≡ seen .found ⌝ }
+{
+    let found = seen.found;
+    found
+}
+
+// Gives n, or 256 where that is less.
+pub fn at_most_places(n: usize) -> usize
+    ensures { λ r. ⌜ r ≡ min n places ⌝ }
+{
+    if n < PLACES { n } else { PLACES }
+}
+
+// Gives the place of what is counted from 1, and 0 for 0.
+pub fn place_of(n: u8) -> usize
+    ensures { λ r. ⌜ (r ≡ n - 1) × (r ≤ 254) ⌝ }
+{
+    if 0 < n { n as usize - 1 } else { 0 }
+}
+
+// Keeps what was found.
+pub fn with_found(seen: Seen, found: Checked) -> Seen
+    ensures { λ r. ⌜ r ≡ withFound seen found ⌝ }
+{
+    let next = seen.next;
+    let starts = seen.starts;
+    Seen {
+        found: found,
+        end: seen.end,
+        next: next,
+        starts: starts,
+    }
+}

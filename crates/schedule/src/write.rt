@@ -1,0 +1,126 @@
+// The writing of a schedule file. The slots are lent as a slice of slot records, their numbers
+// unchecked; a function over it is proved by a walk by hand, so there are two: one that takes a
+// slot apart, and one loop. The file is gathered by value, and written where it fits.
+use crate::Gathered;
+use crate::PLACES;
+use crate::before::at_most_places;
+use refusals::Checked;
+use refusals::Refusal;
+use rules::Slot;
+use words::bytes16;
+use words::bytes32;
+use words::overwrite;
+ghost use mathlib.Core.Path.{_≡_};
+ghost use mathlib.Core.List.{[], _∷_};
+ghost use Prim.Native.Nat.{_+_, _*_, _<_};
+ghost use lib.Dec.{ltb};
+ghost use lib.ListN.{length, getD, take};
+ghost use Rattle.refusals.specs.declared.Refusal.the-variants.{OutOfRange};
+ghost use Rattle.refusals.specs.FirstMet.{firstMet};
+ghost use Rattle.refusals.specs.Given.{Given};
+ghost use Rattle.rules.specs.Slots.{noSlot};
+ghost use Rattle.schedule.specs.ScheduleFile.{mostSlots};
+ghost use Rattle.schedule.specs.Gathered.{headed, withSlot, gatheredOf};
+ghost use Rattle.schedule.specs.Calls.{WriteSchedule, WriteArray};
+
+// A schedule has at most 192 slots.
+pub const MOST_SLOTS: usize = 192;
+
+// Begins a file of n slots with its head.
+pub fn head(n: usize) -> Gathered
+    ensures { λ r. ⌜ r ≡ headed n ⌝ }
+{
+    let count = bytes16((n % 65536) as u16);
+    let mut bytes = [0u8; 1540];
+    bytes[0] = 0x53;
+    bytes[1] = 0x43;
+    bytes[2] = count[0];
+    bytes[3] = count[1];
+    Gathered {
+        at: 4,
+        bytes: bytes,
+    }
+}
+
+// Adds the record of a slot where it fits.
+fn with_slot(file: Gathered, row: u8, step: u8, start: u32) -> Gathered
+    ensures { λ r. ⌜ r ≡ withSlot file row step start ⌝ }
+{
+    let at = file.at;
+    if 1532 < at {
+        return file;
+    }
+    let number = bytes32(start);
+    let record = [
+        0x53,
+        0x4C,
+        row,
+        step,
+        number[0],
+        number[1],
+        number[2],
+        number[3],
+    ];
+    let mut bytes = file.bytes;
+    overwrite(&mut bytes, at, &record);
+    Gathered {
+        at: at + 8,
+        bytes: bytes,
+    }
+}
+
+// Writes the file of n slots; refuses with 3 for more than 192, then 9. A refusal alters no byte,
+// and bytes past the file stay.
+pub fn flush(n: usize, file: Gathered, out: &mut [u8]) -> Checked
+    ensures { λ r. ⌜ Given (firstMet ((ltb mostSlots n, OutOfRange) ∷ []))
+        (take (4 + 8 * n) (file .bytes)) (now (out .entry)) r (now (out .exit)) ⌝ }
+{
+    if MOST_SLOTS < n {
+        return Checked::Refused(Refusal::OutOfRange);
+    }
+    let size = 4 + 8 * n;
+    if out.len() < size {
+        return Checked::Refused(Refusal::OutputShort);
+    }
+    let bytes = file.bytes;
+    overwrite(out, 0, &bytes[..size]);
+    Checked::Good
+}
+
+// Takes the slot at a place apart, and adds its record.
+fn write_at(slots: &[Slot], i: usize, file: Gathered) -> Gathered
+    requires { ⌜ i < length (now slots) ⌝ }
+    ensures { λ r. ⌜ r ≡ gatheredOf file (getD (now (slots .entry)) i noSlot) ⌝ }
+{
+    let slot = slots[i];
+    with_slot(file, slot.row, slot.step, slot.start)
+}
+
+// Writes the schedule file of the slots, their numbers unchecked; refuses with 3 for more than 192,
+// then 9. A refusal alters no byte, and bytes past the file stay.
+pub fn write_schedule(slots: &[Slot], out: &mut [u8]) -> Checked
+    ensures { λ r. ⌜ WriteSchedule (now (slots .entry)) (now (out .entry)) r (now (out .exit)) ⌝ }
+{
+    let n = slots.len();
+    let mut file = head(n);
+    let mut i = 0;
+    while i < n {
+        file = write_at(slots, i, file);
+        i += 1;
+    }
+    flush(n, file, out)
+}
+
+// Writes the schedule file of the first n slots of an array, at most 256, as write_schedule does
+// that of a lent slice.
+pub fn write_array(slots: [Slot; PLACES], n: usize, out: &mut [u8]) -> Checked
+    ensures { λ r. ⌜ WriteArray slots n (now (out .entry)) r (now (out .exit)) ⌝ }
+{
+    let count = at_most_places(n);
+    let mut file = head(count);
+    for k in 0..count {
+        let slot = slots[k];
+        file = with_slot(file, slot.row, slot.step, slot.start);
+    }
+    flush(count, file, out)
+}
