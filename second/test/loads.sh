@@ -1,21 +1,7 @@
 #!/bin/sh
 # The document's loads to try. Every expected value below is written by hand from its text,
 # and only what the text states is compared. Usage: loads.sh PROGRAM
-second=$1
-work=$(mktemp -d) || exit 2
-trap 'rm -rf "$work"' EXIT
-passed=0
-failed=0
-
-# same WHAT WANTED FOUND
-same() {
-    if [ "$2" = "$3" ]; then
-        passed=$((passed + 1))
-    else
-        failed=$((failed + 1))
-        printf 'FAILED %s\n  wanted: %s\n  found:  %s\n' "$1" "$2" "$3"
-    fi
-}
+. "$(dirname "$0")/same.sh"
 
 # load NAME, rows on standard input: makes the load file and its report.
 load() {

@@ -1,21 +1,7 @@
 #!/bin/sh
 # The program's commands on load A and on inputs that are no load. Expected lines are written by
 # hand. Usage: program.sh PROGRAM
-second=$1
-work=$(mktemp -d) || exit 2
-trap 'rm -rf "$work"' EXIT
-passed=0
-failed=0
-
-# same WHAT WANTED FOUND
-same() {
-    if [ "$2" = "$3" ]; then
-        passed=$((passed + 1))
-    else
-        failed=$((failed + 1))
-        printf 'FAILED %s\n  wanted: %s\n  found:  %s\n' "$1" "$2" "$3"
-    fi
-}
+. "$(dirname "$0")/same.sh"
 
 # fails WHAT COMMAND...: the command ends with 2 and prints nothing to standard output.
 fails() {
