@@ -18,7 +18,7 @@ ghost use Rattle.bench.specs.Boards.{boardWith, Wide, Shows};
 
 impl Board {
     // Puts what was looked up of a row in the row's places.
-    pub fn with_look(mut self, i: usize, look: Look) -> Board
+    pub(crate) fn with_look(mut self, i: usize, look: Look) -> Board
         requires { ⌜ i < 24 ⌝ }
         ensures { λ r. ⌜ r ≡ boardWith self i look ⌝ }
     {

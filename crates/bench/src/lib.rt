@@ -35,7 +35,7 @@ pub struct Moved {
 // and the moment from which that may start; whether a window is open, what is left of it, and when
 // it is due; and, once the next step is over, the wait after it, whether a window is open then,
 // what is left of that, and its limit.
-pub struct Look {
+pub(crate) struct Look {
     pub finished: u8,
     pub steps: u8,
     pub opening: u32,
@@ -52,7 +52,7 @@ pub struct Look {
 
 // What is looked up of every row, one array a number. Places for rows that the load does not have
 // are 0.
-pub struct Board {
+pub(crate) struct Board {
     pub finished: [u8; MOST_ROWS],
     pub steps: [u8; MOST_ROWS],
     pub opening: [u32; MOST_ROWS],
@@ -69,7 +69,7 @@ pub struct Board {
 
 // What the plan has come to: the rows whose open windows are still to be finished, and the moment
 // at which those before them are.
-pub struct Stack {
+pub(crate) struct Stack {
     pub waiting: [bool; MOST_ROWS],
     pub time: u32,
 }

@@ -22,7 +22,7 @@ pub fn fresh() -> Bench
 impl Bench {
     // Starts a row's next step, which takes so long, and sets the row's opening: the clock and the
     // row's end move to the end of the step.
-    pub fn start(mut self, i: usize, long: u32, opening: u32) -> Bench
+    pub(crate) fn start(mut self, i: usize, long: u32, opening: u32) -> Bench
         requires { ⌜ (i < 24) × (self .clock + long ≤ 4294967295)
             × (getD (self .finished) i 0 < 255) ⌝ }
         ensures { λ r. ⌜ r ≡ benchStarted self i long opening ⌝ }
@@ -36,7 +36,7 @@ impl Bench {
     }
 
     // Moves the clock one tick.
-    pub fn idle(mut self) -> Bench
+    pub(crate) fn idle(mut self) -> Bench
         requires { ⌜ self .clock < 4294967295 ⌝ }
         ensures { λ r. ⌜ r ≡ benchTicked self ⌝ }
     {
