@@ -3,7 +3,8 @@ use mathlib.Core.Path.{_≡_, sym, _∙_}
 use Rattle.load.specs.declared.Load.{Load}
 use Rattle.bench.specs.declared.Bench.{Bench}
 use Rattle.bench.specs.declared.Moved.{Moved}
-use Rattle.bench.specs.Calls.{Fresh, NextMove}
+use Rattle.bench.specs.declared.Ran.{Ran}
+use Rattle.bench.specs.Calls.{Fresh, NextMove, Runs}
 
 pub Fresh-unique : (r s : Bench) → Fresh r → Fresh s → r ≡ s
 Fresh-unique r s p q = p ∙ sym q
@@ -11,3 +12,6 @@ Fresh-unique r s p q = p ∙ sym q
 pub NextMove-unique : (load : Load) (bench : Bench) (r s : Moved) → NextMove load bench r → NextMove load bench s
     → r ≡ s
 NextMove-unique load bench r s p q = p ∙ sym q
+
+pub Runs-unique : (load : Load) (r s : Ran) → Runs load r → Runs load s → r ≡ s
+Runs-unique load r s p q = p ∙ sym q

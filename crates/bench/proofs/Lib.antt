@@ -10,4 +10,5 @@ pub mod JoinLaws
 pub mod ChoiceLaws
 pub mod NextLaws
 pub mod SameMoves
+pub mod RunsLaws
 pub mod CallLaws

@@ -1,11 +1,14 @@
 -- What each public call's contract says: one relation a call, over what it takes and what it gives.
--- To be read after Held.
+-- To be read after Held and Runs.
 use mathlib.Core.Path.{_≡_}
 use Rattle.load.specs.declared.Load.{Load}
+use Rattle.load.specs.Check.{checkLoad}
 use Rattle.rules.specs.State.{fresh}
 use Rattle.bench.specs.declared.Bench.{Bench}
 use Rattle.bench.specs.declared.Moved.{Moved}
+use Rattle.bench.specs.declared.Ran.{Ran}
 use Rattle.bench.specs.Held.{benchOf, nextMove}
+use Rattle.bench.specs.Runs.{scheduleOr, ranWith}
 
 -- fresh(): fresh is all zero
 abbrev pub Fresh : Bench → Type 0
@@ -14,3 +17,7 @@ Fresh r = r ≡ benchOf fresh
 -- next_move(load, bench): one move of the bench
 abbrev pub NextMove : Load → Bench → Moved → Type 0
 NextMove load bench r = r ≡ nextMove load bench
+
+-- run(load): the load's number and no slot, or Good with the schedule
+abbrev pub Runs : Load → Ran → Type 0
+Runs load r = r ≡ ranWith (checkLoad load) (scheduleOr load)

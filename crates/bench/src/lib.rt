@@ -11,7 +11,10 @@ mod state;
 
 use load::MOST_ROWS;
 pub use moves::next_move;
+use refusals::Checked;
 use rules::Outcome;
+use rules::PLACES;
+use rules::Slot;
 pub use state::fresh;
 
 // A bench state: its clock, and per row the steps finished, the moment the last of them ended, and
@@ -29,6 +32,14 @@ pub struct Moved {
     pub outcome: Outcome,
     pub lamps: u32,
     pub count: u32,
+}
+
+// What a run hands back: the finding on the load, how many slots there are, and the slots in order.
+// Places past the last slot are zero.
+pub struct Ran {
+    pub answer: Checked,
+    pub count: usize,
+    pub slots: [Slot; PLACES],
 }
 
 // What is looked up of a row: steps finished and steps in all, the opening, its next step's cost

@@ -13,6 +13,10 @@ use Rattle.rules.specs.declared.Slot.{Slot}
 abbrev pub noSlot : Slot
 noSlot = record { row = 0; step = 0; start = 0 }
 
+-- an array of slots has 256 places
+abbrev pub places : ℕ
+places = 256
+
 -- the slot at a place of a list
 abbrev pub slotAt : List Slot → ℕ → Slot
 slotAt slots k = getD slots k noSlot

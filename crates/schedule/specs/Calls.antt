@@ -8,12 +8,9 @@ use Rattle.refusals.specs.declared.Checked.{Checked}
 use Rattle.refusals.specs.Given.{Given}
 use Rattle.load.specs.declared.Load.{Load}
 use Rattle.rules.specs.declared.Slot.{Slot}
+use Rattle.rules.specs.Slots.{places}
 use Rattle.rules.specs.Check.{checkSchedule}
 use Rattle.schedule.specs.ScheduleFile.{slotsFault, scheduleBytes}
-
--- an array of slots has 256 places
-abbrev pub places : ℕ
-places = 256
 
 -- the first n slots of an array, at most 256
 abbrev pub firstSlots : List Slot → ℕ → List Slot

@@ -12,7 +12,7 @@ ghost use Rattle.load.specs.Load.{rowAt};
 ghost use Rattle.load.specs.View.{viewOf, stepsInAll};
 ghost use Rattle.schedule.specs.Seen.{begun, counted};
 ghost use Rattle.schedule.specs.SeenFold.{withFound};
-ghost use Rattle.schedule.specs.Calls.{places};
+ghost use Rattle.rules.specs.Slots.{places};
 
 // Gives the number of steps of the row at a place, and past the last place 0.
 fn steps_of(load: Load, i: usize) -> usize

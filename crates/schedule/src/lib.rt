@@ -8,11 +8,9 @@ mod write;
 pub use check::check_array;
 pub use check::check_schedule;
 use refusals::Checked;
+pub use rules::PLACES;
 pub use write::write_array;
 pub use write::write_schedule;
-
-// An array of slots has 256 places.
-pub const PLACES: usize = 256;
 
 // What the slots so far showed: what was found, when the last of them ends, how many each row has,
 // and when the slot of each step starts, eight places a row.
