@@ -10,5 +10,8 @@ pub mod JoinLaws
 pub mod ChoiceLaws
 pub mod NextLaws
 pub mod SameMoves
+pub mod LaterBoards
 pub mod RunsLaws
+pub mod RunningLaws
+pub mod StartedRun
 pub mod CallLaws

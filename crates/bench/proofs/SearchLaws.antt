@@ -5,10 +5,10 @@ use mathlib.Core.Bool.{Bool, true, false, _&&_, _||_}
 use mathlib.Core.Path.{_≡_, refl, ap, sym, _∙_, subst}
 use native.Mathlib.Decide.{ℕ-discrete, decLt}
 use native.Mathlib.Omega.{arith}
-use borrow.Author.Tests.{ltb-true, le-leb, lt-leb}
+use borrow.Author.Tests.{ltb-true, leb-true, le-leb, lt-leb}
 use lib.Dec.{leb, ltb}
 use Rattle.counting.specs.Sums.{allTo}
-use Rattle.counting.proofs.TestLaws.{and-left, true-false}
+use Rattle.counting.proofs.TestLaws.{and-left, and-right, true-false}
 use Rattle.load.specs.Load.{lastMoment}
 use Rattle.bench.specs.declared.Look.{Look}
 use Rattle.bench.specs.declared.Board.{Board}
@@ -52,23 +52,29 @@ lower-behind j lowest finished steps h g =
     go true = refl
     go false = refl
 
-pub candidate-more : (look : Look) (clock : ℕ) (below : Bool) → candidateBy look clock below ≡ true
-    → look .finished < look .steps
-candidate-more look clock below e =
-    ltb-true (look .finished) (look .steps)
-    (and-left more ready (and-left (more && ready) allowed (and-left (more && ready && allowed) ends e)))
-  where
-    more : Bool
-    more = ltb (look .finished) (look .steps)
+-- what a candidate tells: its step is there, and ends by 1,000,000
+module _ (look : Look) (clock : ℕ) (below : Bool) (e : candidateBy look clock below ≡ true) where
+  more : Bool
+  more = ltb (look .finished) (look .steps)
 
-    ready : Bool
-    ready = leb (look .release) clock
+  ready : Bool
+  ready = leb (look .release) clock
 
-    allowed : Bool
-    allowed = look .held || below
+  allowed : Bool
+  allowed = look .held || below
 
-    ends : Bool
-    ends = leb (clock + look .cost) lastMoment
+  ends : Bool
+  ends = leb (clock + look .cost) lastMoment
+
+  pub candidate-more : look .finished < look .steps
+  unfolding more ready allowed ends
+  candidate-more =
+      ltb-true (look .finished) (look .steps)
+      (and-left more ready (and-left (more && ready) allowed (and-left (more && ready && allowed) ends e)))
+
+  pub candidate-ends : clock + look .cost ≤ lastMoment
+  unfolding more ready allowed ends
+  candidate-ends = leb-true (clock + look .cost) lastMoment (and-right (more && ready && allowed) ends e)
 
 module _ (board : Board) (clock rows : ℕ) where
   -- row k is passed over

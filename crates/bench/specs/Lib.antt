@@ -8,3 +8,4 @@ pub mod Boards
 pub mod Stacks
 pub mod Choices
 pub mod Moves
+pub mod Running

@@ -1,10 +1,12 @@
-// The bench, by value: a fresh one, and one move of it. A move is refused by the load's own
-// numbers, by a state that does not have the load's shape (10), and with the clock full (11).
+// The bench, by value: a fresh one, one move of it, and the run from fresh to Done. A move is
+// refused by the load's own numbers, by a state that does not have the load's shape (10), and with
+// the clock full (11); a run by the load's own numbers alone.
 mod boards;
 mod lamps;
 mod lookups;
 mod moves;
 mod plan;
+mod runs;
 mod search;
 mod shape;
 mod state;
@@ -15,6 +17,7 @@ use refusals::Checked;
 use rules::Outcome;
 use rules::PLACES;
 use rules::Slot;
+pub use runs::run;
 pub use state::fresh;
 
 // A bench state: its clock, and per row the steps finished, the moment the last of them ended, and

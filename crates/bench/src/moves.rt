@@ -32,7 +32,7 @@ ghost use Rattle.bench.specs.Moves.{finishedIn, handedWith, startedIn, S
 ghost use Rattle.bench.specs.Calls.{NextMove};
 
 // Says whether all steps are finished.
-fn all_finished(board: Board, rows: usize) -> bool
+pub fn all_finished(board: Board, rows: usize) -> bool
     requires { ⌜ rows ≤ 24 ⌝ }
     ensures { λ r. ⌜ r ≡ finishedIn board rows ⌝ }
 {

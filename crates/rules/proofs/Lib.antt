@@ -23,6 +23,7 @@ pub mod ClockBound
 pub mod IdleKeeps
 pub mod MoveKeeps
 pub mod RunLaws
+pub mod StretchLaws
 pub mod SlotLaws
 pub mod SlotsMade
 pub mod NewSlot

@@ -37,7 +37,7 @@ stateAfter-next L zero s = refl
 stateAfter-next L (suc n) s = stateAfter-next L n (move L s .then)
 
 -- the starts by how a move goes
-starts-move : (L : View) (n : ℕ) (s : State) (m : Moved) → move L s ≡ m
+pub starts-move : (L : View) (n : ℕ) (s : State) (m : Moved) → move L s ≡ m
     → starts L (suc n) s ≡ startsFrom (m .outcome) (m .then) (starts L n)
 unfolding starts
 starts-move L n s m e = ap (λ (w : Moved). startsFrom (w .outcome) (w .then) (starts L n)) e
@@ -118,7 +118,7 @@ module _ (L : View) (g : Good L) where
       ap (λ t. toldBy (move L t .outcome) .starts) (stateAfter-done n s v d)
       ∙ ap (λ (m : Moved). toldBy (m .outcome) .starts) (kept-done L s g v d)
 
-  starts-zero : (s : State) → starts L 0 s ≡ []
+  pub starts-zero : (s : State) → starts L 0 s ≡ []
   unfolding starts
   starts-zero s = refl
 

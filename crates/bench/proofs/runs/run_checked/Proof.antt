@@ -1,0 +1,150 @@
+-- `run_checked` makes one start, or one tick, a turn. What holds at every turn is `Running`: the slots so far are the
+-- first of the schedule. The clock goes on at each turn, and with work left it is before the last moment.
+use Prim.Native.Nat.{_-_, _≤_, _<_}
+use mathlib.Core.Bool.{false}
+use mathlib.Core.Path.{_≡_, sym, _∙_, subst}
+use native.Mathlib.Omega.{arith}
+use borrow.Author.Tests.{not-true, not-false}
+use Rattle.load.specs.declared.Load.{Load}
+use Rattle.load.specs.Load.{lastMoment}
+use Rattle.bench.specs.declared.Bench.{Bench}
+use Rattle.bench.specs.Boards.{Shows}
+use Rattle.bench.specs.Choices.{BoardFits}
+use Rattle.bench.specs.Moves.{finishedIn}
+use Rattle.bench.proofs.CheckedLaws.{checked-rows}
+use Rattle.bench.proofs.RunningLaws.{
+  Running,
+  fresh-shaped,
+  running-fresh,
+  running-early,
+  running-done,
+  running-tick,
+}
+use Rattle.bench.proofs.StartedRun.{Startable, running-startable, running-start}
+use borrow.Author.Needs.{needs}
+use Rattle.bench.proofs.runs.run_checked.Statement.{statement}
+use Rattle.bench.proofs.runs.run_checked.Tie as tie
+
+abbrev Inv-loop : tie.InvT-loop
+Inv-loop load rows board₀ clock₀ count₀ slots₀ done₀ board clock count slots done =
+    (done ≡ finishedIn board (load .rows)) × Running load board clock count slots
+
+abbrev μ-loop : tie.MeasureT-loop
+μ-loop load rows board₀ clock₀ count₀ slots₀ done₀ board clock count slots done = lastMoment - clock
+
+board-of-requires : tie.Need-board-of-requires Inv-loop μ-loop
+board-of-requires c κs =
+    let ok = c .before .before .pre in (ok, rw (c .fresh .ensures) (fresh-shaped _ ok (checked-rows _ ok)))
+
+loop-holds : tie.Need-loop-holds Inv-loop μ-loop
+loop-holds c =
+    let made = c .before in
+    let start = made .before .before .before in
+    let board = made .board-of .result in (
+      c .all-finished .ensures,
+      running-fresh (start .args .load) (start .pre) (checked-rows _ (start .pre)) board
+          (subst (λ (b : Bench). Shows (start .args .load) b board) (made .before .fresh .ensures)
+          (made .board-of .ensures)),
+    )
+
+-- a turn, with work left
+module _ (c : tie.In-loop Inv-loop μ-loop) where
+  abbrev start : tie.Start Inv-loop μ-loop
+  start = c .before .before .before .before .before .before
+
+  abbrev load : Load
+  load = start .args .load
+
+  rows-most : load .rows ≤ 24
+  rows-most = checked-rows load (start .pre)
+
+  work-left : finishedIn (c .before .loop .board) (load .rows) ≡ false
+  work-left = sym (c .before .loop .inv .0) ∙ not-true _ (c .loop-test .taken)
+
+  early : c .before .loop .clock < lastMoment
+  early = running-early load (start .pre) rows-most _ _ _ _ (c .before .loop .inv .1) work-left
+
+  fits : BoardFits (c .before .loop .board) (c .before .loop .clock) (load .rows)
+  fits =
+      record {
+        rows-most = rows-most;
+        clock-most = omega (arith, early);
+        wide = c .before .loop .inv .1 .shows .wide;
+        modest = c .before .loop .inv .1 .shows .modest;
+      }
+
+-- a row was found
+module _ (c : tie.Then1 Inv-loop μ-loop) where
+  abbrev turn : tie.In-loop Inv-loop μ-loop
+  turn = c .before .before
+
+  goes : Startable (turn .before .loop .board) (turn .before .loop .clock) (turn .before .loop .count)
+      (c .before .search .result)
+  goes =
+      running-startable (load turn) (start turn .pre) (rows-most turn) _ _ _ _ (turn .before .loop .inv .1)
+      (work-left turn) _ (c .if1 .taken) (c .before .search .ensures)
+
+look-after-requires : tie.Need-look-after-requires Inv-loop μ-loop
+look-after-requires c κs =
+    let t = turn (c .before) in
+    let l = c .before .if1 .taken in
+    (start t .pre, (fits t, (l, c .before .before .search .ensures .candidate l)))
+
+loop-again : tie.Need-loop-again Inv-loop μ-loop
+loop-again c =
+    let looked = c .before .before .before in
+    let found = looked .before .before in
+    let t = turn found in (
+      c .all-finished2 .ensures,
+      rw (c .before .with-look .ensures)
+          (running-start (load t) (start t .pre) (rows-most t) _ _ _ _ (t .before .loop .inv .1) (work-left t) _
+          (found .if1 .taken) (found .before .search .ensures) _ (looked .look-after .ensures .0)
+          (looked .look-after .ensures .1)),
+    )
+
+loop-again-2 : tie.Need-loop-again-2 Inv-loop μ-loop
+loop-again-2 c =
+    let t = c .before .before in (
+      t .before .loop .inv .0,
+      running-tick (load t) (start t .pre) (rows-most t) _ _ _ _ (t .before .loop .inv .1) (work-left t) _
+          (c .if1 .left) (c .before .search .ensures),
+    )
+
+returns : tie.Need-returns Inv-loop μ-loop
+returns c =
+    let start = c .before .before .before .before .before .before in
+    let inv = c .before .loop .inv in
+    running-done _ (start .pre) (checked-rows _ (start .pre)) _ _ _ _ (inv .1)
+    (sym (inv .0) ∙ not-false _ (c .loop-test .left))
+
+pub run-checked-spec : {M : Type 1} → statement M
+run-checked-spec =
+    tie.close
+    (tie.spec
+    Inv-loop
+    μ-loop
+    (λ c. search needs)
+    (λ c κs. search needs)
+    board-of-requires
+    (λ c κs. checked-rows _ (c .before .before .before .pre))
+    loop-holds
+    (λ c κs. fits c)
+    (λ c. omega (arith, goes c .place))
+    (λ c. omega (arith, goes c .place))
+    (λ c. goes c .place)
+    (λ c. omega (arith, goes (c .before) .more))
+    (λ c. omega (arith, goes (c .before) .room))
+    (λ c. omega (arith, goes (c .before) .room))
+    (λ c. omega (arith, goes (c .before) .room))
+    look-after-requires
+    (λ c. omega (arith, goes (c .before .before) .place))
+    (λ c. goes (c .before .before) .place)
+    (λ c. omega (arith, goes (c .before .before .before) .ends))
+    (λ c κs. goes (c .before .before .before) .place)
+    (λ c κs. rows-most (c .before .before .before .before .before .before))
+    (λ c. omega (arith, goes (c .before .before .before .before .before)))
+    loop-again
+    (λ c. omega (arith, early (c .before .before)))
+    (λ c. omega (arith, early (c .before .before)))
+    loop-again-2
+    returns)

@@ -1,0 +1,111 @@
+// The run: the starts of the moves from fresh to Done, each step at full cost. The load is checked
+// and looked up once; a start renews one row of the board.
+use crate::Board;
+use crate::Look;
+use crate::Ran;
+use crate::boards::board_of;
+use crate::lookups::look_of;
+use crate::moves::all_finished;
+use crate::search::opening_after;
+use crate::search::search;
+use crate::state::fresh;
+use load::Load;
+use load::check_load;
+use refusals::Checked;
+use refusals::Refusal;
+use rules::PLACES;
+use rules::Slot;
+ghost use mathlib.Core.Path.{_≡_};
+ghost use mathlib.Core.Bool.{true};
+ghost use mathlib.Core.List.{[]};
+ghost use Prim.Native.Nat.{_<_};
+ghost use Rattle.refusals.specs.declared.Checked.the-variants.{Good, Refused};
+ghost use Rattle.load.specs.Check.{checkLoad};
+ghost use Rattle.load.specs.View.{viewOf};
+ghost use Rattle.rules.specs.Run.{schedule};
+ghost use Rattle.bench.specs.Alike.{Modest};
+ghost use Rattle.bench.specs.Choices.{BoardFits, candidateIn};
+ghost use Rattle.bench.specs.Runs.{ranWith};
+ghost use Rattle.bench.specs.Running.{lookAfter};
+ghost use Rattle.bench.specs.Calls.{Runs};
+
+// Looks a row up as it will be once its next step, a candidate started at the clock, is over.
+fn look_after(load: Load, board: Board, clock: u32, i: usize) -> Look
+    requires { ⌜ checkLoad load ≡ Good ⌝ }
+    requires { ⌜ BoardFits board clock (load .rows) ⌝ }
+    requires { ⌜ (i < load .rows) × (candidateIn board clock (load .rows) i ≡ true) ⌝ }
+    ensures { λ r. ⌜ r ≡ lookAfter load board clock i ⌝ }
+    ensures { λ r. ⌜ Modest r ⌝ }
+{
+    let row = load.row[i];
+    let end = clock + board.cost[i];
+    let opening = opening_after(board.stays[i], board.held[i], board.opening[i], clock);
+    look_of(row, board.finished[i] + 1, end, opening)
+}
+
+// Runs a load that was checked: starts the first candidate that passes, or moves the clock one
+// tick, until all steps are finished.
+fn run_checked(load: Load) -> Ran
+    requires { ⌜ checkLoad load ≡ Good ⌝ }
+    ensures { λ r. ⌜ r ≡ ranWith Good (schedule (viewOf load)) ⌝ }
+{
+    let rows = load.rows as usize;
+    let mut board = board_of(load, fresh());
+    let mut clock: u32 = 0;
+    let mut count: usize = 0;
+    let mut slots = [Slot {
+        row: 0,
+        step: 0,
+        start: 0,
+    }; PLACES];
+    let mut done = all_finished(board, rows);
+    while !done {
+        let i = search(board, clock, rows);
+        if i < rows {
+            slots[count] = Slot {
+                row: i as u8 + 1,
+                step: board.finished[i] + 1,
+                start: clock,
+            };
+            count += 1;
+            let look = look_after(load, board, clock, i);
+            clock += board.cost[i];
+            board = board.with_look(i, look);
+            done = all_finished(board, rows);
+        } else {
+            clock += 1;
+        }
+    }
+    Ran {
+        answer: Checked::Good,
+        count,
+        slots,
+    }
+}
+
+// Gives no slot, with the refusal.
+fn refused_run(refusal: Refusal) -> Ran
+    ensures { λ r. ⌜ r ≡ ranWith (Refused refusal) [] ⌝ }
+{
+    Ran {
+        answer: Checked::Refused(refusal),
+        count: 0,
+        slots: [Slot {
+            row: 0,
+            step: 0,
+            start: 0,
+        }; PLACES],
+    }
+}
+
+// Runs a load from fresh to Done. A load that is out of order is refused with its number, and has
+// no slot.
+pub fn run(load: Load) -> Ran
+    ensures { λ r. ⌜ Runs load r ⌝ }
+{
+    let checked = check_load(load);
+    match checked {
+        Checked::Good => run_checked(load),
+        Checked::Refused(refusal) => refused_run(refusal),
+    }
+}
