@@ -40,6 +40,7 @@ use Rattle.load_file.specs.Reading.{
   rowFaultAt,
   endTests,
   fileFault,
+  ownFault,
 }
 use Rattle.load_file.proofs.RecordLaws.{
   differs-false,
@@ -63,7 +64,7 @@ pub record RowAccepted (bs : List ℕ) (i at : ℕ) : Type 0 where
 
 module _ (bs : List ℕ) (i at : ℕ) where
   pub rowFaultAt-good : rowFaultAt bs i at ≡ Good → RowAccepted bs i at
-  unfolding rowFaultAt stepFaultIn windowFaultIn
+  unfolding rowFaultAt ownFault stepFaultIn windowFaultIn
   rowFaultAt-good h =
       let g = good-allGood (_ ∷ _ ∷ _ ∷ []) h in
       let row = rowFrom bs at in
@@ -91,7 +92,7 @@ module _ (bs : List ℕ) (i at : ℕ) where
       }
 
   pub good-rowFaultAt : RowAccepted bs i at → rowFaultAt bs i at ≡ Good
-  unfolding rowFaultAt stepFaultIn windowFaultIn
+  unfolding rowFaultAt ownFault stepFaultIn windowFaultIn
   good-rowFaultAt r =
       let row = rowFrom bs at in
       let fields =

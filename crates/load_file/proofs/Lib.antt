@@ -11,6 +11,5 @@ pub mod ByteLaws
 pub mod RoundTrip
 pub mod ReadingLaws
 pub mod ReadingRowsLaws
-pub mod ReadCallLaws
 pub mod WritingLaws
-pub mod WriteCallLaws
+pub mod CallLaws

@@ -36,6 +36,7 @@ use Rattle.load_file.specs.Places.{
   rowPlace,
   rowsSaid,
   loadIn,
+  rowWith,
 }
 use Rattle.load_file.specs.RoundTrip.{HeldStep, HeldWindow, HeldRow, Held}
 use Rattle.load_file.proofs.FieldLaws.{
@@ -61,7 +62,7 @@ use Rattle.load_file.proofs.FaultLaws.{RowAccepted, endPlace, FileAccep
 -- what stands in the row that is read at a place
 module _ (bs : List ℕ) (at : ℕ) where
   read-fields : RowRead bs at (rowFrom bs at)
-  unfolding rowFrom
+  unfolding rowFrom rowWith
   read-fields =
       record {
         identifier-read = refl;
@@ -73,28 +74,28 @@ module _ (bs : List ℕ) (at : ℕ) where
       }
 
   step-unused : (j : ℕ) → stepsSaid bs at ≤ j → j < mostSteps → stepAt (rowFrom bs at) j ≡ noStep
-  unfolding rowFrom
+  unfolding rowFrom rowWith
   step-unused j from l =
       getD-unfilled (λ j. stepIn bs (stepPlace at j)) (stepsSaid bs at) mostSteps j noStep noStep from l
 
   step-used : (j : ℕ) → j < stepsSaid bs at → stepAt (rowFrom bs at) j ≡ stepIn bs (stepPlace at j)
-  unfolding rowFrom
+  unfolding rowFrom rowWith
   step-used j l = getD-filled (λ j. stepIn bs (stepPlace at j)) (stepsSaid bs at) mostSteps j noStep noStep l
 
   window-unused : (k : ℕ) → windowsSaid bs at ≤ k → k < mostWindows → windowAt (rowFrom bs at) k ≡ noWindow
-  unfolding rowFrom
+  unfolding rowFrom rowWith
   window-unused k from l =
       getD-unfilled (λ k. windowIn bs (windowPlace bs at k)) (windowsSaid bs at) mostWindows k noWindow noWindow from l
 
   window-used : (k : ℕ) → k < windowsSaid bs at → windowAt (rowFrom bs at) k ≡ windowIn bs (windowPlace bs at k)
-  unfolding rowFrom
+  unfolding rowFrom rowWith
   window-used k l =
       getD-filled (λ k. windowIn bs (windowPlace bs at k)) (windowsSaid bs at) mostWindows k noWindow noWindow l
 
 -- a row that the reading passes
 module _ (bs : List ℕ) (b : Bytes bs) (i at : ℕ) (r : RowAccepted bs i at) where
   pub read-row-stands : Stands (rowBytes (rowFrom bs at)) bs at
-  unfolding rowFrom
+  unfolding rowFrom rowWith
   read-row-stands =
       parts-row bs at (rowFrom bs at)
       (record {
@@ -105,7 +106,7 @@ module _ (bs : List ℕ) (b : Bytes bs) (i at : ℕ) (r : RowAccepted bs i at) w
       })
 
   pub read-row-good : RowGood (loadIn bs) i (rowFrom bs at)
-  unfolding rowFrom
+  unfolding rowFrom rowWith
   read-row-good =
       record {
         fields-good = r .fields-good;
@@ -142,7 +143,7 @@ module _ (bs : List ℕ) (b : Bytes bs) (i at : ℕ) (r : RowAccepted bs i at) w
       ]
 
   pub read-row-held : HeldRow (rowFrom bs at)
-  unfolding rowFrom
+  unfolding rowFrom rowWith
   read-row-held =
       record {
         identifier-fits = numberAt-lt 4 bs (at + 2) b;

@@ -25,9 +25,9 @@ use Rattle.load.specs.Load.{mostRows, mostSteps, mostWindows, noRow, zeroRow, r
 use Rattle.load.specs.View.{viewOf, stepsInAll}
 use Rattle.load.specs.Faults.{rowTests, takenTests, identifierTaken, boxTaken}
 use Rattle.load_file.specs.Records.{rowKind}
-use Rattle.load_file.specs.Places.{stepsSaid, windowsSaid, rowFrom, rowPlace, rowsSaid, loadIn}
-use Rattle.load_file.specs.Reading.{dueTests, rowFaultAt}
-use Rattle.load_file.specs.ReadingSteps.{rowWith, RowsBefore, ownFault, stepsFault, windowsFault, readRow}
+use Rattle.load_file.specs.Places.{stepsSaid, windowsSaid, rowFrom, rowPlace, rowsSaid, loadIn, rowWith}
+use Rattle.load_file.specs.Reading.{dueTests, rowFaultAt, ownFault, stepsFault, windowsFault}
+use Rattle.load_file.specs.ReadingSteps.{RowsBefore, readRow}
 use Rattle.load_file.proofs.CheckLaws.{fields-steps-le, fields-windows-le}
 
 -- tests, of which the first is found, and the tests behind them
@@ -46,7 +46,7 @@ rowAt-read bs k l = getD-filled (λ i. rowFrom bs (rowPlace bs i)) (rowsSaid bs)
 -- the steps that the rows announce are those of the load
 pub stepsInAll-read : (bs : List ℕ)
     → sumTo (λ i. stepsSaid bs (rowPlace bs i)) (rowsSaid bs) ≡ stepsInAll (viewOf (loadIn bs))
-unfolding viewOf loadIn rowFrom
+unfolding viewOf loadIn rowFrom rowWith
 stepsInAll-read bs =
     sumTo-ext (λ i. stepsSaid bs (rowPlace bs i)) (λ i. rowAt (loadIn bs) i .steps) (rowsSaid bs)
     (λ i l. sym (ap (λ row. row .steps) (rowAt-read bs i l)))
@@ -114,11 +114,11 @@ module _ (bs : List ℕ) (at : ℕ) where
         append-good-second front fields (append-good-first (front ++ fields) taken h)
 
     pub own-steps-le : ownFault bs i at ≡ Good → stepsSaid bs at ≤ mostSteps
-    unfolding rowFrom
+    unfolding rowFrom rowWith
     own-steps-le h = fields-steps-le (rowFrom bs at) (fields-good h)
 
     pub own-windows-le : ownFault bs i at ≡ Good → windowsSaid bs at ≤ mostWindows
-    unfolding rowFrom
+    unfolding rowFrom rowWith
     own-windows-le h = fields-windows-le (rowFrom bs at) (fields-good h)
 
     -- what reading a row gives, by what it finds

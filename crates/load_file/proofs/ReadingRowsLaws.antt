@@ -29,9 +29,18 @@ use Rattle.load.specs.declared.Row.{Row}
 use Rattle.load.specs.Load.{mostRows, mostSteps, mostWindows, zeroRow, zeroLoad}
 use Rattle.load.specs.View.{viewOf, stepsInAll}
 use Rattle.load_file.specs.declared.read_row.RowReading.{RowReading}
-use Rattle.load_file.specs.Places.{stepsSaid, windowsSaid, rowFrom, rowPlace, placeBehind, rowsSaid, loadIn}
-use Rattle.load_file.specs.Reading.{headerTests, rowFaultAt, endTests, fileFault, readLoad}
-use Rattle.load_file.specs.ReadingSteps.{RowsBefore, ownFault, readRow, rowsFault, readRows}
+use Rattle.load_file.specs.Places.{
+  stepsSaid,
+  windowsSaid,
+  rowFrom,
+  rowPlace,
+  placeBehind,
+  rowsSaid,
+  loadIn,
+  rowWith,
+}
+use Rattle.load_file.specs.Reading.{headerTests, rowFaultAt, endTests, fileFault, readLoad, ownFault}
+use Rattle.load_file.specs.ReadingSteps.{RowsBefore, readRow, rowsFault, readRows}
 use Rattle.load_file.proofs.ReadingLaws.{rowFaultAt-parts, own-steps-le, own-windows-le, stepsInAll-read}
 
 -- what is found in row k, at its place
@@ -127,11 +136,11 @@ module _ {bs : List ℕ} {i : ℕ} {identifiers : List Identifier} {boxes : List
       own-good = andThen-good-first _ _ (sym (rowFaultAt-parts bs at i) ∙ sym answer-is ∙ h)
 
       steps-said : r .row .steps ≡ stepsSaid bs at
-      unfolding rowFrom
+      unfolding rowFrom rowWith
       steps-said = ap (λ row. row .steps) row-is
 
       windows-said : r .row .windows ≡ windowsSaid bs at
-      unfolding rowFrom
+      unfolding rowFrom rowWith
       windows-said = ap (λ row. row .windows) row-is
 
       pub few-steps : r .row .steps ≤ mostSteps

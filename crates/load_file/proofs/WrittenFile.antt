@@ -37,6 +37,7 @@ use Rattle.load_file.specs.Places.{
   rowPlace,
   rowsSaid,
   loadIn,
+  rowWith,
 }
 use Rattle.load_file.specs.RoundTrip.{HeldRow, Held}
 use Rattle.load_file.proofs.FieldLaws.{
@@ -102,7 +103,7 @@ module _ (bs : List ℕ) (load : Load) (i at : ℕ) (row : Row) (held : HeldRow 
       (windows-unused row (row .windows) (good .windows-zero))
 
   pub written-row : rowFrom bs at ≡ row
-  unfolding rowFrom
+  unfolding rowFrom rowWith
   written-row =
       λ i.
       record {

@@ -36,9 +36,9 @@ stepPlace at j = at + rowKind .size + stepKind .size * j
 abbrev pub windowPlace : List ℕ → ℕ → ℕ → ℕ
 windowPlace bs at k = stepPlace at (stepsSaid bs at) + windowKind .size * k
 
--- the row whose record stands at a place, with its steps and windows; unused places are zero
-unfoldable pub rowFrom : List ℕ → ℕ → Row
-rowFrom bs at =
+-- the row whose own record stands at a place, with these steps and windows
+unfoldable pub rowWith : List ℕ → ℕ → List Step → List Window → Row
+rowWith bs at step window =
     record {
       identifier = record { 0 = numberAt 4 bs (at + 2) };
       «box_number» = record { 0 = numberAt 4 bs (at + 6) };
@@ -46,10 +46,16 @@ rowFrom bs at =
       deadline = numberAt 4 bs (at + 14);
       steps = stepsSaid bs at;
       windows = windowsSaid bs at;
-      step = filled (λ j. stepIn bs (stepPlace at j)) (stepsSaid bs at) mostSteps noStep;
-      window =
-          filled (λ k. windowIn bs (windowPlace bs at k)) (windowsSaid bs at) mostWindows noWindow;
+      step = step;
+      window = window;
     }
+
+-- the row whose record stands at a place, with its steps and windows; unused places are zero
+unfoldable pub rowFrom : List ℕ → ℕ → Row
+rowFrom bs at =
+    rowWith bs at
+    (filled (λ j. stepIn bs (stepPlace at j)) (stepsSaid bs at) mostSteps noStep)
+    (filled (λ k. windowIn bs (windowPlace bs at k)) (windowsSaid bs at) mostWindows noWindow)
 
 -- where the record behind the row at a place stands
 abbrev pub placeBehind : List ℕ → ℕ → ℕ

@@ -65,15 +65,23 @@ unfoldable pub windowFaultIn : List ℕ → ℕ → ℕ → Checked
 windowFaultIn bs at k =
     firstMet (dueTests windowKind bs (windowPlace bs at k) ++ windowTests (rowFrom bs at) k)
 
+-- row i's own record, at a place
+unfoldable pub ownFault : List ℕ → ℕ → ℕ → Checked
+ownFault bs i at =
+    firstMet
+    (dueTests rowKind bs at ++ rowTests (rowFrom bs at) ++ takenTests (loadIn bs) i (rowFrom bs at))
+
+-- its step records
+abbrev pub stepsFault : List ℕ → ℕ → Checked
+stepsFault bs at = firstFaultTo (stepFaultIn bs at) (stepsSaid bs at)
+
+-- its window records
+abbrev pub windowsFault : List ℕ → ℕ → Checked
+windowsFault bs at = firstFaultTo (windowFaultIn bs at) (windowsSaid bs at)
+
 -- row i, whose record stands at a place, with its steps and then its windows
 unfoldable pub rowFaultAt : List ℕ → ℕ → ℕ → Checked
-rowFaultAt bs i at =
-    firstFault
-    (firstMet
-    (dueTests rowKind bs at ++ rowTests (rowFrom bs at) ++ takenTests (loadIn bs) i (rowFrom bs at))
-    ∷ firstFaultTo (stepFaultIn bs at) (stepsSaid bs at)
-    ∷ firstFaultTo (windowFaultIn bs at) (windowsSaid bs at)
-    ∷ [])
+rowFaultAt bs i at = firstFault (ownFault bs i at ∷ stepsFault bs at ∷ windowsFault bs at ∷ [])
 
 -- the end record: its count, and that no bytes follow
 unfoldable pub endTests : List ℕ → ℕ → List (Bool × Refusal)

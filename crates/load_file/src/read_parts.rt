@@ -19,9 +19,16 @@ ghost use mathlib.Core.Path.{_≡_};
 ghost use Prim.Native.Nat.{_≤_};
 ghost use Rattle.refusals.specs.FirstMet.{firstMet};
 ghost use Rattle.load.specs.Load.{mostSteps, mostWindows, zeroRow};
-ghost use Rattle.load_file.specs.Places.{stepIn, windowIn, rowFrom, stepsSaid, windowsSaid};
+ghost use Rattle.load_file.specs.Places.{
+  stepIn,
+  windowIn,
+  rowFrom,
+  stepsSaid,
+  windowsSaid,
+  rowWith,
+};
 ghost use Rattle.load_file.specs.Reading.{dueTests};
-ghost use Rattle.load_file.specs.ReadingSteps.{kindOf, stepsFrom, windowsFrom, rowWith};
+ghost use Rattle.load_file.specs.ReadingSteps.{kindOf, stepsFrom, windowsFrom};
 
 // Checks a record that is due at a place: that the file holds it whole, and then its mark.
 pub fn check_due(bytes: &[u8], at: usize, mark: [u8; 2], size: usize) -> Checked

@@ -1,7 +1,7 @@
 -- `fields_from` reads the row's own record beside the steps and windows of the row of zeros.
 use mathlib.Core.Path.{_∙_, ap}
 use borrow.Author.Needs.{needs}
-use Rattle.load_file.specs.ReadingSteps.{rowWith}
+use Rattle.load_file.specs.Places.{rowWith}
 use Rattle.load_file.proofs.read_parts.fields_from.Statement.{statement}
 use Rattle.load_file.proofs.read_parts.fields_from.Tie as tie
 

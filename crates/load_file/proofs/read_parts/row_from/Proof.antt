@@ -1,8 +1,7 @@
 -- `row_from` reads the row's own record beside its steps, which stand behind that record, and its windows, which stand
 -- behind the steps.
 use borrow.Author.Needs.{needs}
-use Rattle.load_file.specs.Places.{rowFrom}
-use Rattle.load_file.specs.ReadingSteps.{rowWith}
+use Rattle.load_file.specs.Places.{rowFrom, rowWith}
 use Rattle.load_file.proofs.read_parts.row_from.Statement.{statement}
 use Rattle.load_file.proofs.read_parts.row_from.Tie as tie
 

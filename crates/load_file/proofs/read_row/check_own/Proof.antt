@@ -7,8 +7,7 @@ use Rattle.refusals.specs.FirstMet.{firstMet}
 use Rattle.load.specs.Faults.{rowTests, takenTests, identifierTaken, boxTaken}
 use Rattle.load_file.specs.Records.{rowKind}
 use Rattle.load_file.specs.Places.{rowFrom, loadIn}
-use Rattle.load_file.specs.Reading.{dueTests}
-use Rattle.load_file.specs.ReadingSteps.{ownFault}
+use Rattle.load_file.specs.Reading.{dueTests, ownFault}
 use Rattle.load_file.proofs.ReadingLaws.{
   behind-refused,
   behind-good,

@@ -10,7 +10,7 @@ use Rattle.refusals.proofs.FirstMetLaws.{firstFaultTo-zero, firstFaultTo-next, 
 use Rattle.load.specs.declared.Row.{Row}
 use Rattle.load.specs.Faults.{stepTests}
 use Rattle.load_file.specs.Records.{stepKind}
-use Rattle.load_file.specs.Places.{stepPlace, stepsSaid, rowFrom}
+use Rattle.load_file.specs.Places.{stepPlace, stepsSaid, rowFrom, rowWith}
 use Rattle.load_file.specs.Reading.{dueTests, stepFaultIn}
 use Rattle.load_file.proofs.read_row.check_steps.Statement.{statement}
 use Rattle.load_file.proofs.read_row.check_steps.Tie as tie
@@ -28,7 +28,7 @@ unfolding stepFaultIn
 asked bs at row j e = rw e
 
 counted : (bs : List ℕ) (at : ℕ) (row : Row) → row ≡ rowFrom bs at → row .steps ≡ stepsSaid bs at
-unfolding rowFrom
+unfolding rowFrom rowWith
 counted bs at row e = ap (λ row. row .steps) e
 
 starts : tie.Need-loop-holds Inv-loop μ-loop

@@ -10,7 +10,7 @@ use Rattle.refusals.proofs.FirstMetLaws.{firstFaultTo-zero, firstFaultTo-next, 
 use Rattle.load.specs.declared.Row.{Row}
 use Rattle.load.specs.Faults.{windowTests}
 use Rattle.load_file.specs.Records.{windowKind}
-use Rattle.load_file.specs.Places.{stepPlace, windowsSaid, rowFrom}
+use Rattle.load_file.specs.Places.{stepPlace, windowsSaid, rowFrom, rowWith}
 use Rattle.load_file.specs.Reading.{dueTests, windowFaultIn}
 use Rattle.load_file.proofs.read_row.check_windows.Statement.{statement}
 use Rattle.load_file.proofs.read_row.check_windows.Tie as tie
@@ -25,11 +25,11 @@ abbrev μ-loop : tie.MeasureT-loop
 asked : (bs : List ℕ) (at : ℕ) (row : Row) (k : ℕ) → row ≡ rowFrom bs at
     → firstMet (dueTests windowKind bs (stepPlace at (row .steps) + windowKind .size * k) ++ windowTests row k)
     ≡ windowFaultIn bs at k
-unfolding windowFaultIn rowFrom
+unfolding windowFaultIn rowFrom rowWith
 asked bs at row k e = rw e
 
 counted : (bs : List ℕ) (at : ℕ) (row : Row) → row ≡ rowFrom bs at → row .windows ≡ windowsSaid bs at
-unfolding rowFrom
+unfolding rowFrom rowWith
 counted bs at row e = ap (λ row. row .windows) e
 
 starts : tie.Need-loop-holds Inv-loop μ-loop

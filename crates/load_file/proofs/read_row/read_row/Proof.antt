@@ -4,7 +4,7 @@ use mathlib.Core.Path.{_≡_, sym, ap, _∙_}
 use native.Mathlib.Omega.{arith}
 use borrow.Author.Needs.{needs}
 use Rattle.refusals.specs.declared.Checked.the-variants.{Good, Refused}
-use Rattle.load_file.specs.ReadingSteps.{ownFault, stepsFault, windowsFault}
+use Rattle.load_file.specs.Reading.{ownFault, stepsFault, windowsFault}
 use Rattle.load_file.proofs.ReadingLaws.{
   rowFaultAt-parts,
   own-steps-le,
