@@ -1,6 +1,5 @@
 -- The schedule check says yes exactly when none of 3 to 7 is given and the rules of a schedule hold.
 use mathlib.Core.List.{List}
-use mathlib.Core.Logic.{_↔_}
 use mathlib.Core.Path.{_≡_, refl}
 use Rattle.refusals.specs.declared.Checked.the-variants.{Good}
 use Rattle.refusals.proofs.FirstMetLaws.{andThen-both, andThen-good-first, andThen-good-second}
@@ -11,13 +10,8 @@ use Rattle.load.specs.Check.{checkLoad}
 use Rattle.load.proofs.AcceptableLaws.{check-acceptable}
 use Rattle.rules.specs.declared.Slot.{Slot}
 use Rattle.rules.specs.Check.{checkSlots, checkSchedule}
-use Rattle.rules.specs.ScheduleRules.{ScheduleRules}
 use Rattle.rules.proofs.CheckLaws.{check-rules, rules-check}
-
--- a load that is accepted, and slots that keep the rules
-pub record KeepsRules (load : Load) (slots : List Slot) : Type 0 where
-  pub accepted : checkLoad load ≡ Good
-  pub rules : ScheduleRules (viewOf load) slots
+use Rattle.schedule.specs.CheckExactly.{KeepsRules, CheckExactly}
 
 module _ (load : Load) (slots : List Slot) where
   check-keeps : checkSchedule load slots ≡ Good → KeepsRules load slots
@@ -39,5 +33,5 @@ module _ (load : Load) (slots : List Slot) where
       andThen-both (checkLoad load) (andThen (checkSlots (viewOf load) slots) Good) (k .accepted)
       (andThen-both (checkSlots (viewOf load) slots) Good slots-good refl)
 
-  pub checkSchedule-exactly : (checkSchedule load slots ≡ Good) ↔ KeepsRules load slots
-  checkSchedule-exactly = (check-keeps, keeps-check)
+pub checkSchedule-exactly : CheckExactly
+checkSchedule-exactly load slots = (check-keeps load slots, keeps-check load slots)

@@ -14,7 +14,7 @@ pub use write::write_schedule;
 
 // What the slots so far showed: what was found, when the last of them ends, how many each row has,
 // and when the slot of each step starts, eight places a row.
-pub struct Seen {
+pub(crate) struct Seen {
     pub found: Checked,
     pub end: u64,
     pub next: [u8; 24],
@@ -22,7 +22,7 @@ pub struct Seen {
 }
 
 // The bytes of a file that is gathered, and how many of them there are.
-pub struct Gathered {
+pub(crate) struct Gathered {
     pub at: usize,
     pub bytes: [u8; 1540],
 }
