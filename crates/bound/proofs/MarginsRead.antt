@@ -1,21 +1,16 @@
--- All margins, place by place: at a row's place stands the row's margin. So their signs give the verdict, and their
--- bytes are those of the view.
+-- All margins, place by place: at a row's place stands the row's margin. So their signs give the verdict.
 use Prim.Native.Nat.{ℕ, _≤_, _<_}
 use mathlib.Core.Bool.{not, cond}
-use mathlib.Core.List.{List}
 use mathlib.Core.Path.{_≡_, ap, _∙_}
 use native.Mathlib.Omega.{arith}
 use borrow.Author.Tests.{lt-ltb}
 use lib.IntN.{pos}
 use Rattle.counting.specs.Sums.{allTo}
 use Rattle.counting.proofs.TestLaws.{allTo-ext}
-use Rattle.counting.proofs.ListLaws.{getD-listTo, joinTo-ext}
-use Rattle.words.specs.LittleEndian.{littleEndian}
-use Rattle.words.specs.TwosComplement.{twosComplement}
+use Rattle.counting.proofs.ListLaws.{getD-listTo}
 use Rattle.load.specs.Load.{mostRows}
 use Rattle.load.specs.View.{View}
-use Rattle.rules.specs.Margins.{isNegative, margin, margins, marginAt, marginBytes, verdict}
-use Rattle.bound.specs.Calls.{marginIn, MarginBytes}
+use Rattle.rules.specs.Margins.{isNegative, margin, margins, marginAt, marginIn, verdict}
 
 module _ (L : View) where
   marginIn-at : (i : ℕ) → i < mostRows → marginIn (margins L) i ≡ marginAt L i
@@ -30,12 +25,3 @@ module _ (L : View) where
       (λ i l.
       ap (λ z. not (isNegative z))
       (marginIn-at i (omega arith) ∙ ap (λ t. cond t (margin L i) (pos 0)) (lt-ltb i (L .rows) l)))
-
-  -- the bytes of a load's margins are document 01's
-  pub marginBytes-is : (r : List ℕ) → MarginBytes (margins L) r → r ≡ marginBytes L
-  unfolding marginBytes
-  marginBytes-is r e =
-      e
-      ∙ joinTo-ext (λ i. littleEndian 4 (twosComplement 32 (marginIn (margins L) i)))
-      (λ i. littleEndian 4 (twosComplement 32 (marginAt L i))) mostRows
-      (λ i l. ap (λ z. littleEndian 4 (twosComplement 32 z)) (marginIn-at i l))

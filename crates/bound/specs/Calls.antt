@@ -6,10 +6,7 @@ use mathlib.Core.Bool.{false}
 use mathlib.Core.List.{List}
 use mathlib.Core.Path.{_≡_}
 use lib.IntN.{ℤ, pos}
-use lib.ListN.{getD, replicate}
-use Rattle.counting.specs.Lists.{joinTo}
-use Rattle.words.specs.LittleEndian.{littleEndian}
-use Rattle.words.specs.TwosComplement.{twosComplement}
+use lib.ListN.{replicate}
 use Rattle.refusals.specs.declared.Checked.{Checked}
 use Rattle.refusals.specs.declared.Checked.the-variants.{Good, Refused}
 use Rattle.load.specs.declared.Load.{Load}
@@ -17,7 +14,7 @@ use Rattle.load.specs.Load.{mostRows}
 use Rattle.load.specs.View.{viewOf}
 use Rattle.load.specs.Check.{checkLoad}
 use Rattle.rules.specs.Bound.{bound}
-use Rattle.rules.specs.Margins.{margins, verdict}
+use Rattle.rules.specs.Margins.{margins, verdict, bytesOfMargins}
 use Rattle.bound.specs.declared.Bounded.{Bounded}
 use Rattle.bound.specs.declared.Margined.{Margined}
 use Rattle.bound.specs.declared.Judged.{Judged}
@@ -51,11 +48,6 @@ VerdictOf load r =
       verdict = ifGood (checkLoad load) (verdict (viewOf load)) false;
     }
 
--- the margin at a place of a list
-abbrev pub marginIn : List ℤ → ℕ → ℤ
-marginIn margins i = getD margins i (pos 0)
-
 -- margin_bytes(margins): 4 bytes to a row, little-endian two's complement
 abbrev pub MarginBytes : List ℤ → List ℕ → Type 0
-MarginBytes margins r =
-    r ≡ joinTo (λ i. littleEndian 4 (twosComplement 32 (marginIn margins i))) mostRows
+MarginBytes margins r = r ≡ bytesOfMargins margins

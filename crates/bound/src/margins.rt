@@ -12,7 +12,7 @@ ghost use Rattle.load.specs.View.{viewOf};
 ghost use Rattle.load.specs.Acceptable.{Acceptable};
 ghost use Rattle.rules.specs.Margins.{isNegative, margins, verdict};
 ghost use Rattle.rules.proofs.BoundLaws.{largestBound};
-ghost use Rattle.bound.specs.Calls.{marginIn};
+ghost use Rattle.rules.specs.Margins.{marginIn};
 
 // Gives a deadline less a bound, negative when time is missing.
 fn margin_of(deadline: u32, bound: u32) -> i32

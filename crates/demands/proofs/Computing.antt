@@ -12,9 +12,10 @@ use Rattle.load.specs.View.{viewOf, chain, embedded}
 use Rattle.load.specs.Faults.{rowTests, takenTests, stepTests, windowTests}
 use Rattle.load.specs.Check.{rowFault, checkLoad}
 use Rattle.load_file.specs.Writing.{rowBytes, loadBytes}
-use Rattle.load_file.specs.Places.{rowFrom, rowPlace, loadIn}
+use Rattle.load_file.specs.Places.{rowWith, rowFrom, rowPlace, loadIn}
 use Rattle.load_file.specs.Reading.{
   headerTests,
+  ownFault,
   stepFaultIn,
   windowFaultIn,
   rowFaultAt,
@@ -34,7 +35,7 @@ use Rattle.rules.specs.Bound.{
   smallestCosts,
   bound,
 }
-use Rattle.rules.specs.Margins.{rowBound, margin, verdict, marginBytes}
+use Rattle.rules.specs.Margins.{rowBound, margin, verdict, margins, bytesOfMargins}
 use Rattle.rules.specs.State.{fresh, opensAt, openWindow, shaped}
 use Rattle.rules.specs.Ready.{isAllowed, isCandidate, candidates}
 use Rattle.rules.specs.Plan.{due, stack, windowLeft, inTime}
@@ -51,10 +52,11 @@ use Rattle.demands.specs.Notation.{pairs, hex, bytesOf, linesOf}
 unfoldable pub computing : ℕ
 unfolding sumTo maxTo allTo anyTo joinTo joinIn anyIn keepIn firstIn sumIn changed firstTo found inserted sorted
     littleEndian numberAt text decimalTo firstFaultTo zeroRow zeroLoad viewOf chain embedded rowTests takenTests
-    stepTests windowTests rowFault checkLoad rowBytes loadBytes rowFrom rowPlace loadIn headerTests stepFaultIn
-    windowFaultIn rowFaultAt endTests fileFault readLoad kept cut allCosts largestPhase allEmbeddedWaits largestW
-    boundBy partners pairCosts smallestCosts bound rowBound margin verdict marginBytes fresh opensAt openWindow shaped
-    isAllowed isCandidate candidates due stack windowLeft inTime lampWord lampCount started ticked passes chosen
-    allFinished shapedMove move stateAfter starts schedule slotFor lastEnd slotTests checkSlots checkSchedule
-    scheduleBytes spaced loadLine rowLine slotLine loadLines refusedLine printed pairs hex bytesOf linesOf
+    stepTests windowTests rowFault checkLoad rowBytes loadBytes rowWith rowFrom rowPlace loadIn headerTests
+    stepFaultIn windowFaultIn ownFault rowFaultAt endTests fileFault readLoad kept cut allCosts largestPhase
+    allEmbeddedWaits largestW boundBy partners pairCosts smallestCosts bound rowBound margin verdict margins
+    bytesOfMargins fresh opensAt openWindow shaped isAllowed isCandidate candidates due stack windowLeft inTime
+    lampWord lampCount started ticked passes chosen allFinished shapedMove move stateAfter starts schedule slotFor
+    lastEnd slotTests checkSlots checkSchedule scheduleBytes spaced loadLine rowLine slotLine loadLines refusedLine
+    printed pairs hex bytesOf linesOf
 computing = 0

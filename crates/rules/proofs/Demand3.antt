@@ -2,7 +2,7 @@
 -- row bound; so where no margin is negative the schedule keeps its deadlines and passes the check.
 use Prim.Native.Nat.{ℕ, zero, suc, _-_, _≤_, _<_}
 use mathlib.Core.Bool.{Bool, true, false, cond, not}
-use mathlib.Core.Path.{_≡_, refl}
+use mathlib.Core.Path.{_≡_, refl, _∙_}
 use native.Mathlib.Omega.{arith}
 use lib.Dec.{ltb}
 use lib.IntN.{pos, negsuc, _-ℤ_}
@@ -24,7 +24,7 @@ use Rattle.rules.proofs.TightBound.{tightBound, tightBound-le}
 use Rattle.rules.proofs.Good.{Good}
 use Rattle.rules.proofs.GoodLaws.{acceptable-good}
 use Rattle.rules.proofs.ClockBound.{tightBound-fits}
-use Rattle.rules.proofs.RunLaws.{run-done, run-answers, run-clock, schedule-whole}
+use Rattle.rules.proofs.RunLaws.{run-done, run-number, run-clock, starts-joined, schedule-whole}
 use Rattle.rules.proofs.RunEnd.{schedule-ends}
 use Rattle.rules.proofs.WholeLaws.{Whole, free-last, rules-hold}
 use Rattle.rules.proofs.NextLaws.{slot-is}
@@ -85,7 +85,8 @@ module _ (L : View) (g : Good L) where
         moves-few = omega (arith, tightBound-fits L g);
         done = run-done L g (tightBound L) (omega arith);
         all-starts = schedule-whole L g;
-        answers = run-answers L g;
+        made = schedule-whole L g (tightBound L) (omega arith) ∙ starts-joined L g (tightBound L);
+        numbers = run-number L g;
         in-bound = λ n. omega (arith, run-clock L g n, tightBound-le L);
         last-end = schedule-ends L g;
         rules = rules-hold L (schedule L) w (g .first-last);

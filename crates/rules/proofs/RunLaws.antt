@@ -6,12 +6,12 @@ use mathlib.Core.List.{List, [], _∷_, _++_, append-nil}
 use mathlib.Core.Path.{_≡_, refl, ap, ap₂, sym, _∙_, subst}
 use native.Mathlib.Nat.{add-zero, add-suc}
 use native.Mathlib.Omega.{arith}
+use Rattle.counting.specs.Lists.{joinTo}
 use Rattle.counting.proofs.TestLaws.{true-false}
-use Rattle.refusals.specs.declared.Refusal.{Refusal}
 use Rattle.load.specs.View.{View}
 use Rattle.rules.specs.declared.Slot.{Slot}
 use Rattle.rules.specs.declared.Outcome.{Outcome}
-use Rattle.rules.specs.declared.Outcome.the-variants.{Start, Idle, Done, Refused}
+use Rattle.rules.specs.declared.Outcome.the-variants.{Start, Idle, Done}
 use Rattle.rules.specs.State.{State, fresh}
 use Rattle.rules.specs.Outcomes.{toldBy}
 use Rattle.rules.specs.Move.{Moved, startedFull, ticked, allFinished, nextSlot, handedBack, move}
@@ -92,22 +92,19 @@ module _ (L : View) (g : Good L) where
       ap (λ (m : Moved). m .outcome) (kept-done L (stateAfter L n fresh) g (run-kept n) (run-finished n h))
 
   -- a move that is not refused
-  kept-answers : (s : State) → Kept L s → (r : Refusal) → move L s .outcome ≡ Refused r → ⊥
-  kept-answers s v r h = go (allFinished L s) refl
+  kept-number : (s : State) → Kept L s → toldBy (move L s .outcome) .number ≡ 0
+  kept-number s v = go (allFinished L s) refl
     where
-      by : Turn L s → ⊥
-      by (starting i c e) = let q = ap (λ (m : Moved). m .outcome) e in let z : _≡_ {A = ℕ} 0 1 = cc in omega arith
-      by (idles none e) = let q = ap (λ (m : Moved). m .outcome) e in let z : _≡_ {A = ℕ} 0 1 = cc in omega arith
+      by : Turn L s → toldBy (move L s .outcome) .number ≡ 0
+      by (starting i c e) = ap (λ (m : Moved). toldBy (m .outcome) .number) e
+      by (idles none e) = ap (λ (m : Moved). toldBy (m .outcome) .number) e
 
-      go : (b : Bool) → allFinished L s ≡ b → ⊥
-      go true d =
-          let q = ap (λ (m : Moved). m .outcome) (kept-done L s g v d) in
-          let z : _≡_ {A = ℕ} 0 1 = cc in
-          omega arith
+      go : (b : Bool) → allFinished L s ≡ b → toldBy (move L s .outcome) .number ≡ 0
+      go true d = ap (λ (m : Moved). toldBy (m .outcome) .number) (kept-done L s g v d)
       go false d = by (kept-turn L s g v d)
 
-  pub run-answers : (n : ℕ) (r : Refusal) → move L (stateAfter L n fresh) .outcome ≡ Refused r → ⊥
-  run-answers n = kept-answers (stateAfter L n fresh) (run-kept n)
+  pub run-number : (n : ℕ) → toldBy (move L (stateAfter L n fresh) .outcome) .number ≡ 0
+  run-number n = kept-number (stateAfter L n fresh) (run-kept n)
 
   -- what the move after n moves starts
   abbrev pub startsAfter : ℕ → State → List Slot
@@ -185,6 +182,13 @@ module _ (L : View) (g : Good L) where
           (ap₂ _++_ (starts-move L n s (handedBack L s Done) e)
           (ap (λ (w : Moved). startsAfter n (w .then)) e ∙ done-starts n s v d))
       go false d ih = by (kept-turn L s g v d) ih
+
+  -- the starts of so many moves are those of each, one behind the other
+  pub starts-joined : (n : ℕ) → starts L n fresh ≡ joinTo (λ k. startsAfter k fresh) n
+  unfolding joinTo
+  starts-joined zero = starts-zero fresh
+  starts-joined (suc n) =
+      starts-next n fresh (fresh-kept L g) ∙ ap (λ l. l ++ startsAfter n fresh) (starts-joined n)
 
   -- from the bound on no move starts anything
   starts-enough : (d n : ℕ) → tightBound L ≤ n → starts L (n + d) fresh ≡ starts L n fresh

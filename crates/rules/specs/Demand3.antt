@@ -4,15 +4,16 @@ use Prim.Native.Nat.{ℕ, _≤_, _<_}
 use mathlib.Core.Bool.{true}
 use mathlib.Core.Path.{_≡_}
 use lib.ListN.{length}
-use Rattle.refusals.specs.declared.Refusal.{Refusal}
+use Rattle.counting.specs.Lists.{joinTo}
 use Rattle.refusals.specs.declared.Refusal.the-variants.{RowLate}
 use Rattle.refusals.specs.declared.Checked.{Checked}
 use Rattle.refusals.specs.declared.Checked.the-variants as finding
 use Rattle.load.specs.View.{View, isFree}
-use Rattle.rules.specs.declared.Outcome.the-variants.{Done, Refused}
+use Rattle.rules.specs.declared.Outcome.the-variants.{Done}
 use Rattle.rules.specs.Bound.{bound}
 use Rattle.rules.specs.Margins.{rowBound, verdict}
 use Rattle.rules.specs.State.{fresh}
+use Rattle.rules.specs.Outcomes.{toldBy}
 use Rattle.rules.specs.Move.{move}
 use Rattle.rules.specs.Run.{stateAfter, starts, enoughMoves, schedule}
 use Rattle.rules.specs.Slots.{slotAt, rowOf, stepOf, slotEnd, lastEnd}
@@ -32,9 +33,11 @@ pub record Demand3 (L : View) : Type 0 where
   pub moves-few : moves < enoughMoves
   pub done : move L (stateAfter L moves fresh) .outcome ≡ Done
   pub all-starts : (n : ℕ) → moves ≤ n → schedule L ≡ starts L n fresh
-  -- no move of it is refused
-  pub answers : (n : ℕ) (refusal : Refusal)
-      → move L (stateAfter L n fresh) .outcome ≡ Refused refusal → ⊥
+  -- its slots are the starts of those moves, in order
+  pub made : schedule L
+      ≡ joinTo (λ n. toldBy (move L (stateAfter L n fresh) .outcome) .starts) moves
+  -- no move of it is refused: each has the number 0
+  pub numbers : (n : ℕ) → toldBy (move L (stateAfter L n fresh) .outcome) .number ≡ 0
   -- and the clock is never past the bound
   pub in-bound : (n : ℕ) → stateAfter L n fresh .clock ≤ bound L
   -- the last step ends with the run, and so by the bound

@@ -5,6 +5,7 @@ use mathlib.Core.Bool.{Bool, true, false, cond, not}
 use mathlib.Core.List.{List}
 use lib.Dec.{ltb}
 use lib.IntN.{ℤ, pos, negsuc, _-ℤ_}
+use lib.ListN.{getD}
 use Rattle.counting.specs.Sums.{allTo}
 use Rattle.counting.specs.Lists.{joinTo, listTo}
 use Rattle.words.specs.LittleEndian.{littleEndian}
@@ -39,6 +40,15 @@ marginAt L i = cond (ltb i (L .rows)) (margin L i) (pos 0)
 unfoldable pub margins : View → List ℤ
 margins L = listTo (marginAt L) mostRows
 
--- 4 bytes to a row, little-endian two's complement
-unfoldable pub marginBytes : View → List ℕ
-marginBytes L = joinTo (λ i. littleEndian 4 (twosComplement 32 (marginAt L i))) mostRows
+-- the margin at a place of a list
+abbrev pub marginIn : List ℤ → ℕ → ℤ
+marginIn margins i = getD margins i (pos 0)
+
+-- the bytes of margins: 4 to a row, little-endian two's complement
+unfoldable pub bytesOfMargins : List ℤ → List ℕ
+bytesOfMargins margins =
+    joinTo (λ i. littleEndian 4 (twosComplement 32 (marginIn margins i))) mostRows
+
+-- the bytes of a load's margins
+abbrev pub marginBytes : View → List ℕ
+marginBytes L = bytesOfMargins (margins L)

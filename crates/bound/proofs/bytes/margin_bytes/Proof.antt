@@ -14,7 +14,7 @@ use Rattle.words.specs.LittleEndian.{littleEndian}
 use Rattle.words.specs.TwosComplement.{twosComplement}
 use Rattle.words.proofs.LittleEndianLaws.{littleEndian-length}
 use Rattle.words.proofs.OverwriteLaws.{sets-behind, sets-front}
-use Rattle.bound.specs.Calls.{marginIn}
+use Rattle.rules.specs.Margins.{marginIn, bytesOfMargins}
 use Rattle.bound.proofs.SignLaws.{each-fits}
 use Rattle.bound.proofs.bytes.margin_bytes.Statement.{statement}
 use Rattle.bound.proofs.bytes.margin_bytes.Tie as tie
@@ -88,6 +88,7 @@ loop-again c =
     )
 
 returns : tie.Need-returns Inv-loop μ-loop
+unfolding bytesOfMargins
 returns c =
     let zs = c .before .before .args .t1 in
     let e : c .before .loop .i ≡ 24 = omega arith in

@@ -5,7 +5,7 @@ use borrow.Author.Needs.{needs}
 use Rattle.counting.specs.Sums.{allTo}
 use Rattle.load.specs.View.{viewOf}
 use Rattle.rules.specs.Margins.{isNegative}
-use Rattle.bound.specs.Calls.{marginIn}
+use Rattle.rules.specs.Margins.{marginIn}
 use Rattle.bound.proofs.AcceptedLaws.{accepted-few}
 use Rattle.bound.proofs.MarginsRead.{verdict-read}
 use Rattle.bound.proofs.margins.load_verdict.Statement.{statement}

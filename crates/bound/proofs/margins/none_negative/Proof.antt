@@ -12,7 +12,7 @@ use mir.Val.{SFits}
 use Rattle.counting.specs.Sums.{allTo}
 use Rattle.counting.proofs.TestLaws.{and-both, allTo-zero, allTo-next, false-allTo}
 use Rattle.rules.specs.Margins.{isNegative}
-use Rattle.bound.specs.Calls.{marginIn}
+use Rattle.rules.specs.Margins.{marginIn}
 use Rattle.bound.proofs.SignLaws.{each-fits}
 use Rattle.bound.proofs.margins.none_negative.Statement.{statement}
 use Rattle.bound.proofs.margins.none_negative.Tie as tie
