@@ -112,7 +112,9 @@ struct bench any_state(struct dice *dice, const struct load *load)
         if (open_window(row_of(load, row), progress->finished) != NULL)
             progress->opening = progress->end - (progress->end < 9 ? 0 : between(dice, 1, 9));
     }
-    if (throw_dice(dice) % 8 == 0)
-        state.rows[throw_dice(dice) % MOST_ROWS].opening = between(dice, 0, 99);
+    if (throw_dice(dice) % 8 == 0) {
+        struct progress *any = &state.rows[throw_dice(dice) % MOST_ROWS];
+        any->opening = between(dice, 0, 99);
+    }
     return state;
 }

@@ -130,7 +130,8 @@ static bool any_bytes_are_read(struct dice *dice, const struct load *load)
     uint8_t bytes[MOST_LOAD_BYTES];
     size_t length = (size_t)(put_load(bytes, load) - bytes);
     for (unsigned times = 0; times < PERTURBED; times++) {
-        bytes[throw_dice(dice) % length] = (uint8_t)throw_dice(dice);
+        size_t spoiled = throw_dice(dice) % length;
+        bytes[spoiled] = (uint8_t)throw_dice(dice);
         size_t part = times % 2 ? length : throw_dice(dice) % length;
         enum refusal refusal = read_load(bytes, part, &read);
         if (refusal > END_DIFFERS || (refusal == ACCEPTED && check_load(&read) != ACCEPTED))
