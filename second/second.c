@@ -6,6 +6,7 @@
 #include "load_file.h"
 #include "notation.h"
 #include "report.h"
+#include "trials.h"
 #include "values.h"
 
 enum { GOOD = 0, CANNOT = 2, NOTATION_ROOM = 1 << 18 };
@@ -26,6 +27,7 @@ static const char HELP[] =
     "                         the check gives them against the load file, 0 for yes\n"
     "second move FILE         a state on standard input, CLOCK and then FINISHED END OPENING for\n"
     "                         each row (numbers not there are 0): prints the move and the state\n"
+    "second answer-trials     questions on standard input (trials.h): prints their answers\n"
     "second load              rows as text on standard input: writes a load file, unchecked\n"
     "\n"
     "A row as text, one line each:\n"
@@ -146,6 +148,12 @@ static int move_lent_state(const struct load_input *input)
     return GOOD;
 }
 
+static int answer_input_trials(void)
+{
+    answer_trials(stdin, stdout);
+    return GOOD;
+}
+
 static int with_load_file(const char *name, int (*command)(const struct load_input *))
 {
     struct load_input input;
@@ -163,6 +171,8 @@ int main(int count, char **words)
         return values_of_input();
     if (count == 2 && strcmp(command, "schedule") == 0)
         return write_input_schedule();
+    if (count == 2 && strcmp(command, "answer-trials") == 0)
+        return answer_input_trials();
     if (count == 2 && strcmp(command, "load") == 0)
         return write_load_text();
     if (count == 3 && strcmp(command, "check") == 0)

@@ -1,0 +1,26 @@
+/* The trials: a stream of questions, answered one after the other, for comparing two programs.
+   Numbers are little-endian; a file has at most 4,096 bytes, a list at most 256 slots.
+
+   F  length (2), file                  the report's lines, then a line `.`
+   M  length (2), file, clock (4), 24 x [finished (1) end (4) opening (4)]
+                                        `refused N` for a refused file; else `start ROW STEP START`,
+                                        `idle`, `done` or `refused N`, then ` lamps WORD count N`,
+                                        ` clock N` and 24 x ` FINISHED:END:OPENING` of the state
+                                        handed back
+   C  length (2), file, count (2), slots: row (1) step (1) start (4)
+                                        `refused N` for a refused file; else `check N`, 0 for yes
+   W  rows (1), 24 x [identifier (4) box (4) phase (4) deadline (4) steps (1) windows (1),
+      8 x (cost (2) wait (2)), 4 x (first (1) last (1) limit (2))]
+                                        `load N`, and where N is 0 the written file in hex
+   S  count (2), slots as in C          `schedule N`, and where N is 0 the file in hex
+
+   The input's end ends it. Another letter, a larger length or count, or a question cut short is
+   answered by a line `bad`, and that ends it too. */
+#ifndef TRIALS_H
+#define TRIALS_H
+
+#include <stdio.h>
+
+void answer_trials(FILE *questions, FILE *answers);
+
+#endif
