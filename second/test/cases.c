@@ -33,6 +33,7 @@ int main(void)
     bound_cases(&tally);
     bench_cases(&tally);
     schedule_cases(&tally);
+    call_cases(&tally);
     printf("cases: %u as the document says, %u not\n", tally.passed, tally.failed);
     return tally.failed == 0 ? 0 : 1;
 }

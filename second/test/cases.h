@@ -23,5 +23,6 @@ void load_cases(struct tally *tally);
 void bench_cases(struct tally *tally);
 void bound_cases(struct tally *tally);
 void schedule_cases(struct tally *tally);
+void call_cases(struct tally *tally);
 
 #endif
