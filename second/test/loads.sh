@@ -3,10 +3,10 @@
 # and only what the text states is compared. Usage: loads.sh PROGRAM
 . "$(dirname "$0")/same.sh"
 
-# load NAME, rows on standard input: makes the load file and its report.
+# load NAME: makes the load file of those rows, and its report.
 load() {
     name=$1
-    "$second" load > "$work/load" || exit 2
+    "$second" load < "$loads/$name" > "$work/load" || exit 2
     "$second" report < "$work/load" > "$work/report"
     "$second" values < "$work/load" > "$work/values"
 }
@@ -39,11 +39,7 @@ first_move() {
         "$("$second" move "$work/load" < /dev/null | awk 'NR == 1 { print $2 }')"
 }
 
-load 'A' <<'ROWS'
-101 201 0 20 : 2 w10 3
-102 202 0 19 : 1 w4 2
-103 203 0 18 : 2 w3 1
-ROWS
+load a
 # Exactly this, the last line feed too: the dot keeps it from being dropped.
 same 'A: as printed' 'load 3 6 15 19 no
 row 1 101 201 1
@@ -57,106 +53,65 @@ slot 9 3 2
 slot 12 1 2
 .' "$(cat "$work/report" && echo .)"
 
-load 'B' <<'ROWS'
-101 201 0 1000000 : 2 w4 2 : 1-2<=8
-102 202 0 1000000 : 3
-103 203 0 1000000 : 2 w1 1 : 1-2<=6
-ROWS
+load b
 bound 15
 starts '0 2 6 8 11'
 slots_from 6 '6,1 8,3 11,3'
 end 12
 
-load 'B with limit 9' <<'ROWS'
-101 201 0 1000000 : 2 w4 2 : 1-2<=9
-102 202 0 1000000 : 3
-103 203 0 1000000 : 2 w1 1 : 1-2<=6
-ROWS
+load b-limit-9
 slots_from 5 '5,3 7,1 9,3'
 end 10
 
-load 'B with limit 7' <<'ROWS'
-101 201 0 1000000 : 2 w4 2 : 1-2<=7
-102 202 0 1000000 : 3
-103 203 0 1000000 : 2 w1 1 : 1-2<=6
-ROWS
+load b-limit-7
 refused 7
 
-load 'phase 5, cost 3, deadline 8' <<'ROWS'
-101 201 5 8 : 3
-ROWS
+load phase-5-deadline-8
 starts 5
 bound 8
 margins 0
 
-load 'phase 5, cost 3, deadline 7' <<'ROWS'
-101 201 5 7 : 3
-ROWS
+load phase-5-deadline-7
 starts 5
 bound 8
 margins -1
 
-load '1 / 2 w6 2' <<'ROWS'
-101 201 0 1000000 : 1
-102 202 0 1000000 : 2 w6 2
-ROWS
+load short-and-long
 row_bounds '3 11'
 starts '0 1 9'
 end 11
 
-load '1 w0 1 / 1 w0 1' <<'ROWS'
-101 201 0 1000000 : 1 w0 1
-102 202 0 1000000 : 1 w0 1
-ROWS
+load no-waits
 starts '0 1 2 3'
 bound 4
 
-load 'no rows' < /dev/null
+load no-rows
 bound 0
 first_move done
 verdict yes
 
-load 'one identifier, two boxes' <<'ROWS'
-101 201 0 1000000 : 1
-101 202 0 1000000 : 1
-ROWS
+load one-identifier
 refused 4
 
-load 'one identifier, one box' <<'ROWS'
-101 201 0 1000000 : 1
-101 201 0 1000000 : 1
-ROWS
+load one-identifier-one-box
 refused 4
 
-load 'cost 0' <<'ROWS'
-101 201 0 1000000 : 0
-ROWS
+load cost-0
 refused 3
 
-load 'cost 601' <<'ROWS'
-101 201 0 1000000 : 601
-ROWS
+load cost-601
 refused 3
 
-load 'wait 3600' <<'ROWS'
-101 201 0 1000000 : 1 w3600 1
-ROWS
+load wait-3600
 passes
 
-load 'wait 3601' <<'ROWS'
-101 201 0 1000000 : 1 w3601 1
-ROWS
+load wait-3601
 refused 3
 
-rows() {
-    awk -v rows="$1" 'BEGIN { for (row = 1; row <= rows; row++)
-        print 100 + row, 200 + row, 0, 1000000, ":", 1 }'
-}
-rows 24 > "$work/rows"
-load '24 rows' < "$work/rows"
+load 24-rows
 passes
-rows 25 > "$work/rows"
-load '25 rows' < "$work/rows"
+
+load 25-rows
 refused 3
 
 printf 'loads: %d as the document states, %d not\n' "$passed" "$failed"

@@ -1,5 +1,6 @@
 # What the tests of the program share; read by `.` from a script whose first argument is the program.
 second=$1
+loads=$(dirname "$0")/loads
 work=$(mktemp -d) || exit 2
 trap 'rm -rf "$work"' EXIT
 passed=0

@@ -2,12 +2,13 @@
 # Prints VALUES.md: the document's loads marked P, laid open. What the document states is
 # written by hand here; the rest is what the program gives. Usage: values.sh PROGRAM
 second=$1
+loads=$(dirname "$0")/loads
 work=$(mktemp -d) || exit 2
 trap 'rm -rf "$work"' EXIT
 
-# part HEADING STATED, rows on standard input.
+# part HEADING STATED NAME
 part() {
-    cat > "$work/rows"
+    grep -v '^#' "$loads/$3" > "$work/rows"
     "$second" load < "$work/rows" > "$work/load" || exit 2
     "$second" values < "$work/load" > "$work/values"
     printf '\n## %s\n\n' "$1"
@@ -40,76 +41,44 @@ TEXT
 part 'A' \
 'the whole report (so rows, steps, end 15, bound 19, verdict no, margins
 1, 0, -1, and all six slots). Row bounds 19, 19, 19 are not printed there; they follow from the
-deadlines and margins.' <<'ROWS'
-101 201 0 20 : 2 w10 3
-102 202 0 19 : 1 w4 2
-103 203 0 18 : 2 w3 1
-ROWS
+deadlines and margins.' a
 
 part 'B' \
 'bound 15; starts 0 and 2 (their rows are not named), then row 1 at 6, row 3 at 8 and 11;
 end 12. Only computed: row bounds, margins, verdict, rows of the first two slots, all step
-numbers.' <<'ROWS'
-101 201 0 1000000 : 2 w4 2 : 1-2<=8
-102 202 0 1000000 : 3
-103 203 0 1000000 : 2 w1 1 : 1-2<=6
-ROWS
+numbers.' b
 
 part 'B with limit 9' \
 'row 3 at 5, row 1 at 7, row 3 at 9; end 10. Only computed: bound, row bounds,
-margins, verdict, the first two slots, step numbers.' <<'ROWS'
-101 201 0 1000000 : 2 w4 2 : 1-2<=9
-102 202 0 1000000 : 3
-103 203 0 1000000 : 2 w1 1 : 1-2<=6
-ROWS
+margins, verdict, the first two slots, step numbers.' b-limit-9
 
 part 'B with limit 7' \
-'refusal 7.' <<'ROWS'
-101 201 0 1000000 : 2 w4 2 : 1-2<=7
-102 202 0 1000000 : 3
-103 203 0 1000000 : 2 w1 1 : 1-2<=6
-ROWS
+'refusal 7.' b-limit-7
 
 part 'One row, phase 5, cost 3, deadline 8' \
 'start 5, bound 8, margin 0. Only computed: row bound
-(8, as deadline less margin), verdict, end.' <<'ROWS'
-101 201 5 8 : 3
-ROWS
+(8, as deadline less margin), verdict, end.' phase-5-deadline-8
 
 part 'One row, phase 5, cost 3, deadline 7' \
 'start 5, bound 8, margin -1. Only computed: row bound
-(8, as deadline less margin), verdict, end.' <<'ROWS'
-101 201 5 7 : 3
-ROWS
+(8, as deadline less margin), verdict, end.' phase-5-deadline-7
 
 part '1 / 2 w6 2' \
 'row bounds 3 and 11; starts 0, 1, 9; end 11. Only computed: bound, margins,
-verdict, rows and steps of the slots.' <<'ROWS'
-101 201 0 1000000 : 1
-102 202 0 1000000 : 2 w6 2
-ROWS
+verdict, rows and steps of the slots.' short-and-long
 
 part '1 w0 1 / 1 w0 1' \
 'starts 0, 1, 2, 3; bound 4. Only computed: row bounds, margins, verdict, rows
-and steps of the slots, end.' <<'ROWS'
-101 201 0 1000000 : 1 w0 1
-102 202 0 1000000 : 1 w0 1
-ROWS
+and steps of the slots, end.' no-waits
 
 part 'No rows' \
 'bound 0, Done at once (the first move from fresh is Done), verdict yes. End 0 is stated
-with the report ("0 if none"). There are no rows and no slots to list.' < /dev/null
+with the report ("0 if none"). There are no rows and no slots to list.' no-rows
 
 part 'Two rows with one identifier, boxes different' \
-'refusal 4.' <<'ROWS'
-101 201 0 1000000 : 1
-101 202 0 1000000 : 1
-ROWS
+'refusal 4.' one-identifier
 
 part 'Two rows with one identifier and one box' \
 'refusal 4. The steps of these two loads are not
 stated; one step of cost 1 was taken. With the refusal at the second row record they do not
-matter.' <<'ROWS'
-101 201 0 1000000 : 1
-101 201 0 1000000 : 1
-ROWS
+matter.' one-identifier-one-box
