@@ -51,7 +51,7 @@ static uint32_t embedded_waits_of_row(const struct row *row)
     return waits;
 }
 
-static uint32_t all_costs(const struct load *load)
+uint32_t all_costs(const struct load *load)
 {
     uint32_t costs = 0;
     for (unsigned row = 1; row <= load->row_count; row++)
@@ -59,7 +59,7 @@ static uint32_t all_costs(const struct load *load)
     return costs;
 }
 
-static uint32_t all_embedded_waits(const struct load *load)
+uint32_t all_embedded_waits(const struct load *load)
 {
     uint32_t waits = 0;
     for (unsigned row = 1; row <= load->row_count; row++)
@@ -67,7 +67,7 @@ static uint32_t all_embedded_waits(const struct load *load)
     return waits;
 }
 
-static uint32_t largest_phase(const struct load *load)
+uint32_t largest_phase(const struct load *load)
 {
     uint32_t largest = 0;
     for (unsigned row = 1; row <= load->row_count; row++)
@@ -115,7 +115,7 @@ static uint32_t sum_of(const uint32_t *costs, unsigned count)
 }
 
 /* W of row i at place j: its wait less the r smallest of the 2r costs beside it. */
-static uint32_t w_of(const struct load *load, unsigned i, unsigned j)
+uint32_t w_of(const struct load *load, unsigned i, unsigned j)
 {
     uint32_t costs[2 * MOST_ROWS];
     unsigned count = costs_beside(load, i, j, costs);
@@ -126,7 +126,7 @@ static uint32_t w_of(const struct load *load, unsigned i, unsigned j)
 }
 
 /* The wait after step j is free when step j+1 is there and free; step j itself may be embedded. */
-static uint32_t largest_w(const struct load *load, unsigned j)
+uint32_t largest_w(const struct load *load, unsigned j)
 {
     uint32_t largest = 0;
     for (unsigned i = 1; i <= load->row_count; i++)

@@ -8,6 +8,14 @@
    follow directly; the wait after its last kept step is dropped. */
 struct load cut_load(const struct load *load, unsigned m);
 
+/* The terms of a good load. W is asked of row i at place j, from 1, where its wait is free; the
+   largest W of a place is the term. */
+uint32_t all_costs(const struct load *load);
+uint32_t largest_phase(const struct load *load);
+uint32_t all_embedded_waits(const struct load *load);
+uint32_t w_of(const struct load *load, unsigned i, unsigned j);
+uint32_t largest_w(const struct load *load, unsigned j);
+
 /* Beside a refusal (3 to 7) each of these gives 0, or no for the verdict. */
 enum refusal bound_of(const struct load *load, uint32_t *bound);
 enum refusal row_bounds_of(const struct load *load, uint32_t bounds[MOST_ROWS]);

@@ -22,6 +22,7 @@ static const char HELP[] =
     "second answers FILE...   a line for each load file: its number, and where it is 0\n"
     "                         bound N verdict yes|no margins N... end N slots START,ROW,STEP...\n"
     "second values            a load file on standard input: its records in hex and every number\n"
+    "second terms             a load file on standard input: the bound's terms, with every W\n"
     "second schedule          a load file on standard input: writes its schedule file\n"
     "second check FILE        `slot START ROW STEP` lines on standard input: prints the number\n"
     "                         the check gives them against the load file, 0 for yes\n"
@@ -74,6 +75,14 @@ static int values_of_input(void)
     struct load_input input;
     take_input(stdin, &input);
     print_values(stdout, input.bytes, input.length);
+    return GOOD;
+}
+
+static int terms_of_input(void)
+{
+    struct load_input input;
+    take_input(stdin, &input);
+    print_terms(stdout, input.bytes, input.length);
     return GOOD;
 }
 
@@ -169,6 +178,8 @@ int main(int count, char **words)
         return report_input();
     if (count == 2 && strcmp(command, "values") == 0)
         return values_of_input();
+    if (count == 2 && strcmp(command, "terms") == 0)
+        return terms_of_input();
     if (count == 2 && strcmp(command, "schedule") == 0)
         return write_input_schedule();
     if (count == 2 && strcmp(command, "answer-trials") == 0)

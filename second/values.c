@@ -74,3 +74,37 @@ void print_values(FILE *out, const uint8_t *bytes, size_t length)
     fprintf(out, "verdict %s\n", verdict ? "yes" : "no");
     print_slots(out, &run);
 }
+
+static bool has_place(const struct load *load, unsigned j)
+{
+    for (unsigned row = 1; row <= load->row_count; row++)
+        if (j < row_of(load, row)->step_count)
+            return true;
+    return false;
+}
+
+static void print_place(FILE *out, const struct load *load, unsigned j)
+{
+    fprintf(out, "place %u W %lu of", j, (unsigned long)largest_w(load, j));
+    for (unsigned row = 1; row <= load->row_count; row++) {
+        if (is_free(row_of(load, row), j + 1))
+            fprintf(out, " %lu", (unsigned long)w_of(load, row, j));
+        else
+            fputs(" -", out);
+    }
+    fputc('\n', out);
+}
+
+void print_terms(FILE *out, const uint8_t *bytes, size_t length)
+{
+    struct load load;
+    enum refusal refusal = read_load(bytes, length, &load);
+    if (refusal != ACCEPTED) {
+        fprintf(out, "refused %d\n", (int)refusal);
+        return;
+    }
+    fprintf(out, "costs %lu\nphase %lu\nembedded %lu\n", (unsigned long)all_costs(&load),
+            (unsigned long)largest_phase(&load), (unsigned long)all_embedded_waits(&load));
+    for (unsigned j = 1; has_place(&load, j); j++)
+        print_place(out, &load, j);
+}

@@ -26,6 +26,14 @@ same 'much follows' 'refused 8' \
 same 'no load at all' 'refused 2' "$(head -c 100000 /dev/zero | "$second" report)"
 same 'no rows' 'load 0 0 0 0 yes' "$("$second" load < /dev/null | "$second" report)"
 
+same "A's terms" 'costs 11
+phase 0
+embedded 0
+place 1 W 8 of 8 1 0' "$("$second" terms < "$work/a")"
+same 'terms of no load' 'refused 1' "$("$second" terms < /dev/null)"
+same 'VALUES.md is as made' '' "$(sh "$(dirname "$0")/values.sh" "$second" \
+    | diff - "$(dirname "$0")/../VALUES.md")"
+
 "$second" load < /dev/null > "$work/none"
 printf 'LD' > "$work/short"
 same 'answers, in the order of the files' \

@@ -1,4 +1,5 @@
-# What the tests of the program share; read by `.` from a script whose first argument is the program.
+# What the tests of the program share; read by `.` from a script whose first argument is the
+# program.
 second=$1
 loads=$(dirname "$0")/loads
 work=$(mktemp -d) || exit 2
