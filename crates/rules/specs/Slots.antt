@@ -1,5 +1,5 @@
 -- "The slots are lent to the check as a list of slot records": where a slot's row and step stand,
--- when it ends, and what the slots of a list are for. A slot's numbers count from 1 (D31).
+-- when it ends, and what the slots of a list are for. A slot's numbers count from 1.
 use Prim.Native.Nat.{ℕ, _+_, _-_}
 use mathlib.Core.Bool.{Bool, _&&_}
 use mathlib.Core.List.{List, [], _∷_}
