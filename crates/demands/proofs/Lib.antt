@@ -1,3 +1,9 @@
 -- Why the promises hold.
+pub mod CallsDecided
+pub mod NumberLaws
+pub mod CallNumbers
+pub mod TableLaws
+pub mod RefusedMoves
+pub mod Demand1Holds
 pub mod Computing
 pub mod LoadsHold

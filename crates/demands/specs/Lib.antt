@@ -1,4 +1,7 @@
--- What is promised of document 01's loads, over the very definitions that the contracts cite.
+-- What is promised, over the very definitions that the contracts cite, and document 01's loads.
+pub mod PublicCalls
+pub mod Sameness
+pub mod Demand1
 pub mod Notation
 pub mod LoadsToTry
 pub mod LoadA

@@ -1,0 +1,134 @@
+-- Every public call's relation is met by a result, and by one only: each is an equation, and a writing call's relation
+-- decides both what it gives and what its output holds.
+use Prim.Native.Nat.{ℕ}
+use mathlib.Core.List.{List, [], _∷_}
+use mathlib.Core.Path.{_≡_, refl}
+use Rattle.words.proofs.CallLaws.{ByteAt-unique, NumberAt-unique, Overwrite-unique, LittleEndian-unique}
+use Rattle.refusals.specs.declared.Checked.{Checked}
+use Rattle.refusals.specs.FirstMet.{firstFault}
+use Rattle.refusals.specs.Given.{roomFor, outputAfter, Given}
+use Rattle.refusals.proofs.CallLaws.{NumberOf-unique}
+use Rattle.load.specs.Check.{checkLoad}
+use Rattle.load.proofs.CallLaws.{
+  CheckLoad-unique,
+  CheckFields-unique,
+  CheckStep-unique,
+  CheckWindow-unique,
+  IdentifierTaken-unique,
+  BoxTaken-unique,
+  RowAt-unique,
+  StepAt-unique,
+  WindowAt-unique,
+  EmbeddedAt-unique,
+  ZeroRow-unique,
+  ZeroLoad-unique,
+}
+use Rattle.load_file.specs.Writing.{loadBytes}
+use Rattle.load_file.proofs.ReadCallLaws.{ReadLoad-unique}
+use Rattle.load_file.proofs.WriteCallLaws.{WriteLoad-unique}
+use Rattle.bound.proofs.CallLaws.{BoundOf-unique, MarginsOf-unique, VerdictOf-unique, MarginBytes-unique}
+use Rattle.schedule.specs.ScheduleFile.{slotsFault, scheduleBytes}
+use Rattle.schedule.specs.Calls.{firstSlots}
+use Rattle.schedule.proofs.CallLaws.{
+  CheckSchedule-unique,
+  CheckArray-unique,
+  WriteSchedule-unique,
+  WriteArray-unique,
+}
+use Rattle.bench.proofs.CallLaws.{Fresh-unique, NextMove-unique}
+use Rattle.demands.specs.PublicCalls.{Wrote, Writes, EveryCall}
+use Rattle.demands.specs.Sameness.{OneResult, Sameness}
+use Rattle.demands.specs.Demand1.{Answer}
+
+-- what is given and what the output holds are one each
+both : {A : Type 0} → (meets : A → List ℕ → Type 0)
+    → ((r s : A) (after later : List ℕ) → meets r after → meets s later → (r ≡ s) × (after ≡ later))
+    → OneResult (Wrote A) (Writes meets)
+both meets unique r s p q =
+    let same = unique (r .gives) (s .gives) (r .after) (s .after) p q in
+    λ i. record { gives = same .0 i; after = same .1 i }
+
+pub sameness : Sameness
+sameness =
+    record {
+      byte-at = ByteAt-unique;
+      number16-at = NumberAt-unique 2;
+      number32-at = NumberAt-unique 4;
+      overwrite = Overwrite-unique;
+      bytes16 = LittleEndian-unique 2;
+      bytes32 = LittleEndian-unique 4;
+      number-of = NumberOf-unique;
+      check-load = CheckLoad-unique;
+      check-fields = CheckFields-unique;
+      check-step = CheckStep-unique;
+      check-window = CheckWindow-unique;
+      identifier-taken = IdentifierTaken-unique;
+      box-taken = BoxTaken-unique;
+      row-at = RowAt-unique;
+      step-at = StepAt-unique;
+      window-at = WindowAt-unique;
+      embedded-at = EmbeddedAt-unique;
+      zero-row = ZeroRow-unique;
+      zero-load = ZeroLoad-unique;
+      read-load = ReadLoad-unique;
+      write-load = λ load out. both _ (WriteLoad-unique load out);
+      bound-of = BoundOf-unique;
+      margins-of = MarginsOf-unique;
+      verdict-of = VerdictOf-unique;
+      margin-bytes = MarginBytes-unique;
+      check-schedule = CheckSchedule-unique;
+      check-array = CheckArray-unique;
+      write-schedule = λ slots out. both _ (WriteSchedule-unique slots out);
+      write-array = λ slots n out. both _ (WriteArray-unique slots n out);
+      fresh = Fresh-unique;
+      next-move = NextMove-unique;
+    }
+
+-- an equation is met by what it names
+is : {A : Type 0} → (a : A) → Answer A (λ r. r ≡ a)
+is a = record { result = a; met = refl }
+
+-- and a writing call's relation by its finding, and by the output after that
+given : (finding : Checked) (answer out : List ℕ) → Answer (Wrote Checked) (Writes (Given finding answer out))
+given finding answer out =
+    let found = firstFault (finding ∷ roomFor answer out ∷ []) in
+    record {
+      result = record { gives = found; after = outputAfter found answer out };
+      met = record { finding-is = refl; output-is = refl };
+    }
+
+pub every-answer : EveryCall Answer
+every-answer =
+    record {
+      byte-at = λ bs at. is _;
+      number16-at = λ bs at. is _;
+      number32-at = λ bs at. is _;
+      overwrite = λ out at bytes. is _;
+      bytes16 = λ n. is _;
+      bytes32 = λ n. is _;
+      number-of = λ refusal. is _;
+      check-load = λ load. is _;
+      check-fields = λ row. is _;
+      check-step = λ row j. is _;
+      check-window = λ row k. is _;
+      identifier-taken = λ identifiers n identifier. is _;
+      box-taken = λ boxes n box. is _;
+      row-at = λ load i. is _;
+      step-at = λ row j. is _;
+      window-at = λ row k. is _;
+      embedded-at = λ row j. is _;
+      zero-row = is _;
+      zero-load = is _;
+      read-load = λ bs. is _;
+      write-load = λ load out. given (checkLoad load) (loadBytes load) out;
+      bound-of = λ load. is _;
+      margins-of = λ load. is _;
+      verdict-of = λ load. is _;
+      margin-bytes = λ margins. is _;
+      check-schedule = λ load slots. is _;
+      check-array = λ load slots n. is _;
+      write-schedule = λ slots out. given (slotsFault slots) (scheduleBytes slots) out;
+      write-array = λ slots n out. given (slotsFault (firstSlots slots n)) (scheduleBytes (firstSlots slots n)) out;
+      fresh = is _;
+      next-move = λ load bench. is _;
+    }

@@ -1,0 +1,26 @@
+-- Demand 1 holds: an equation is met, the table gives each refusal a number of its own, the definitions refuse with no
+-- other, and a refusal leaves what it was lent.
+use mathlib.Core.Path.{ap, sym, _∙_}
+use Rattle.bench.specs.declared.Moved.{Moved}
+use Rattle.demands.specs.Demand1.{Demand1}
+use Rattle.demands.proofs.CallsDecided.{every-answer}
+use Rattle.demands.proofs.TableLaws.{numberOf-apart, numberOf-in-table}
+use Rattle.demands.proofs.RefusedMoves.{bench-kept}
+use Rattle.demands.proofs.CallNumbers.{load-gives, file-gives, schedule-gives, move-gives}
+
+pub demand1 : Demand1
+demand1 =
+    record {
+      answered = every-answer;
+      numbered = λ refusal n e. rw e (numberOf-in-table refusal);
+      apart = λ a b n p q. numberOf-apart a b (sym p ∙ q);
+      load-numbers = λ load r e. rw e (load-gives load .number);
+      file-numbers = λ bs r e. rw e (file-gives bs .number);
+      schedule-numbers = λ load slots r e. rw e (schedule-gives load slots .number);
+      move-numbers = λ load bench r e. rw e (move-gives load bench);
+      load-stays = λ load out refusal after g. g .output-is;
+      schedule-stays = λ slots out refusal after g. g .output-is;
+      array-stays = λ slots n out refusal after g. g .output-is;
+      bench-stays = λ load bench refusal r e h.
+          e ∙ bench-kept load bench refusal (ap (λ (m : Moved). m .outcome) (sym e) ∙ h);
+    }

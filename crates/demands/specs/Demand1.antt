@@ -1,0 +1,72 @@
+-- Demand 1: "Every input gets an answer and every call ends. No public call asks its caller to have
+-- checked anything. A refusal carries one number from document 01's table and alters no byte or
+-- slot lent to it." That a call ends is part of what is proved of its code. To be read after
+-- PublicCalls.
+use Prim.Native.Nat.{ℕ, _≤_}
+use mathlib.Core.Bool.{true}
+use mathlib.Core.List.{List, [], _∷_}
+use mathlib.Core.Path.{_≡_}
+use lib.Dec.{eqb}
+use Rattle.counting.specs.Lists.{anyIn}
+use Rattle.refusals.specs.declared.Refusal.{Refusal}
+use Rattle.refusals.specs.declared.Checked.{Checked}
+use Rattle.refusals.specs.declared.Checked.the-variants.{Refused}
+use Rattle.refusals.specs.Refusals.{numberGiven}
+use Rattle.refusals.specs.Calls.{NumberOf}
+use Rattle.load.specs.declared.Load.{Load}
+use Rattle.load.specs.Calls.{CheckLoad}
+use Rattle.load_file.specs.declared.Reading.{Reading}
+use Rattle.load_file.specs.Calls.{ReadLoad, WriteLoad}
+use Rattle.rules.specs.declared.Slot.{Slot}
+use Rattle.rules.specs.declared.Outcome.the-variants as outcome
+use Rattle.rules.specs.Outcomes.{toldBy}
+use Rattle.schedule.specs.Calls.{CheckSchedule, WriteSchedule, WriteArray}
+use Rattle.bench.specs.declared.Bench.{Bench}
+use Rattle.bench.specs.declared.Moved.{Moved}
+use Rattle.bench.specs.Held.{refusedWith}
+use Rattle.bench.specs.Calls.{NextMove}
+use Rattle.demands.specs.PublicCalls.{EveryCall}
+
+-- a result that meets a relation
+pub record Answer (A : Type 0) (meets : A → Type 0) : Type 0 where
+  pub result : A
+  pub met : meets result
+
+-- a number is one of the table's
+pub record InTable (n : ℕ) : Type 0 where
+  pub least : 1 ≤ n
+  pub most : n ≤ 17
+
+-- a number given back is 0, or one of these
+abbrev pub OneOf : List ℕ → ℕ → Type 0
+OneOf numbers n = anyIn (eqb n) (0 ∷ numbers) ≡ true
+
+-- demand 1
+pub record Demand1 : Type 0 where
+  -- every input of every call gets an answer; nothing is asked of it first
+  pub answered : EveryCall Answer
+  -- a refusal carries one number from the table
+  pub numbered : (refusal : Refusal) (n : ℕ) → NumberOf refusal n → InTable n
+  -- which is no other refusal's
+  pub apart : (a b : Refusal) (n : ℕ) → NumberOf a n → NumberOf b n → a ≡ b
+  -- the numbers that a load, a file, a schedule and a move can be refused with
+  pub load-numbers : (load : Load) (r : Checked) → CheckLoad load r
+      → OneOf (3 ∷ 4 ∷ 5 ∷ 6 ∷ 7 ∷ []) (numberGiven r)
+  pub file-numbers : (bs : List ℕ) (r : Reading) → ReadLoad bs r
+      → OneOf (1 ∷ 2 ∷ 3 ∷ 4 ∷ 5 ∷ 6 ∷ 7 ∷ 8 ∷ []) (numberGiven (r .answer))
+  pub schedule-numbers : (load : Load) (slots : List Slot) (r : Checked)
+      → CheckSchedule load slots r
+      → OneOf (3 ∷ 4 ∷ 5 ∷ 6 ∷ 7 ∷ 12 ∷ 13 ∷ 14 ∷ 15 ∷ 16 ∷ 17 ∷ []) (numberGiven r)
+  pub move-numbers : (load : Load) (bench : Bench) (r : Moved) → NextMove load bench r
+      → OneOf (3 ∷ 4 ∷ 5 ∷ 6 ∷ 7 ∷ 10 ∷ 11 ∷ []) (toldBy (r .outcome) .number)
+  -- a refused call leaves the output as it was
+  pub load-stays : (load : Load) (out : List ℕ) (refusal : Refusal) (after : List ℕ)
+      → WriteLoad load out (Refused refusal) after → after ≡ out
+  pub schedule-stays : (slots : List Slot) (out : List ℕ) (refusal : Refusal) (after : List ℕ)
+      → WriteSchedule slots out (Refused refusal) after → after ≡ out
+  pub array-stays : (slots : List Slot) (n : ℕ) (out : List ℕ) (refusal : Refusal) (after : List ℕ)
+      → WriteArray slots n out (Refused refusal) after → after ≡ out
+  -- and a refused move hands back the state it was given, with lamp word and count 0
+  pub bench-stays : (load : Load) (bench : Bench) (refusal : Refusal) (r : Moved)
+      → NextMove load bench r → r .outcome ≡ outcome.Refused refusal
+      → r ≡ refusedWith bench refusal
