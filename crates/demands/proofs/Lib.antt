@@ -5,5 +5,8 @@ pub mod CallNumbers
 pub mod TableLaws
 pub mod RefusedMoves
 pub mod Demand1Holds
+pub mod StateHeld
+pub mod MovesHeld
+pub mod Demand2Holds
 pub mod Computing
 pub mod LoadsHold

@@ -31,7 +31,7 @@ refusalIn Done = StateShape
 refusalIn (Refused refusal) = refusal
 
 -- a move, if refused, is refused alone
-abbrev Alone : State → Move → Type 0
+abbrev pub Alone : State → Move → Type 0
 Alone s m = (refusal : Refusal) → m .outcome ≡ Refused refusal → m ≡ refusedMove s refusal
 
 refused-alone : (s : State) (own : Refusal) → Alone s (refusedMove s own)
@@ -51,7 +51,7 @@ shaped-alone L s = go (allFinished L s) (leb lastMoment (s .clock)) refl refl
     go false true d f = rw (d, shapedMove) (rw f (refused-alone s ClockFull))
     go false false d f = rw (d, shapedMove) (rw f (choice-alone L s (chosen L s)))
 
-move-alone : (L : View) (s : State) → Alone s (move L s)
+pub move-alone : (L : View) (s : State) → Alone s (move L s)
 unfolding move
 move-alone L s = go (shaped L s) refl
   where

@@ -2,6 +2,7 @@
 pub mod PublicCalls
 pub mod Sameness
 pub mod Demand1
+pub mod Demand2
 pub mod Notation
 pub mod LoadsToTry
 pub mod LoadA

@@ -1,0 +1,97 @@
+-- Demand 2 holds: the round trips of load_file told of the calls, the equations of bound and bench read where nothing
+-- is refused, and the check that says yes exactly when the rules hold.
+use Prim.Native.Nat.{ℕ}
+use mathlib.Core.List.{List, [], _∷_}
+use mathlib.Core.Logic.{_↔_}
+use mathlib.Core.Path.{_≡_, ap, sym, _∙_}
+use lib.ListN.{length, take, drop}
+use lib.Seq.{take-append-seam}
+use Rattle.words.specs.LittleEndian.{Bytes}
+use Rattle.refusals.specs.declared.Checked.{Checked}
+use Rattle.refusals.specs.declared.Checked.the-variants.{Good}
+use Rattle.refusals.specs.FirstMet.{firstFault}
+use Rattle.refusals.specs.Given.{Given, roomFor}
+use Rattle.refusals.proofs.FirstMetLaws.{andThen-good-first}
+use Rattle.load.specs.declared.Load.{Load}
+use Rattle.load.specs.View.{viewOf}
+use Rattle.load.specs.Check.{checkLoad}
+use Rattle.load_file.specs.declared.Reading.{Reading}
+use Rattle.load_file.specs.Writing.{loadBytes}
+use Rattle.load_file.specs.Reading.{readLoad}
+use Rattle.load_file.specs.Calls.{ReadLoad, WriteLoad}
+use Rattle.load_file.specs.RoundTrip.{Held, accepted, WrittenLoad}
+use Rattle.load_file.proofs.RoundTrip.{round-trip, write-read}
+use Rattle.rules.specs.declared.Slot.{Slot}
+use Rattle.rules.specs.Bound.{bound}
+use Rattle.rules.specs.Margins.{margins, verdict}
+use Rattle.rules.specs.Check.{checkSchedule}
+use Rattle.bound.specs.declared.Bounded.{Bounded}
+use Rattle.bound.specs.declared.Margined.{Margined}
+use Rattle.bound.specs.declared.Judged.{Judged}
+use Rattle.bound.specs.Calls.{ifGood, BoundOf, MarginsOf, VerdictOf}
+use Rattle.bound.proofs.MarginsRead.{marginBytes-is}
+use Rattle.schedule.proofs.CheckExactly.{checkSchedule-exactly}
+use Rattle.demands.specs.Demand2.{fileIn, RulesHold, Demand2}
+use Rattle.demands.proofs.MovesHeld.{next-same}
+
+-- a file that is not refused, written back
+file-back : (bs : List ℕ) → Bytes bs → readLoad bs .answer ≡ Good → WrittenLoad (readLoad bs .load) bs
+file-back bs b e = round-trip .read-write bs (readLoad bs .load) (round-trip .some-load bs b e)
+
+reads-writes : (bs : List ℕ) (r : Reading) → Bytes bs → ReadLoad bs r → r .answer ≡ Good → (out : List ℕ)
+    (found : Checked) (after : List ℕ) → WriteLoad (r .load) out found after → Given Good bs out found after
+reads-writes bs r b e g out found after h =
+    let w : WrittenLoad (r .load) bs = rw e (file-back bs b (ap (λ (x : Reading). x .answer) (sym e) ∙ g)) in
+    let told : Given (checkLoad (r .load)) (loadBytes (r .load)) out found after = h in
+    rw (w .good, ← w .file) at told
+
+writes-reads : (load : Load) → Held load → (out after : List ℕ) → WriteLoad load out Good after → (r : Reading)
+    → ReadLoad (fileIn load after) r → r ≡ accepted load
+writes-reads load held out after h r e =
+    let good : checkLoad load ≡ Good =
+    andThen-good-first (checkLoad load) (firstFault (roomFor (loadBytes load) out ∷ [])) (sym (h .finding-is)) in
+    let front : fileIn load after ≡ loadBytes load =
+    ap (take (length (loadBytes load))) (h .output-is)
+    ∙ take-append-seam (loadBytes load) (drop (length (loadBytes load)) out) in
+    e ∙ ap readLoad front ∙ write-read load held good
+
+-- an answer beside Good
+if-good : {A : Type 0} → (found : Checked) (answer none : A) → found ≡ Good → ifGood found answer none ≡ answer
+if-good found answer none e = rw e
+
+yes-exactly : (load : Load) (slots : List Slot) → (checkSchedule load slots ≡ Good) ↔ RulesHold load slots
+yes-exactly load slots = (
+  λ e. (let k = checkSchedule-exactly load slots .0 e in record { accepts = sym (k .accepted); keeps = k .rules }),
+  λ k. checkSchedule-exactly load slots .1 (record { accepted = sym (k .accepts); rules = k .keeps }),
+)
+
+module _ (load : Load) where
+  bound-is : (r : Bounded) → BoundOf load r → r .answer ≡ Good → r .bound ≡ bound (viewOf load)
+  bound-is r e g =
+      ap (λ (x : Bounded). x .bound) e
+      ∙ if-good (checkLoad load) (bound (viewOf load)) 0 (ap (λ (x : Bounded). x .answer) (sym e) ∙ g)
+
+  margins-is : (r : Margined) → MarginsOf load r → r .answer ≡ Good → r .margins ≡ margins (viewOf load)
+  margins-is r e g =
+      ap (λ (x : Margined). x .margins) e
+      ∙ if-good (checkLoad load) (margins (viewOf load)) _ (ap (λ (x : Margined). x .answer) (sym e) ∙ g)
+
+  verdict-is : (r : Judged) → VerdictOf load r → r .answer ≡ Good → r .verdict ≡ verdict (viewOf load)
+  verdict-is r e g =
+      ap (λ (x : Judged). x .verdict) e
+      ∙ if-good (checkLoad load) (verdict (viewOf load)) _ (ap (λ (x : Judged). x .answer) (sym e) ∙ g)
+
+pub demand2 : Demand2
+demand2 =
+    record {
+      round-trips = round-trip;
+      one-load = λ bs r s p q. ap (λ (x : Reading). x .load) (p ∙ sym q);
+      read-write = reads-writes;
+      write-read = writes-reads;
+      bounds = bound-is;
+      margins-are = margins-is;
+      margins-written = λ load r e g bytes h. marginBytes-is (viewOf load) bytes (rw (margins-is load r e g) at h);
+      verdicts = verdict-is;
+      moves = λ load bench r good held e. rw e (next-same load (sym good) bench held);
+      says-yes = λ load slots r e. rw e (yes-exactly load slots);
+    }

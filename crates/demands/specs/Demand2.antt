@@ -1,0 +1,88 @@
+-- Demand 2: "An accepted file reads to exactly one load, that load is written back to the same
+-- bytes, and a written load reads back as itself. The bound, the margins and every move equal
+-- document 01's definitions. The schedule check says yes exactly when document 01's rules hold."
+-- Over any results that meet the calls' relations.
+use Prim.Native.Nat.{ℕ}
+use mathlib.Core.List.{List}
+use mathlib.Core.Logic.{_↔_}
+use mathlib.Core.Path.{_≡_}
+use lib.ListN.{length, take}
+use Rattle.words.specs.LittleEndian.{Bytes}
+use Rattle.refusals.specs.declared.Checked.{Checked}
+use Rattle.refusals.specs.declared.Checked.the-variants.{Good}
+use Rattle.refusals.specs.Given.{Given}
+use Rattle.load.specs.declared.Load.{Load}
+use Rattle.load.specs.Load.{mostRows}
+use Rattle.load.specs.View.{viewOf}
+use Rattle.load.specs.Calls.{CheckLoad}
+use Rattle.load_file.specs.declared.Reading.{Reading}
+use Rattle.load_file.specs.Writing.{loadBytes}
+use Rattle.load_file.specs.Calls.{ReadLoad, WriteLoad}
+use Rattle.load_file.specs.RoundTrip.{Held, accepted, RoundTrip}
+use Rattle.rules.specs.declared.Slot.{Slot}
+use Rattle.rules.specs.Bound.{bound}
+use Rattle.rules.specs.Margins.{margins, marginBytes, verdict}
+use Rattle.rules.specs.Move.{Moved as Move, move}
+use Rattle.rules.specs.ScheduleRules.{ScheduleRules}
+use Rattle.bound.specs.declared.Bounded.{Bounded}
+use Rattle.bound.specs.declared.Margined.{Margined}
+use Rattle.bound.specs.declared.Judged.{Judged}
+use Rattle.bound.specs.Calls.{BoundOf, MarginsOf, VerdictOf, MarginBytes}
+use Rattle.schedule.specs.Calls.{CheckSchedule}
+use Rattle.bench.specs.declared.Bench.{Bench}
+use Rattle.bench.specs.declared.Moved.{Moved}
+use Rattle.bench.specs.Held.{stateOf}
+use Rattle.bench.specs.Calls.{NextMove}
+
+-- the file of a load that was written into an output: so many bytes from its front
+abbrev pub fileIn : Load → List ℕ → List ℕ
+fileIn load after = take (length (loadBytes load)) after
+
+-- a bench as it is held in memory: what its type alone says
+pub record HeldBench (bench : Bench) : Type 0 where
+  pub finished-places : length (bench .finished) ≡ mostRows
+  pub end-places : length (bench .end) ≡ mostRows
+  pub opening-places : length (bench .opening) ≡ mostRows
+
+-- what a call hands back is what a move of the rules does
+pub record SameMove (r : Moved) (m : Move) : Type 0 where
+  pub state-is : stateOf (r .bench) ≡ m .then
+  pub outcome-is : r .outcome ≡ m .outcome
+  pub lamps-are : r .lamps ≡ m .lamps
+  pub count-is : r .count ≡ m .count
+
+-- document 01's rules: none of 3 to 7 is given, and the schedule keeps its rules
+pub record RulesHold (load : Load) (slots : List Slot) : Type 0 where
+  pub accepts : CheckLoad load Good
+  pub keeps : ScheduleRules (viewOf load) slots
+
+-- demand 2
+pub record Demand2 : Type 0 where
+  -- of bytes and a load, the bytes read to the load exactly when the load is written as the bytes
+  pub round-trips : RoundTrip
+  -- an accepted file reads to exactly one load
+  pub one-load : (bs : List ℕ) (r s : Reading) → ReadLoad bs r → ReadLoad bs s → r .load ≡ s .load
+  -- that load is written back to the same bytes: it is not refused, and the answer is the file
+  pub read-write : (bs : List ℕ) (r : Reading) → Bytes bs → ReadLoad bs r → r .answer ≡ Good
+      → (out : List ℕ) (found : Checked) (after : List ℕ) → WriteLoad (r .load) out found after
+      → Given Good bs out found after
+  -- and a written load reads back as itself
+  pub write-read : (load : Load) → Held load → (out after : List ℕ) → WriteLoad load out Good after
+      → (r : Reading) → ReadLoad (fileIn load after) r → r ≡ accepted load
+  -- the bound equals document 01's definition
+  pub bounds : (load : Load) (r : Bounded) → BoundOf load r → r .answer ≡ Good
+      → r .bound ≡ bound (viewOf load)
+  -- the margins do, and their 96 bytes
+  pub margins-are : (load : Load) (r : Margined) → MarginsOf load r → r .answer ≡ Good
+      → r .margins ≡ margins (viewOf load)
+  pub margins-written : (load : Load) (r : Margined) → MarginsOf load r → r .answer ≡ Good
+      → (bytes : List ℕ) → MarginBytes (r .margins) bytes → bytes ≡ marginBytes (viewOf load)
+  -- the verdict does
+  pub verdicts : (load : Load) (r : Judged) → VerdictOf load r → r .answer ≡ Good
+      → r .verdict ≡ verdict (viewOf load)
+  -- and every move, with the state after it
+  pub moves : (load : Load) (bench : Bench) (r : Moved) → CheckLoad load Good → HeldBench bench
+      → NextMove load bench r → SameMove r (move (viewOf load) (stateOf bench))
+  -- the schedule check says yes exactly when document 01's rules hold
+  pub says-yes : (load : Load) (slots : List Slot) (r : Checked) → CheckSchedule load slots r
+      → (r ≡ Good) ↔ RulesHold load slots
