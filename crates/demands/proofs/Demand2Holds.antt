@@ -35,7 +35,7 @@ use Rattle.demands.specs.Demand2.{fileIn, RulesHold, Demand2}
 use Rattle.demands.proofs.MovesHeld.{next-same}
 
 -- a file that is not refused, written back
-file-back : (bs : List ℕ) → Bytes bs → readLoad bs .answer ≡ Good → WrittenLoad (readLoad bs .load) bs
+pub file-back : (bs : List ℕ) → Bytes bs → readLoad bs .answer ≡ Good → WrittenLoad (readLoad bs .load) bs
 file-back bs b e = round-trip .read-write bs (readLoad bs .load) (round-trip .some-load bs b e)
 
 reads-writes : (bs : List ℕ) (r : Reading) → Bytes bs → ReadLoad bs r → r .answer ≡ Good → (out : List ℕ)

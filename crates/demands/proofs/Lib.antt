@@ -8,5 +8,8 @@ pub mod Demand1Holds
 pub mod StateHeld
 pub mod MovesHeld
 pub mod Demand2Holds
+pub mod RunByCalls
+pub mod Demand3Holds
 pub mod Computing
 pub mod LoadsHold
+pub mod RunsWorked

@@ -9,7 +9,7 @@ use Rattle.demands.specs.FaultyLoads.{loadB7, loadTwins, loadTwinsInOneB
 use Rattle.demands.specs.AllLoads.{SoundHolds, FaultyHolds, LoadsHold}
 use Rattle.demands.proofs.Computing.{computing}
 
-a-holds : SoundHolds loadA
+pub a-holds : SoundHolds loadA
 unfolding computing answersFor glimpseAfter loadA
 a-holds =
     record {
@@ -23,7 +23,7 @@ a-holds =
       prints = refl;
     }
 
-b-holds : SoundHolds loadB
+pub b-holds : SoundHolds loadB
 unfolding computing answersFor glimpseAfter loadB
 b-holds =
     record {

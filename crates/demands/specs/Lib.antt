@@ -3,6 +3,7 @@ pub mod PublicCalls
 pub mod Sameness
 pub mod Demand1
 pub mod Demand2
+pub mod Demand3
 pub mod Notation
 pub mod LoadsToTry
 pub mod LoadA
@@ -11,3 +12,4 @@ pub mod LoadPhase
 pub mod SmallLoads
 pub mod FaultyLoads
 pub mod AllLoads
+pub mod WorkedRuns
