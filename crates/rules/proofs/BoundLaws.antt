@@ -1,21 +1,18 @@
--- The bound of a load within its ranges is at most 806,400, and one load has that bound. The idea: at a place each row
--- has an embedded wait or a free one and never both, so that all embedded waits and the largest W of each place
--- together are at most 3,600 for each row and each of 7 places.
+-- The bound of a load within its ranges is at most 806,400. The idea: at a place each row has an embedded wait or a
+-- free one and never both, so that all embedded waits and the largest W of each place together are at most 3,600 for
+-- each row and each of 7 places.
 use Prim.Native.Nat.{ℕ, suc, _+_, _-_, _≤_, _<_}
 use mathlib.Core.Bool.{Bool, true, false, cond, _&&_, not}
-use mathlib.Core.List.{[], _∷_}
 use mathlib.Core.Path.{_≡_, refl, ap}
 use native.Mathlib.Omega.{arith}
 use borrow.Author.Tests.{ltb-true}
 use lib.Dec.{ltb}
 use Rattle.counting.specs.Sums.{sumTo, maxTo}
-use Rattle.counting.specs.Lists.{joinTo, joinIn, anyIn, sumIn}
-use Rattle.counting.specs.Sorting.{inserted, sorted}
 use Rattle.counting.proofs.SumLaws.{sumTo-add, sumTo-le, sumTo-split, sumTo-mono, maxTo-le}
 use Rattle.counting.proofs.MaxLaws.{maxTo-sumTo-le, sumTo-swap}
 use Rattle.counting.proofs.TestLaws.{and-left}
-use Rattle.load.specs.Load.{mostRows, mostSteps, largestCost, largestWait, latestPhase, lastMoment, largestLimit}
-use Rattle.load.specs.View.{View, embedded, freeWait, embeddedWait}
+use Rattle.load.specs.Load.{mostRows, mostSteps, largestCost, largestWait, latestPhase}
+use Rattle.load.specs.View.{View, freeWait, embeddedWait}
 use Rattle.rules.specs.Bound.{
   allCosts,
   largestPhase,
@@ -24,8 +21,6 @@ use Rattle.rules.specs.Bound.{
   waitLeft,
   largestW,
   boundBy,
-  partners,
-  pairCosts,
   smallestCosts,
   bound,
 }
@@ -59,7 +54,7 @@ module _ (L : View) (ranged : Ranged L) where
 
   largestPhase-le : largestPhase L ≤ 86400
   unfolding largestPhase
-  largestPhase-le = maxTo-le (L .phase) (L .rows) 86400 (ranged .phase-most)
+  largestPhase-le = maxTo-le (L .phase) _ 86400 (λ i l. ranged .phase-most i (omega arith))
 
   module _ (gives : View → ℕ → ℕ → ℕ) where
     waitLeft-le : (i j : ℕ) → i < L .rows → waitLeft gives L j i ≤ 3600
@@ -126,39 +121,3 @@ module _ (L : View) (ranged : Ranged L) where
 pub bound-le : (L : View) → Ranged L → bound L ≤ largestBound
 unfolding bound
 bound-le L ranged = boundBy-le L ranged smallestCosts
-
--- the load of the largest bound: every step of every row after its first is embedded
-unfoldable pub fullest : View
-fullest =
-    record {
-      rows = mostRows;
-      phase = λ i. latestPhase;
-      deadline = λ i. lastMoment;
-      steps = λ i. mostSteps;
-      cost = λ i j. largestCost;
-      wait = λ i j. cond (ltb (suc j) mostSteps) largestWait 0;
-      windows = λ i. record { first = 1; last = mostSteps; limit = largestLimit } ∷ [];
-    }
-
-pub bound-reached : bound fullest ≡ largestBound
-unfolding
-    fullest
-    bound
-    boundBy
-    allCosts
-    largestPhase
-    allEmbeddedWaits
-    largestW
-    smallestCosts
-    pairCosts
-    partners
-    embedded
-    sumTo
-    maxTo
-    anyIn
-    joinTo
-    joinIn
-    sumIn
-    sorted
-    inserted
-bound-reached = refl

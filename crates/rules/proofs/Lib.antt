@@ -44,3 +44,4 @@ pub mod CutPlan
 pub mod CutMoves
 pub mod CutRun
 pub mod Demand3
+pub mod BoundReached

@@ -136,9 +136,13 @@ pub data Turn (L : View) (s : State) : Type 0 where
   starts : (i : ℕ) → CanStart L s i → move L s ≡ handedBack L (startedFull L s i) (Start (nextSlot s i)) → Turn L s
   idles : ((i : ℕ) → CanStart L s i → ⊥) → move L s ≡ handedBack L (ticked s) Idle → Turn L s
 
+move-shaped : (L : View) (s : State) → shaped L s ≡ true → move L s ≡ shapedMove L s
+unfolding move
+move-shaped L s h = rw (h, move)
+
 pub move-done : (L : View) (s : State) → shaped L s ≡ true → allFinished L s ≡ true → move L s ≡ handedBack L s Done
-unfolding move shapedMove
-move-done L s h d = rw (h, move) (rw (d, shapedMove))
+unfolding shapedMove
+move-done L s h d = move-shaped L s h ∙ rw (d, shapedMove)
 
 pub chosen-at : (L : View) (s : State) (i : ℕ) → chosen L s ≡ at i → CanStart L s i
 unfolding chosen candidates
@@ -161,8 +165,8 @@ chosen-none L s e i c =
 
 pub move-goes : (L : View) (s : State) → shaped L s ≡ true → allFinished L s ≡ false → s .clock < lastMoment
     → move L s ≡ startOrIdle L s (chosen L s)
-unfolding move shapedMove
-move-goes L s h d l = rw (h, move) (rw (d, shapedMove) (rw (lt-leb lastMoment (s .clock) l)))
+unfolding shapedMove
+move-goes L s h d l = move-shaped L s h ∙ rw (d, shapedMove) (rw (lt-leb lastMoment (s .clock) l))
 
 pub move-turn : (L : View) (s : State) → shaped L s ≡ true → allFinished L s ≡ false → s .clock < lastMoment → Turn L s
 move-turn L s h d l = go (chosen L s) refl

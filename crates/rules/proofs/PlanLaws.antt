@@ -36,7 +36,8 @@ module _ (L L′ : View) (s s′ : State) where
   unfolding inTime
   inTime-ext t [] e = refl
   inTime-ext t (i ∷ rest) e =
-      rw (e .0 .released-same, e .0 .left-same, e .0 .due-same, inTime-ext (finish L′ s′ t i) rest (e .1))
+      let same : finish L s t i ≡ finish L′ s′ t i = omega (arith, e .0 .released-same, e .0 .left-same) in
+      rw (same, e .0 .due-same, inTime-ext (finish L′ s′ t i) rest (e .1))
 
   pub inTime-sooner : (t t′ : ℕ) (l : List ℕ) → Every (EasierJob L L′ s s′) l → t′ ≤ t → inTime L s t l ≡ true
       → inTime L′ s′ t′ l ≡ true

@@ -33,7 +33,20 @@ pub allowed-embedded : (L : View) (s : State) (i : ℕ) → embedded L i (s .fin
 unfolding isAllowed
 allowed-embedded L s i e = rw e
 
--- a lowest next step is allowed
+-- an allowed next step that is free is a lowest one
+pub allowed-free : (L : View) (s : State) (i : ℕ) → isAllowed L s i ≡ true → embedded L i (s .finished i) ≡ false
+    → (k : ℕ) → k < L .rows → min (s .finished i) (L .steps k) ≤ s .finished k
+unfolding isAllowed
+allowed-free L s i allowed free k l = go (embedded L i (s .finished i)) free allowed
+  where
+    go : (b : Bool) → b ≡ false → (b || allTo (finishedBelow L s (s .finished i)) (L .rows)) ≡ true
+        → min (s .finished i) (L .steps k) ≤ s .finished k
+    go true e h = absurd (true-false true refl e)
+    go false e h =
+        leb-true (min (s .finished i) (L .steps k)) (s .finished k)
+        (allTo-true (finishedBelow L s (s .finished i)) (L .rows) h k l)
+
+-- and a lowest next step is allowed
 pub allowed-lowest : (L : View) (s : State) (i : ℕ)
     → ((k : ℕ) → k < L .rows → min (s .finished i) (L .steps k) ≤ s .finished k) → isAllowed L s i ≡ true
 unfolding isAllowed
@@ -46,19 +59,6 @@ allowed-lowest L s i h =
         → (b || allTo (finishedBelow L s (s .finished i)) (L .rows)) ≡ true
     go true e = refl
     go false e = e
-
--- and an allowed next step that is free is one
-pub allowed-free : (L : View) (s : State) (i : ℕ) → isAllowed L s i ≡ true → embedded L i (s .finished i) ≡ false
-    → (k : ℕ) → k < L .rows → min (s .finished i) (L .steps k) ≤ s .finished k
-unfolding isAllowed
-allowed-free L s i allowed free k l = go (embedded L i (s .finished i)) free allowed
-  where
-    go : (b : Bool) → b ≡ false → (b || allTo (finishedBelow L s (s .finished i)) (L .rows)) ≡ true
-        → min (s .finished i) (L .steps k) ≤ s .finished k
-    go true e h = absurd (true-false true refl e)
-    go false e h =
-        leb-true (min (s .finished i) (L .steps k)) (s .finished k)
-        (allTo-true (finishedBelow L s (s .finished i)) (L .rows) h k l)
 
 -- a tick leaves what is spent and what was worked
 pub tick-worked : (L : View) (s : State) (p i : ℕ) → workedSince L (ticked s) p i ≡ workedSince L s p i
