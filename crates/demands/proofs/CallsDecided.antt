@@ -35,7 +35,7 @@ use Rattle.schedule.proofs.CallLaws.{
   WriteSchedule-unique,
   WriteArray-unique,
 }
-use Rattle.bench.proofs.CallLaws.{Fresh-unique, NextMove-unique}
+use Rattle.bench.proofs.CallLaws.{Fresh-unique, NextMove-unique, Runs-unique}
 use Rattle.demands.specs.PublicCalls.{Wrote, Writes, EveryCall}
 use Rattle.demands.specs.Sameness.{OneResult, Sameness}
 use Rattle.demands.specs.Demand1.{Answer}
@@ -82,6 +82,7 @@ sameness =
       write-array = λ slots n out. both _ (WriteArray-unique slots n out);
       fresh = Fresh-unique;
       next-move = NextMove-unique;
+      run = Runs-unique;
     }
 
 -- an equation is met by what it names
@@ -131,4 +132,5 @@ every-answer =
       write-array = λ slots n out. given (slotsFault (firstSlots slots n)) (scheduleBytes (firstSlots slots n)) out;
       fresh = is _;
       next-move = λ load bench. is _;
+      run = λ load. is _;
     }

@@ -18,6 +18,7 @@ demand1 =
       file-numbers = λ bs r e. rw e (file-gives bs .number);
       schedule-numbers = λ load slots r e. rw e (schedule-gives load slots .number);
       move-numbers = λ load bench r e. rw e (move-gives load bench);
+      run-numbers = λ load r e. rw e (load-gives load .number);
       load-stays = λ load out refusal after g. g .output-is;
       schedule-stays = λ slots out refusal after g. g .output-is;
       array-stays = λ slots n out refusal after g. g .output-is;

@@ -25,6 +25,7 @@ use Rattle.rules.proofs.RunLaws.{starts-next}
 use Rattle.rules.proofs.Demand3.{accepted-demand3, accepted-passes}
 use Rattle.bound.specs.declared.Judged.{Judged}
 use Rattle.bound.specs.Calls.{VerdictOf}
+use Rattle.bench.proofs.RunsLaws.{Runs-schedule}
 use Rattle.demands.specs.Demand1.{OneOf}
 use Rattle.demands.specs.Demand3.{Run, startsOf, RunKept, Demand3}
 use Rattle.demands.proofs.Demand2Holds.{file-back, demand2}
@@ -68,6 +69,7 @@ module _ (load : Load) (accepted : checkLoad load ≡ Good) (run : Run load) whe
             rw (clock-is n, demand2 .bounds load b e (ap (λ x. x .answer) e ∙ accepted)) (d .in-bound n);
         last-end = λ n h. d .last-end n h ∙ sym (clock-is n);
         all-starts = λ n h. d .all-starts n h ∙ starts-are n;
+        runs = Runs-schedule load accepted;
         keeps = d .rules;
         free-steps = d .free-steps;
         checked = λ c e. rw e (late-number load (schedule (viewOf load)) accepted (d .checked));

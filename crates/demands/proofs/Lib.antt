@@ -13,3 +13,4 @@ pub mod Demand3Holds
 pub mod Computing
 pub mod LoadsHold
 pub mod RunsWorked
+pub mod IdleShutOut

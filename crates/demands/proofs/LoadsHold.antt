@@ -107,7 +107,7 @@ waits0-holds =
       prints = refl;
     }
 
-empty-holds : SoundHolds loadEmpty
+pub empty-holds : SoundHolds loadEmpty
 unfolding computing answersFor glimpseAfter loadEmpty
 empty-holds =
     record {

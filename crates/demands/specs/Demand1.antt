@@ -23,8 +23,9 @@ use Rattle.rules.specs.Outcomes.{toldBy}
 use Rattle.schedule.specs.Calls.{CheckSchedule, WriteSchedule, WriteArray}
 use Rattle.bench.specs.declared.Bench.{Bench}
 use Rattle.bench.specs.declared.Moved.{Moved}
+use Rattle.bench.specs.declared.Ran.{Ran}
 use Rattle.bench.specs.Held.{refusedWith}
-use Rattle.bench.specs.Calls.{NextMove}
+use Rattle.bench.specs.Calls.{NextMove, Runs}
 use Rattle.demands.specs.PublicCalls.{EveryCall}
 
 -- a result that meets a relation
@@ -49,7 +50,7 @@ pub record Demand1 : Type 0 where
   pub numbered : (refusal : Refusal) (n : ℕ) → NumberOf refusal n → InTable n
   -- which is no other refusal's
   pub apart : (a b : Refusal) (n : ℕ) → NumberOf a n → NumberOf b n → a ≡ b
-  -- the numbers that a load, a file, a schedule and a move can be refused with
+  -- the numbers that a load, a file, a schedule, a move and a run can be refused with
   pub load-numbers : (load : Load) (r : Checked) → CheckLoad load r
       → OneOf (3 ∷ 4 ∷ 5 ∷ 6 ∷ 7 ∷ []) (numberGiven r)
   pub file-numbers : (bs : List ℕ) (r : Reading) → ReadLoad bs r
@@ -59,6 +60,8 @@ pub record Demand1 : Type 0 where
       → OneOf (3 ∷ 4 ∷ 5 ∷ 6 ∷ 7 ∷ 12 ∷ 13 ∷ 14 ∷ 15 ∷ 16 ∷ 17 ∷ []) (numberGiven r)
   pub move-numbers : (load : Load) (bench : Bench) (r : Moved) → NextMove load bench r
       → OneOf (3 ∷ 4 ∷ 5 ∷ 6 ∷ 7 ∷ 10 ∷ 11 ∷ []) (toldBy (r .outcome) .number)
+  pub run-numbers : (load : Load) (r : Ran) → Runs load r
+      → OneOf (3 ∷ 4 ∷ 5 ∷ 6 ∷ 7 ∷ []) (numberGiven (r .answer))
   -- a refused call leaves the output as it was
   pub load-stays : (load : Load) (out : List ℕ) (refusal : Refusal) (after : List ℕ)
       → WriteLoad load out (Refused refusal) after → after ≡ out

@@ -6,7 +6,7 @@ use Prim.Native.Nat.{ℕ, suc, _≤_, _<_}
 use mathlib.Core.Bool.{true}
 use mathlib.Core.List.{List, [], _∷_}
 use mathlib.Core.Path.{_≡_}
-use lib.ListN.{length}
+use lib.ListN.{length, take}
 use Rattle.counting.specs.Lists.{joinTo}
 use Rattle.words.specs.LittleEndian.{Bytes}
 use Rattle.refusals.specs.declared.Refusal.{Refusal}
@@ -33,7 +33,8 @@ use Rattle.bound.specs.Calls.{BoundOf, VerdictOf}
 use Rattle.schedule.specs.Calls.{CheckSchedule}
 use Rattle.bench.specs.declared.Bench.{Bench}
 use Rattle.bench.specs.declared.Moved.{Moved}
-use Rattle.bench.specs.Calls.{Fresh, NextMove}
+use Rattle.bench.specs.declared.Ran.{Ran}
+use Rattle.bench.specs.Calls.{Fresh, NextMove, Runs}
 use Rattle.demands.specs.Demand1.{OneOf}
 use Rattle.demands.specs.Demand2.{SameMove}
 
@@ -68,6 +69,8 @@ pub record RunKept (load : Load) (run : Run load) : Type 0 where
       → lastEnd (viewOf load) (schedule (viewOf load)) ≡ run .bench n .clock
   -- the schedule is its starts, all of them
   pub all-starts : (n : ℕ) → ends ≤ n → schedule (viewOf load) ≡ startsOf run n
+  -- and what the call of the whole run hands back
+  pub runs : (r : Ran) → Runs load r → take (r .count) (r .slots) ≡ schedule (viewOf load)
   -- each step is run once, and nothing else; phases, step order, waits and windows are kept with no
   -- overlap
   pub keeps : SlotRules (viewOf load) (schedule (viewOf load))

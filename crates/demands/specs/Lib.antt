@@ -13,3 +13,5 @@ pub mod SmallLoads
 pub mod FaultyLoads
 pub mod AllLoads
 pub mod WorkedRuns
+pub mod IdleBuilds
+pub mod ShutOut

@@ -38,7 +38,8 @@ use Rattle.bound.specs.Calls.{BoundOf, MarginsOf, VerdictOf, MarginBytes}
 use Rattle.schedule.specs.Calls.{CheckSchedule, CheckArray, WriteSchedule, WriteArray}
 use Rattle.bench.specs.declared.Bench.{Bench}
 use Rattle.bench.specs.declared.Moved.{Moved}
-use Rattle.bench.specs.Calls.{Fresh, NextMove}
+use Rattle.bench.specs.declared.Ran.{Ran}
+use Rattle.bench.specs.Calls.{Fresh, NextMove, Runs}
 
 -- what a writing call gives, and what its output holds afterwards
 pub record Wrote (A : Type 0) : Type 0 where
@@ -95,3 +96,4 @@ pub record EveryCall (Claim : (A : Type 0) → (A → Type 0) → Type 0) : Type
   -- bench
   pub fresh : Claim Bench Fresh
   pub next-move : (load : Load) (bench : Bench) → Claim Moved (NextMove load bench)
+  pub run : (load : Load) → Claim Ran (Runs load)
