@@ -1,6 +1,6 @@
 -- The table of refusals: each number lies in 1 to 17, and stands for one refusal only, as the refusal can be read off
 -- the list of all at that number.
-use Prim.Native.Nat.{ℕ, _-_, _≤_}
+use Prim.Native.Nat.{ℕ, _-_}
 use mathlib.Core.List.{List, [], _∷_}
 use mathlib.Core.Path.{_≡_, refl, ap, sym, _∙_}
 use native.Mathlib.Omega.{arith}
@@ -77,24 +77,21 @@ refusalAt-own RowLate = refl
 pub numberOf-apart : (a b : Refusal) → numberOf a ≡ numberOf b → a ≡ b
 numberOf-apart a b e = sym (refusalAt-own a) ∙ ap refusalAt e ∙ refusalAt-own b
 
-in-range : (n : ℕ) → 1 ≤ n → n ≤ 17 → InTable n
-in-range n least most = record { least = least; most = most }
-
 pub numberOf-in-table : (refusal : Refusal) → InTable (numberOf refusal)
-numberOf-in-table FileShort = in-range 1 (omega arith) (omega arith)
-numberOf-in-table MarkDiffers = in-range 2 (omega arith) (omega arith)
-numberOf-in-table OutOfRange = in-range 3 (omega arith) (omega arith)
-numberOf-in-table IdentifierTaken = in-range 4 (omega arith) (omega arith)
-numberOf-in-table BoxTaken = in-range 5 (omega arith) (omega arith)
-numberOf-in-table WindowSteps = in-range 6 (omega arith) (omega arith)
-numberOf-in-table LimitBelowChain = in-range 7 (omega arith) (omega arith)
-numberOf-in-table EndDiffers = in-range 8 (omega arith) (omega arith)
-numberOf-in-table OutputShort = in-range 9 (omega arith) (omega arith)
-numberOf-in-table StateShape = in-range 10 (omega arith) (omega arith)
-numberOf-in-table ClockFull = in-range 11 (omega arith) (omega arith)
-numberOf-in-table SlotCount = in-range 12 (omega arith) (omega arith)
-numberOf-in-table NoSuchSlot = in-range 13 (omega arith) (omega arith)
-numberOf-in-table SlotOverlaps = in-range 14 (omega arith) (omega arith)
-numberOf-in-table SlotEarly = in-range 15 (omega arith) (omega arith)
-numberOf-in-table WindowLate = in-range 16 (omega arith) (omega arith)
-numberOf-in-table RowLate = in-range 17 (omega arith) (omega arith)
+numberOf-in-table FileShort = record { least = omega arith; most = omega arith }
+numberOf-in-table MarkDiffers = record { least = omega arith; most = omega arith }
+numberOf-in-table OutOfRange = record { least = omega arith; most = omega arith }
+numberOf-in-table IdentifierTaken = record { least = omega arith; most = omega arith }
+numberOf-in-table BoxTaken = record { least = omega arith; most = omega arith }
+numberOf-in-table WindowSteps = record { least = omega arith; most = omega arith }
+numberOf-in-table LimitBelowChain = record { least = omega arith; most = omega arith }
+numberOf-in-table EndDiffers = record { least = omega arith; most = omega arith }
+numberOf-in-table OutputShort = record { least = omega arith; most = omega arith }
+numberOf-in-table StateShape = record { least = omega arith; most = omega arith }
+numberOf-in-table ClockFull = record { least = omega arith; most = omega arith }
+numberOf-in-table SlotCount = record { least = omega arith; most = omega arith }
+numberOf-in-table NoSuchSlot = record { least = omega arith; most = omega arith }
+numberOf-in-table SlotOverlaps = record { least = omega arith; most = omega arith }
+numberOf-in-table SlotEarly = record { least = omega arith; most = omega arith }
+numberOf-in-table WindowLate = record { least = omega arith; most = omega arith }
+numberOf-in-table RowLate = record { least = omega arith; most = omega arith }

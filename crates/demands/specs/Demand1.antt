@@ -1,7 +1,7 @@
 -- Demand 1: "Every input gets an answer and every call ends. No public call asks its caller to have
 -- checked anything. A refusal carries one number from document 01's table and alters no byte or
--- slot lent to it." That a call ends is part of what is proved of its code. To be read after
--- PublicCalls.
+-- slot lent to it." That a call ends is part of what is proved of its code, and what is lent to be
+-- read, as slots are, is altered by no call. To be read after PublicCalls. Rests on D49.
 use Prim.Native.Nat.{ℕ, _≤_}
 use mathlib.Core.Bool.{true}
 use mathlib.Core.List.{List, [], _∷_}

@@ -1,7 +1,7 @@
 -- Demand 2: "An accepted file reads to exactly one load, that load is written back to the same
 -- bytes, and a written load reads back as itself. The bound, the margins and every move equal
 -- document 01's definitions. The schedule check says yes exactly when document 01's rules hold."
--- Over any results that meet the calls' relations.
+-- Over any results that meet the calls' relations. Rests on D49.
 use Prim.Native.Nat.{ℕ}
 use mathlib.Core.List.{List}
 use mathlib.Core.Logic.{_↔_}

@@ -1,7 +1,7 @@
 -- Demand 3: "Any load that is not refused, started fresh, each step at full cost: the run ends by
 -- the bound, each step is run once, phases, step order, waits and windows are kept with no overlap;
 -- and if no margin is negative each row ends by its deadline and the check says yes." Over any
--- results that meet the calls' relations. To be read after Demand1 and Demand2.
+-- results that meet the calls' relations. To be read after Demand1 and Demand2. Rests on D50.
 use Prim.Native.Nat.{ℕ, suc, _≤_, _<_}
 use mathlib.Core.Bool.{true}
 use mathlib.Core.List.{List, [], _∷_}
