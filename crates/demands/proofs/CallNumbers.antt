@@ -45,6 +45,7 @@ use Rattle.load_file.specs.Reading.{
   headerTests,
   stepFaultIn,
   windowFaultIn,
+  ownFault,
   rowFaultAt,
   endTests,
   fileFault,
@@ -104,7 +105,7 @@ abbrev ofFile : List ℕ
 ofFile = 1 ∷ 2 ∷ 3 ∷ 4 ∷ 5 ∷ 6 ∷ 7 ∷ 8 ∷ []
 
 file-row-gives : (bs : List ℕ) (i place : ℕ) → Gives ofFile (rowFaultAt bs i place)
-unfolding rowFaultAt stepFaultIn windowFaultIn rowTests takenTests stepTests windowTests anyIn
+unfolding rowFaultAt ownFault stepFaultIn windowFaultIn rowTests takenTests stepTests windowTests anyIn
 file-row-gives bs i place =
     then-gives ofFile _ _
     (tests-give ofFile

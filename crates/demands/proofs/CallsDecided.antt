@@ -24,8 +24,7 @@ use Rattle.load.proofs.CallLaws.{
   ZeroLoad-unique,
 }
 use Rattle.load_file.specs.Writing.{loadBytes}
-use Rattle.load_file.proofs.ReadCallLaws.{ReadLoad-unique}
-use Rattle.load_file.proofs.WriteCallLaws.{WriteLoad-unique}
+use Rattle.load_file.proofs.CallLaws.{ReadLoad-unique, WriteLoad-unique}
 use Rattle.bound.proofs.CallLaws.{BoundOf-unique, MarginsOf-unique, VerdictOf-unique, MarginBytes-unique}
 use Rattle.schedule.specs.ScheduleFile.{slotsFault, scheduleBytes}
 use Rattle.schedule.specs.Calls.{firstSlots}

@@ -2,7 +2,6 @@
 -- is refused, and the check that says yes exactly when the rules hold.
 use Prim.Native.Nat.{ℕ}
 use mathlib.Core.List.{List, [], _∷_}
-use mathlib.Core.Logic.{_↔_}
 use mathlib.Core.Path.{_≡_, ap, sym, _∙_}
 use lib.ListN.{length, take, drop}
 use lib.Seq.{take-append-seam}
@@ -21,17 +20,14 @@ use Rattle.load_file.specs.Reading.{readLoad}
 use Rattle.load_file.specs.Calls.{ReadLoad, WriteLoad}
 use Rattle.load_file.specs.RoundTrip.{Held, accepted, WrittenLoad}
 use Rattle.load_file.proofs.RoundTrip.{round-trip, write-read}
-use Rattle.rules.specs.declared.Slot.{Slot}
 use Rattle.rules.specs.Bound.{bound}
-use Rattle.rules.specs.Margins.{margins, verdict}
-use Rattle.rules.specs.Check.{checkSchedule}
+use Rattle.rules.specs.Margins.{margins, bytesOfMargins, verdict}
 use Rattle.bound.specs.declared.Bounded.{Bounded}
 use Rattle.bound.specs.declared.Margined.{Margined}
 use Rattle.bound.specs.declared.Judged.{Judged}
 use Rattle.bound.specs.Calls.{ifGood, BoundOf, MarginsOf, VerdictOf}
-use Rattle.bound.proofs.MarginsRead.{marginBytes-is}
 use Rattle.schedule.proofs.CheckExactly.{checkSchedule-exactly}
-use Rattle.demands.specs.Demand2.{fileIn, RulesHold, Demand2}
+use Rattle.demands.specs.Demand2.{fileIn, Demand2}
 use Rattle.demands.proofs.MovesHeld.{next-same}
 
 -- a file that is not refused, written back
@@ -59,12 +55,6 @@ writes-reads load held out after h r e =
 if-good : {A : Type 0} → (found : Checked) (answer none : A) → found ≡ Good → ifGood found answer none ≡ answer
 if-good found answer none e = rw e
 
-yes-exactly : (load : Load) (slots : List Slot) → (checkSchedule load slots ≡ Good) ↔ RulesHold load slots
-yes-exactly load slots = (
-  λ e. (let k = checkSchedule-exactly load slots .0 e in record { accepts = sym (k .accepted); keeps = k .rules }),
-  λ k. checkSchedule-exactly load slots .1 (record { accepted = sym (k .accepts); rules = k .keeps }),
-)
-
 module _ (load : Load) where
   bound-is : (r : Bounded) → BoundOf load r → r .answer ≡ Good → r .bound ≡ bound (viewOf load)
   bound-is r e g =
@@ -90,8 +80,8 @@ demand2 =
       write-read = writes-reads;
       bounds = bound-is;
       margins-are = margins-is;
-      margins-written = λ load r e g bytes h. marginBytes-is (viewOf load) bytes (rw (margins-is load r e g) at h);
+      margins-written = λ load r e g bytes h. h ∙ ap bytesOfMargins (margins-is load r e g);
       verdicts = verdict-is;
       moves = λ load bench r good held e. rw e (next-same load (sym good) bench held);
-      says-yes = λ load slots r e. rw e (yes-exactly load slots);
+      says-yes = λ load slots r e. rw e (checkSchedule-exactly load slots);
     }

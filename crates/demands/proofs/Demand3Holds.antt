@@ -1,10 +1,11 @@
 -- Demand 3 holds: what the rules prove of every accepted load, told of any run by the calls, of the bound and the
 -- verdict that the calls give, and of the check's answer.
-use Prim.Native.Nat.{ℕ, zero, suc}
+use Prim.Native.Nat.{ℕ}
 use mathlib.Core.Bool.{true}
-use mathlib.Core.List.{List, [], _∷_, _++_}
-use mathlib.Core.Path.{_≡_, refl, ap, ap₂, sym, _∙_}
-use Rattle.counting.specs.Lists.{anyIn, joinTo}
+use mathlib.Core.List.{List, [], _∷_}
+use mathlib.Core.Path.{_≡_, ap, sym, _∙_}
+use Rattle.counting.specs.Lists.{anyIn}
+use Rattle.counting.proofs.ListLaws.{joinTo-ext}
 use Rattle.refusals.specs.declared.Checked.the-variants.{Good}
 use Rattle.refusals.specs.Refusals.{numberGiven}
 use Rattle.load.specs.declared.Load.{Load}
@@ -20,8 +21,7 @@ use Rattle.rules.specs.Run.{stateAfter, starts, schedule}
 use Rattle.rules.specs.Check.{checkSlots, checkSchedule}
 use Rattle.rules.specs.Demand3.{GoodOrLate, good, late, Demand3 as RulesKept}
 use Rattle.rules.proofs.GoodLaws.{acceptable-good}
-use Rattle.rules.proofs.MoveKeeps.{fresh-kept}
-use Rattle.rules.proofs.RunLaws.{starts-next}
+use Rattle.rules.proofs.RunLaws.{starts-joined}
 use Rattle.rules.proofs.Demand3.{accepted-demand3, accepted-passes}
 use Rattle.bound.specs.declared.Judged.{Judged}
 use Rattle.bound.specs.Calls.{VerdictOf}
@@ -45,12 +45,10 @@ module _ (load : Load) (accepted : checkLoad load ≡ Good) (run : Run load) whe
 
   -- the starts of the moves are the starts of the run
   starts-are : (n : ℕ) → starts (viewOf load) n fresh ≡ startsOf run n
-  unfolding joinTo starts
-  starts-are zero = refl
-  starts-are (suc n) =
-      starts-next (viewOf load) (acceptable-good (viewOf load) (check-acceptable load accepted)) n fresh
-      (fresh-kept (viewOf load) (acceptable-good (viewOf load) (check-acceptable load accepted)))
-      ∙ ap₂ _++_ (starts-are n) (ap (λ o. toldBy o .starts) (sym (run-moves load accepted run n .outcome-is)))
+  starts-are n =
+      starts-joined (viewOf load) (acceptable-good (viewOf load) (check-acceptable load accepted)) n
+      ∙ joinTo-ext _ (λ k. toldBy (run .moved k .outcome) .starts) n
+      (λ k l. ap (λ o. toldBy o .starts) (sym (run-moves load accepted run k .outcome-is)))
 
   clock-is : (n : ℕ) → run .bench n .clock ≡ stateAfter (viewOf load) n fresh .clock
   clock-is n = ap (λ (s : State). s .clock) (run-states load accepted run n)
@@ -64,7 +62,7 @@ module _ (load : Load) (accepted : checkLoad load ≡ Good) (run : Run load) whe
         same-moves = run-moves load accepted run;
         ends = d .moves;
         done = run-moves load accepted run (d .moves) .outcome-is ∙ d .done;
-        answers = λ n refusal e. d .answers n refusal (sym (run-moves load accepted run n .outcome-is) ∙ e);
+        numbers = λ n. ap (λ o. toldBy o .number) (run-moves load accepted run n .outcome-is) ∙ d .numbers n;
         in-bound = λ b e n.
             rw (clock-is n, demand2 .bounds load b e (ap (λ x. x .answer) e ∙ accepted)) (d .in-bound n);
         last-end = λ n h. d .last-end n h ∙ sym (clock-is n);

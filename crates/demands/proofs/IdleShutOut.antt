@@ -8,6 +8,7 @@ use lib.IntN.{pos}
 use lib.ListN.{length, getD}
 use Rattle.counting.proofs.TestLaws.{true-false}
 use Rattle.refusals.specs.declared.Checked.the-variants.{Refused}
+use Rattle.refusals.specs.Refusals.{numberOf}
 use Rattle.refusals.proofs.FirstMetLaws.{good-refused}
 use Rattle.load.specs.declared.Load.{Load}
 use Rattle.load.specs.View.{viewOf}
@@ -31,6 +32,7 @@ use Rattle.demands.specs.IdleBuilds.{fixedVerdict, startsAtOnce, invents
 use Rattle.demands.specs.ShutOut.{ShutOut}
 use Rattle.demands.proofs.Computing.{computing}
 use Rattle.demands.proofs.LoadsHold.{a-holds, b-holds, empty-holds}
+use Rattle.demands.proofs.Demand1Holds.{demand1}
 use Rattle.demands.proofs.Demand2Holds.{demand2}
 use Rattle.demands.proofs.Demand3Holds.{demand3}
 
@@ -117,7 +119,12 @@ shut-out =
           good-refused _ refusal (ap (λ (r : Reading). r .answer) (m ∙ a-holds .reads)) refl;
       refuses-loads = λ refusal m. good-refused (Refused refusal) refusal (m ∙ a-holds .checks) refl;
       refuses-moves = λ load good run n refusal e.
-          demand3 .of-loads load good run .answers n refusal (ap (λ (r : Moved). r .outcome) e);
+          omega (
+            arith,
+            demand3 .of-loads load good run .numbers n,
+            ap (λ (r : Moved). toldBy (r .outcome) .number) e,
+            demand1 .numbered refusal (numberOf refusal) refl .least,
+          );
       fixed-verdict = λ v m.
           true-false v (verdict-of loadB b-holds v (m (loadB .load)) ∙ b-yes)
           (verdict-of loadA a-holds v (m (loadA .load)) ∙ a-no);

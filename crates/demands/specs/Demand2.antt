@@ -23,12 +23,12 @@ use Rattle.rules.specs.declared.Slot.{Slot}
 use Rattle.rules.specs.Bound.{bound}
 use Rattle.rules.specs.Margins.{margins, marginBytes, verdict}
 use Rattle.rules.specs.Move.{Moved as Move, move}
-use Rattle.rules.specs.ScheduleRules.{ScheduleRules}
 use Rattle.bound.specs.declared.Bounded.{Bounded}
 use Rattle.bound.specs.declared.Margined.{Margined}
 use Rattle.bound.specs.declared.Judged.{Judged}
 use Rattle.bound.specs.Calls.{BoundOf, MarginsOf, VerdictOf, MarginBytes}
 use Rattle.schedule.specs.Calls.{CheckSchedule}
+use Rattle.schedule.specs.CheckExactly.{KeepsRules}
 use Rattle.bench.specs.declared.Bench.{Bench}
 use Rattle.bench.specs.declared.Moved.{Moved}
 use Rattle.bench.specs.Held.{stateOf}
@@ -50,11 +50,6 @@ pub record SameMove (r : Moved) (m : Move) : Type 0 where
   pub outcome-is : r .outcome ≡ m .outcome
   pub lamps-are : r .lamps ≡ m .lamps
   pub count-is : r .count ≡ m .count
-
--- document 01's rules: none of 3 to 7 is given, and the schedule keeps its rules
-pub record RulesHold (load : Load) (slots : List Slot) : Type 0 where
-  pub accepts : CheckLoad load Good
-  pub keeps : ScheduleRules (viewOf load) slots
 
 -- demand 2
 pub record Demand2 : Type 0 where
@@ -85,4 +80,4 @@ pub record Demand2 : Type 0 where
       → NextMove load bench r → SameMove r (move (viewOf load) (stateOf bench))
   -- the schedule check says yes exactly when document 01's rules hold
   pub says-yes : (load : Load) (slots : List Slot) (r : Checked) → CheckSchedule load slots r
-      → (r ≡ Good) ↔ RulesHold load slots
+      → (r ≡ Good) ↔ KeepsRules load slots

@@ -9,7 +9,6 @@ use mathlib.Core.Path.{_≡_}
 use lib.ListN.{length, take}
 use Rattle.counting.specs.Lists.{joinTo}
 use Rattle.words.specs.LittleEndian.{Bytes}
-use Rattle.refusals.specs.declared.Refusal.{Refusal}
 use Rattle.refusals.specs.declared.Checked.{Checked}
 use Rattle.refusals.specs.declared.Checked.the-variants.{Good}
 use Rattle.refusals.specs.Refusals.{numberGiven}
@@ -19,7 +18,7 @@ use Rattle.load.specs.Calls.{CheckLoad}
 use Rattle.load_file.specs.declared.Reading.{Reading}
 use Rattle.load_file.specs.Calls.{ReadLoad}
 use Rattle.rules.specs.declared.Slot.{Slot}
-use Rattle.rules.specs.declared.Outcome.the-variants.{Done, Refused}
+use Rattle.rules.specs.declared.Outcome.the-variants.{Done}
 use Rattle.rules.specs.Outcomes.{toldBy}
 use Rattle.rules.specs.Margins.{rowBound}
 use Rattle.rules.specs.State.{fresh}
@@ -62,7 +61,7 @@ pub record RunKept (load : Load) (run : Run load) : Type 0 where
   -- it ends: after so many moves the answer is Done, and no move on the way is refused
   pub ends : ℕ
   pub done : run .moved ends .outcome ≡ Done
-  pub answers : (n : ℕ) (refusal : Refusal) → run .moved n .outcome ≡ Refused refusal → ⊥
+  pub numbers : (n : ℕ) → toldBy (run .moved n .outcome) .number ≡ 0
   -- by the bound: the clock is never past it, and the last step ends with the run
   pub in-bound : (b : Bounded) → BoundOf load b → (n : ℕ) → run .bench n .clock ≤ b .bound
   pub last-end : (n : ℕ) → ends ≤ n
