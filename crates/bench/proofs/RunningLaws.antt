@@ -5,6 +5,7 @@ use Prim.Native.Nat.{ℕ, _+_, _-_, _≤_, _<_}
 use mathlib.Core.Bool.{true, false}
 use mathlib.Core.List.{List, [], _++_, append-nil}
 use mathlib.Core.Path.{_≡_, refl, ap, ap₂, sym, _∙_, subst}
+use native.Mathlib.Decide.{ℕ-discrete}
 use native.Mathlib.Omega.{arith}
 use lib.ListN.{length, replicate}
 use Rattle.counting.specs.Lists.{filled}
@@ -25,17 +26,19 @@ use Rattle.rules.proofs.Good.{Good as GoodView}
 use Rattle.rules.proofs.GoodLaws.{acceptable-good}
 use Rattle.rules.proofs.MoveKeeps.{Kept, fresh-kept, kept-early, kept-shaped}
 use Rattle.rules.proofs.ClockBound.{tightBound-fits}
-use Rattle.rules.proofs.StretchLaws.{later, Quiet, later-none, starts-done, quiet-kept, quiet-starts}
+use Rattle.rules.proofs.StretchLaws.{later, Quiet, starts-done, quiet-kept, quiet-starts}
 use Rattle.bench.specs.declared.Bench.{Bench}
 use Rattle.bench.specs.declared.Board.{Board}
 use Rattle.bench.specs.Held.{stateOf, benchOf}
 use Rattle.bench.specs.Boards.{Shows}
 use Rattle.bench.specs.Choices.{ChosenIn}
 use Rattle.bench.specs.Moves.{finishedIn}
+use Rattle.bench.specs.Running.{QuietTo}
 use Rattle.bench.specs.Runs.{ranWith}
 use Rattle.bench.proofs.HeldLaws.{Sized}
 use Rattle.bench.proofs.ChoiceLaws.{chosen-nothing}
 use Rattle.bench.proofs.NextLaws.{finished-is}
+use Rattle.bench.proofs.QuietLaws.{quiet-chosen}
 use Rattle.bench.proofs.LaterBoards.{benchAt, fresh-sized, fresh-state, benchAt-sized, shows-at}
 
 -- the run at a turn: its bench is in no place of memory
@@ -130,17 +133,28 @@ module _ (load : Load) (accepted : checkLoad load ≡ Good) (most : load .rows �
           slots-are = r .slots-are;
         }
 
-    -- one tick
-    pub running-tick : finishedIn board (load .rows) ≡ false → (i : ℕ) → load .rows ≤ i
-        → ChosenIn board clock (load .rows) i → Running load board (clock + 1) count slots
-    running-tick nd i h c = running-idle nd 1 (omega (arith, running-early nd)) quiet
+    -- to a moment before which nothing is chosen
+    pub running-on : finishedIn board (load .rows) ≡ false → (i t : ℕ) → load .rows ≤ i
+        → ChosenIn board clock (load .rows) i → QuietTo board clock (load .rows) t → Running load board t count slots
+    running-on nd i t h c q =
+        subst (λ m. Running load board m count slots) on (running-idle nd (t - clock) (omega (arith, q .most)) quiet)
       where
-        now : chosen L s ≡ none
-        now =
-            chosen-nothing load (r .bench) board (r .shows) most i
-            (subst (λ t. ChosenIn board t (load .rows) i) (sym (r .clock-is)) c) h
+        on : clock + (t - clock) ≡ t
+        on = omega (arith, q .later)
 
-        quiet : Quiet L s 1
-        quiet d l =
-            let e : d ≡ 0 = omega arith in
-            subst (λ (t : State). chosen L t ≡ none) (sym (ap (later s) e ∙ later-none s)) now
+        shown-at : (m : ℕ) → Shows load (benchAt (r .bench) m) board
+        shown-at m = shows-at load (r .bench) board (r .shows) m
+
+        none-at : (m : ℕ) → clock ≤ m → m < t → chosen L (stateOf (benchAt (r .bench) m)) ≡ none
+        none-at m a b =
+            elim (ℕ-discrete m clock) [
+              | yes e ↦
+                  chosen-nothing load (benchAt (r .bench) m) board (shown-at m) most i
+                  (subst (λ x. ChosenIn board x (load .rows) i) (sym e) c) h
+              | no e ↦
+                  chosen-nothing load (benchAt (r .bench) m) board (shown-at m) most (load .rows)
+                  (quiet-chosen board m (load .rows) (λ k. q .quiet m k (omega arith) b)) (omega arith)
+            ]
+
+        quiet : Quiet L s (t - clock)
+        quiet d l = none-at (r .bench .clock + d) (omega (arith, r .clock-is)) (omega (arith, r .clock-is))

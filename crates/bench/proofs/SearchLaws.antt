@@ -72,6 +72,16 @@ module _ (look : Look) (clock : ℕ) (below : Bool) (e : candidateBy look clock 
       ltb-true (look .finished) (look .steps)
       (and-left more ready (and-left (more && ready) allowed (and-left (more && ready && allowed) ends e)))
 
+  pub candidate-ready : look .release ≤ clock
+  unfolding more ready allowed ends
+  candidate-ready =
+      leb-true (look .release) clock
+      (and-right more ready (and-left (more && ready) allowed (and-left (more && ready && allowed) ends e)))
+
+  pub candidate-allowed : (look .held || below) ≡ true
+  unfolding more ready allowed ends
+  candidate-allowed = and-right (more && ready) allowed (and-left (more && ready && allowed) ends e)
+
   pub candidate-ends : clock + look .cost ≤ lastMoment
   unfolding more ready allowed ends
   candidate-ends = leb-true (clock + look .cost) lastMoment (and-right (more && ready && allowed) ends e)

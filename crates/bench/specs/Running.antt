@@ -1,13 +1,16 @@
--- What the code of the run looks up at a start. Nothing here is to be believed: run's own contract
--- cites the schedule. To be read after Choices.
-use Prim.Native.Nat.{ℕ, _+_}
+-- What the code of the run looks up at a start, and the moment to which its clock goes where
+-- nothing starts. Nothing here is to be believed: run's own contract cites the schedule. To be read
+-- after Choices.
+use Prim.Native.Nat.{ℕ, _+_, _≤_, _<_}
+use mathlib.Core.Bool.{true}
+use mathlib.Core.Path.{_≡_}
 use Rattle.load.specs.declared.Load.{Load}
-use Rattle.load.specs.Load.{rowAt}
+use Rattle.load.specs.Load.{lastMoment, rowAt}
 use Rattle.bench.specs.declared.Look.{Look}
 use Rattle.bench.specs.declared.Board.{Board}
 use Rattle.bench.specs.Alike.{viewAlike, stateAlike, lookOf}
 use Rattle.bench.specs.Boards.{lookIn}
-use Rattle.bench.specs.Choices.{openingIn}
+use Rattle.bench.specs.Choices.{openingIn, candidateIn}
 
 -- row i once its next step, started at a moment, is over
 abbrev pub lookAfter : Load → Board → ℕ → ℕ → Look
@@ -16,3 +19,9 @@ lookAfter load board clock i =
     (stateAlike 0 (lookIn board i .finished + 1) (clock + lookIn board i .cost)
     (openingIn board clock i))
     0
+
+-- r is a later moment, 1,000,000 at the latest, and between the two no step is a candidate
+pub record QuietTo (board : Board) (clock rows r : ℕ) : Type 0 where
+  pub later : clock < r
+  pub most : r ≤ lastMoment
+  pub quiet : (t k : ℕ) → clock < t → t < r → k < rows → candidateIn board t rows k ≡ true → ⊥

@@ -6,6 +6,7 @@ mod lamps;
 mod lookups;
 mod moves;
 mod plan;
+mod quiet;
 mod runs;
 mod search;
 mod shape;

@@ -6,6 +6,7 @@ use crate::Ran;
 use crate::boards::board_of;
 use crate::lookups::look_of;
 use crate::moves::all_finished;
+use crate::quiet::next_moment;
 use crate::search::opening_after;
 use crate::search::search;
 use crate::state::fresh;
@@ -43,8 +44,8 @@ fn look_after(load: Load, board: Board, clock: u32, i: usize) -> Look
     look_of(row, board.finished[i] + 1, end, opening)
 }
 
-// Runs a load that was checked: starts the first candidate that passes, or moves the clock one
-// tick, until all steps are finished.
+// Runs a load that was checked: starts the first candidate that passes, or moves the clock on to a
+// moment before which nothing starts, until all steps are finished.
 fn run_checked(load: Load) -> Ran
     requires { ⌜ checkLoad load ≡ Good ⌝ }
     ensures { λ r. ⌜ r ≡ ranWith Good (schedule (viewOf load)) ⌝ }
@@ -73,7 +74,7 @@ fn run_checked(load: Load) -> Ran
             board = board.with_look(i, look);
             done = all_finished(board, rows);
         } else {
-            clock += 1;
+            clock = next_moment(board, clock, rows);
         }
     }
     Ran {

@@ -32,7 +32,7 @@ fn lower_step(lowest: u8, finished: u8, steps: u8) -> u8
 
 // Gives the lowest step that some row has not finished: the rows have finished all their steps
 // below a place where that is not after it.
-fn lowest_step(board: Board, rows: usize) -> u8
+pub fn lowest_step(board: Board, rows: usize) -> u8
     requires { ⌜ rows ≤ 24 ⌝ }
     ensures { λ r. ⌜ ((j : ℕ) → j ≤ 8 → allTo (belowIn board j) rows ≡ leb j r) ⌝ }
 {
@@ -44,7 +44,7 @@ fn lowest_step(board: Board, rows: usize) -> u8
 }
 
 // Says whether a row's next step is allowed: embedded, or not after the lowest unfinished one.
-fn is_allowed(held: bool, finished: u8, lowest: u8) -> bool
+pub fn is_allowed(held: bool, finished: u8, lowest: u8) -> bool
     ensures { λ r. ⌜ r ≡ (held || leb finished lowest) ⌝ }
 {
     if held {

@@ -1,5 +1,5 @@
--- `run_checked` makes one start, or one tick, a turn. What holds at every turn is `Running`: the slots so far are the
--- first of the schedule. The clock goes on at each turn, and with work left it is before the last moment.
+-- `run_checked` makes one start a turn, or lets ticks pass at which nothing starts. What holds at every turn is
+-- `Running`: the slots so far are the first of the schedule. The clock goes on at each turn, 1,000,000 at the latest.
 use Prim.Native.Nat.{_-_, _≤_, _<_}
 use mathlib.Core.Bool.{false}
 use mathlib.Core.Path.{_≡_, sym, _∙_, subst}
@@ -18,7 +18,7 @@ use Rattle.bench.proofs.RunningLaws.{
   running-fresh,
   running-early,
   running-done,
-  running-tick,
+  running-on,
 }
 use Rattle.bench.proofs.StartedRun.{Startable, running-startable, running-start}
 use borrow.Author.Needs.{needs}
@@ -87,8 +87,7 @@ module _ (c : tie.Then1 Inv-loop μ-loop) where
 look-after-requires : tie.Need-look-after-requires Inv-loop μ-loop
 look-after-requires c κs =
     let t = turn (c .before) in
-    let l = c .before .if1 .taken in
-    (start t .pre, (fits t, (l, c .before .before .search .ensures .candidate l)))
+    let l = c .before .if1 .taken in (start t .pre, (fits t, (l, c .before .before .search .ensures .candidate l)))
 
 loop-again : tie.Need-loop-again Inv-loop μ-loop
 loop-again c =
@@ -104,10 +103,11 @@ loop-again c =
 
 loop-again-2 : tie.Need-loop-again-2 Inv-loop μ-loop
 loop-again-2 c =
-    let t = c .before .before in (
+    let left = c .before in
+    let t = left .before .before in (
       t .before .loop .inv .0,
-      running-tick (load t) (start t .pre) (rows-most t) _ _ _ _ (t .before .loop .inv .1) (work-left t) _
-          (c .if1 .left) (c .before .search .ensures),
+      running-on (load t) (start t .pre) (rows-most t) _ _ _ _ (t .before .loop .inv .1) (work-left t) _ _
+          (left .if1 .left) (left .before .search .ensures) (c .next-moment .ensures),
     )
 
 returns : tie.Need-returns Inv-loop μ-loop
@@ -144,7 +144,7 @@ run-checked-spec =
     (λ c κs. rows-most (c .before .before .before .before .before .before))
     (λ c. omega (arith, goes (c .before .before .before .before .before)))
     loop-again
-    (λ c. omega (arith, early (c .before .before)))
-    (λ c. omega (arith, early (c .before .before)))
+    (λ c κs. (fits (c .before .before), early (c .before .before)))
+    (λ c. omega (arith, c .next-moment .ensures))
     loop-again-2
     returns)
