@@ -2,7 +2,16 @@
 use Prim.Native.Nat.{ℕ}
 use mathlib.Core.List.{List}
 use mathlib.Core.Path.{_≡_, sym, _∙_}
-use Rattle.words.specs.Calls.{ByteAt, NumberAt, Overwrite, LittleEndian}
+use lib.IntN.{ℤ}
+use Rattle.words.specs.declared.Word.{Word}
+use Rattle.words.specs.Calls.{
+  ByteAt,
+  NumberAt,
+  Overwrite,
+  LittleEndian,
+  DecimalOf,
+  SignedOf,
+}
 
 pub ByteAt-unique : (bs : List ℕ) (at r s : ℕ) → ByteAt bs at r → ByteAt bs at s → r ≡ s
 ByteAt-unique bs at r s p q = p ∙ sym q
@@ -17,3 +26,9 @@ Overwrite-unique out at bytes after later p q = p ∙ sym q
 
 pub LittleEndian-unique : (width n : ℕ) (r s : List ℕ) → LittleEndian width n r → LittleEndian width n s → r ≡ s
 LittleEndian-unique width n r s p q = p ∙ sym q
+
+pub DecimalOf-unique : (n : ℕ) (r s : Word) → DecimalOf n r → DecimalOf n s → r ≡ s
+DecimalOf-unique n r s p q = p ∙ sym q
+
+pub SignedOf-unique : (z : ℤ) (r s : Word) → SignedOf z r → SignedOf z s → r ≡ s
+SignedOf-unique z r s p q = p ∙ sym q

@@ -2,5 +2,7 @@
 -- word, and sameness of results.
 pub mod LittleEndianLaws
 pub mod OverwriteLaws
+pub mod DecimalLaws
+pub mod SignLaws
 pub mod LampLaws
 pub mod CallLaws

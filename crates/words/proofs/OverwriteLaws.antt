@@ -7,7 +7,7 @@ use native.Mathlib.Nat.{mul-comm}
 use native.Mathlib.Numerals.{add-one}
 use native.Mathlib.Omega.{arith}
 use lib.ListN.{length, drop, getD, set}
-use lib.Seq.{sets, sets-eq, set-out, drop-cons}
+use lib.Seq.{sets, sets-eq, set-out, set-comm, drop-cons}
 use Rattle.counting.specs.Lists.{joinTo}
 use Rattle.counting.proofs.ListLaws.{joinTo-zero, joinTo-next, joinTo-length-same}
 
@@ -33,6 +33,14 @@ module _ {A : Type 0} where
   sets-append out at (x ∷ xs) ys =
       let e : at + suc (length xs) ≡ suc at + length xs = omega arith in
       rw e (sets-append (set out at x) (suc at) xs ys)
+
+  -- what is written behind a piece may be written before it
+  pub sets-set : (out : List A) (at place : ℕ) (xs : List A) (x : A) → at + length xs ≤ place
+      → sets (set out place x) at xs ≡ set (sets out at xs) place x
+  sets-set out at place [] x h = refl
+  sets-set out at place (y ∷ ys) x h =
+      ap (λ l. sets l (suc at) ys) (set-comm out place at x y (λ e. absurd (omega arith)))
+      ∙ sets-set (set out at y) (suc at) place ys x (omega arith)
 
   -- the same, at a place that is known to be the next one
   pub sets-behind : (out : List A) (at next : ℕ) (xs ys : List A) → next ≡ at + length xs

@@ -1,10 +1,23 @@
-// Bytes and little-endian numbers: reading at any place, writing from any place on, and the bytes
-// of a number. No call refuses: a byte past the end reads as 0, and is not written.
+// Bytes and numbers: reading at any place, writing from any place on, the little-endian bytes of a
+// number and its decimal text. No call refuses: a byte past the end reads as 0, and is not written.
+mod decimal;
+
+pub use decimal::decimal_of;
+pub use decimal::signed_of;
 ghost use mathlib.Core.Path.{_≡_};
 ghost use Prim.Native.Nat.{_+_, _-_, _≤_, _<_};
 ghost use lib.ListN.{drop};
 ghost use Rattle.words.specs.LittleEndian.{byteAt};
 ghost use Rattle.words.specs.Calls.{ByteAt, NumberAt, Overwrite, LittleEndian};
+
+// How many places a word has: a sign and the ten digits that hold every number of 32 bits.
+pub const WORD_PLACES: usize = 11;
+
+// A number as text: so many bytes, and 0 in the places past them.
+pub struct Word {
+    pub length: usize,
+    pub bytes: [u8; WORD_PLACES],
+}
 
 // The byte at a place; 0 past the end.
 pub fn byte_at(bytes: &[u8], at: usize) -> u8
