@@ -1,2 +1,3 @@
 -- What the program prints for a load file.
 pub mod Lines
+pub mod Parts

@@ -1,1 +1,3 @@
-// What the program prints, as bytes. The call that makes it comes with its proof.
+// What the program prints, as bytes.
+mod line;
+mod text;

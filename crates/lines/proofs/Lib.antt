@@ -1,0 +1,3 @@
+-- Laws of what the program prints.
+pub mod PutLaws
+pub mod LineLaws

@@ -1,0 +1,39 @@
+-- Laws of a text that is gathered piece by piece: two pieces put one behind the other are put as one.
+use Prim.Native.Nat.{ℕ, suc, _+_, _-_, _≤_}
+use mathlib.Core.List.{List, _∷_, _++_}
+use mathlib.Core.Path.{_≡_, ap, _∙_}
+use native.Mathlib.Omega.{arith}
+use lib.ListN.{length, take, replicate, length-append}
+use lib.Seq.{take-append-seam}
+use Rattle.words.specs.declared.Word.{Word}
+use Rattle.words.specs.Calls.{wordPlaces, wordHolding}
+use Rattle.words.proofs.OverwriteLaws.{sets-more}
+use Rattle.lines.specs.Parts.{Put}
+
+module _ {before text after : List ℕ} {at next last : ℕ} {xs ys : List ℕ} where
+  pub put-more : Put before at xs text next → Put text next ys after last → Put before at (xs ++ ys) after last
+  put-more p q =
+      record {
+        text-is = sets-more before text after at next xs ys (p .place-is) (p .text-is) (q .text-is);
+        place-is = omega (arith, p .place-is, q .place-is, length-append xs ys);
+      }
+
+-- the same bytes, otherwise written
+pub put-same : {before after : List ℕ} {at next : ℕ} {xs ys : List ℕ} → xs ≡ ys
+    → Put before at xs after next → Put before at ys after next
+put-same e p = rw e at p
+
+-- the bytes that a word counts are the text that it holds
+word-taken : (word : Word) (bs : List ℕ) → word ≡ wordHolding bs → take (word .length) (word .bytes) ≡ bs
+word-taken word bs e =
+    ap (λ (w : Word). take (w .length) (w .bytes)) e ∙ take-append-seam bs (replicate (wordPlaces - length bs) 0)
+
+-- a space and a word that holds a text of at most so many bytes
+pub put-held : {before after : List ℕ} {at next : ℕ} (word : Word) (bs : List ℕ) (most : ℕ)
+    → word ≡ wordHolding bs → length bs ≤ most
+    → Put before at (32 ∷ take (word .length) (word .bytes)) after next
+    → Put before at (32 ∷ bs) after next × (next ≤ at + suc most)
+put-held word bs most e h p =
+    let q = put-same (ap (λ l. 32 ∷ l) (word-taken word bs e)) p in
+    let l = q .place-is in
+    (q, omega arith)

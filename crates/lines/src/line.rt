@@ -1,0 +1,71 @@
+// The lines of the program, each put into a text from a place on; a call gives the place behind its
+// line. No call refuses.
+use crate::text::put_bytes;
+use crate::text::put_number;
+use crate::text::put_signed;
+use crate::text::put_verdict;
+use load::Row;
+use refusals::Refusal;
+use refusals::number_of;
+use rules::Slot;
+ghost use Prim.Native.Nat.{_+_, _≤_};
+ghost use Rattle.lines.specs.Lines.{slotLine, refusedLine};
+ghost use Rattle.lines.specs.Parts.{Put, textPlaces, firstLineOf, rowLineOf};
+
+// Puts the first line: rows, steps, end of the last step, bound, verdict.
+pub fn put_first(
+    text: &mut [u8],
+    rows: u8,
+    steps: u32,
+    end: u32,
+    bound: u32,
+    verdict: bool,
+) -> usize
+    ensures { λ r. ⌜ Put (now (text .entry)) 0
+        (firstLineOf rows steps end bound verdict) (now (text .exit)) r × (r ≤ 53) ⌝ }
+{
+    let mut at = put_bytes(text, 0, b"load");
+    at = put_number(text, at, rows as u32);
+    at = put_number(text, at, steps);
+    at = put_number(text, at, end);
+    at = put_number(text, at, bound);
+    at = put_verdict(text, at, verdict);
+    put_bytes(text, at, b"\n")
+}
+
+// Puts a row line: row, counted from 1, identifier, box, margin.
+pub fn put_row(text: &mut [u8], at: usize, number: u32, row: Row, margin: i32) -> usize
+    requires { ⌜ at ≤ textPlaces ⌝ }
+    ensures { λ r. ⌜ Put (now (text .entry)) at
+        (rowLineOf number row margin) (now (text .exit)) r × (r ≤ at + 49) ⌝ }
+{
+    let mut next = put_bytes(text, at, b"row");
+    next = put_number(text, next, number);
+    next = put_number(text, next, row.identifier.0);
+    next = put_number(text, next, row.box_number.0);
+    next = put_signed(text, next, margin);
+    put_bytes(text, next, b"\n")
+}
+
+// Puts a slot line: start, row, step.
+pub fn put_slot(text: &mut [u8], at: usize, slot: Slot) -> usize
+    requires { ⌜ at ≤ textPlaces ⌝ }
+    ensures { λ r. ⌜ Put (now (text .entry)) at
+        (slotLine slot) (now (text .exit)) r × (r ≤ at + 38) ⌝ }
+{
+    let mut next = put_bytes(text, at, b"slot");
+    next = put_number(text, next, slot.start);
+    next = put_number(text, next, slot.row as u32);
+    next = put_number(text, next, slot.step as u32);
+    put_bytes(text, next, b"\n")
+}
+
+// Puts the one line of a refused file: the number.
+pub fn put_refused(text: &mut [u8], refusal: Refusal) -> usize
+    ensures { λ r. ⌜ Put (now (text .entry)) 0
+        (refusedLine refusal) (now (text .exit)) r × (r ≤ textPlaces) ⌝ }
+{
+    let at = put_bytes(text, 0, b"refused");
+    let next = put_number(text, at, number_of(refusal));
+    put_bytes(text, next, b"\n")
+}
