@@ -1,10 +1,12 @@
 -- Laws of a text that is gathered piece by piece: two pieces put one behind the other are put as one.
 use Prim.Native.Nat.{ℕ, suc, _+_, _-_, _≤_}
 use mathlib.Core.List.{List, _∷_, _++_}
-use mathlib.Core.Path.{_≡_, ap, _∙_}
+use mathlib.Core.Path.{_≡_, refl, ap, sym, _∙_}
 use native.Mathlib.Omega.{arith}
 use lib.ListN.{length, take, replicate, length-append}
 use lib.Seq.{take-append-seam}
+use Rattle.counting.specs.Lists.{joinTo}
+use Rattle.counting.proofs.ListLaws.{joinTo-next}
 use Rattle.words.specs.declared.Word.{Word}
 use Rattle.words.specs.Calls.{wordPlaces, wordHolding}
 use Rattle.words.proofs.OverwriteLaws.{sets-more}
@@ -22,6 +24,17 @@ module _ {before text after : List ℕ} {at next last : ℕ} {xs ys : List ℕ} 
 pub put-same : {before after : List ℕ} {at next : ℕ} {xs ys : List ℕ} → xs ≡ ys
     → Put before at xs after next → Put before at ys after next
 put-same e p = rw e at p
+
+-- of a run of pieces none is put yet
+pub put-none : (f : ℕ → List ℕ) (text : List ℕ) (at : ℕ) → Put text at (joinTo f 0) text at
+unfolding joinTo
+put-none f text at = record { text-is = refl; place-is = omega arith }
+
+-- so many are put, and the next one behind them
+pub put-next : {before text after : List ℕ} {at next last : ℕ} (f : ℕ → List ℕ) (n : ℕ)
+    → Put before at (joinTo f n) text next → Put text next (f n) after last
+    → Put before at (joinTo f (n + 1)) after last
+put-next f n p q = put-same (sym (joinTo-next f n)) (put-more p q)
 
 -- the bytes that a word counts are the text that it holds
 word-taken : (word : Word) (bs : List ℕ) → word ≡ wordHolding bs → take (word .length) (word .bytes) ≡ bs

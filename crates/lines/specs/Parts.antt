@@ -1,20 +1,53 @@
 -- What the parts of the code give: bytes put into a text from a place on, and lines of plain
 -- numbers. The promises do not cite this page.
-use Prim.Native.Nat.{ℕ, _+_}
+use Prim.Native.Nat.{ℕ, _+_, _*_, _≤_}
 use mathlib.Core.Bool.{Bool}
 use mathlib.Core.List.{List, [], _∷_}
 use mathlib.Core.Path.{_≡_}
 use lib.IntN.{ℤ}
-use lib.ListN.{length}
+use lib.ListN.{length, take}
 use lib.Seq.{sets}
 use Rattle.words.specs.Decimal.{decimal, signedDecimal}
+use Rattle.refusals.specs.declared.Checked.the-variants.{Good}
 use Rattle.load.specs.declared.Row.{Row}
+use Rattle.load.specs.declared.Load.{Load}
+use Rattle.load.specs.Load.{mostRows}
+use Rattle.load.specs.View.{viewOf, stepsInAll}
+use Rattle.load.specs.Check.{checkLoad}
+use Rattle.rules.specs.declared.Slot.{Slot}
+use Rattle.rules.specs.Run.{schedule}
 use Rattle.lines.specs.Lines.{line, yesOrNo}
 
--- how many bytes the gathered text may have: a first line of at most 53 bytes, 24 row lines of at
--- most 49, and 192 slot lines of at most 38
+-- 24 rows of 8 steps have at most 192 slots
+abbrev pub mostSlots : ℕ
+mostSlots = 192
+
+-- the most bytes of a first line
+abbrev pub firstMost : ℕ
+firstMost = 53
+
+-- the most bytes of a row line
+abbrev pub rowMost : ℕ
+rowMost = 49
+
+-- the most bytes of a slot line
+abbrev pub slotMost : ℕ
+slotMost = 38
+
+-- the place behind the row lines is no further
+abbrev pub rowsEnd : ℕ
+rowsEnd = firstMost + mostRows * rowMost
+
+-- how many bytes the gathered text may have: the place behind the slot lines is no further
 abbrev pub textPlaces : ℕ
-textPlaces = 8525
+textPlaces = rowsEnd + mostSlots * slotMost
+
+-- slots in places, the first of which are the schedule of an accepted load
+pub record Scheduled (load : Load) (slots : List Slot) (count : ℕ) : Type 0 where
+  pub accepted : checkLoad load ≡ Good
+  pub taken : take count slots ≡ schedule (viewOf load)
+  pub counted : count ≡ stepsInAll (viewOf load)
+  pub few : count ≤ mostSlots
 
 -- bytes stand in a text from a place on, and the next place is the one behind them
 pub record Put (before : List ℕ) (at : ℕ) (bs after : List ℕ) (next : ℕ) : Type 0 where

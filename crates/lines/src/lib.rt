@@ -1,3 +1,41 @@
-// What the program prints, as bytes.
+// What the program prints for a load file, as bytes. What is wrong with the file is printed, so the
+// only refusal is that the lent output is too short (9).
+mod gather;
 mod line;
 mod text;
+
+use gather::put_printed;
+use refusals::Checked;
+use refusals::Refusal;
+use words::overwrite;
+ghost use Rattle.lines.specs.Calls.{PrintLines};
+
+// How many bytes are enough for what is printed: a first line of at most 53 bytes, 24 row lines of
+// at most 49, and 192 slot lines of at most 38.
+pub const TEXT_PLACES: usize = 8525;
+
+// What a printing gives: Good and how many bytes were written, or the refusal and 0.
+pub struct Printed {
+    pub answer: Checked,
+    pub length: usize,
+}
+
+// Writes what the program prints for a load file at the output's front. Refuses an output that is
+// shorter (9), and then alters no byte. Bytes past what is printed stay.
+pub fn print_lines(bytes: &[u8], out: &mut [u8]) -> Printed
+    ensures { λ r. ⌜ PrintLines (now (bytes .entry)) (now (out .entry)) r (now (out .exit)) ⌝ }
+{
+    let mut text = [0u8; TEXT_PLACES];
+    let length = put_printed(&mut text, bytes);
+    if out.len() < length {
+        return Printed {
+            answer: Checked::Refused(Refusal::OutputShort),
+            length: 0,
+        };
+    }
+    overwrite(out, 0, &text[..length]);
+    Printed {
+        answer: Checked::Good,
+        length,
+    }
+}

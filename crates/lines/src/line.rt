@@ -10,7 +10,15 @@ use refusals::number_of;
 use rules::Slot;
 ghost use Prim.Native.Nat.{_+_, _≤_};
 ghost use Rattle.lines.specs.Lines.{slotLine, refusedLine};
-ghost use Rattle.lines.specs.Parts.{Put, textPlaces, firstLineOf, rowLineOf};
+ghost use Rattle.lines.specs.Parts.{
+  Put,
+  firstMost,
+  rowMost,
+  slotMost,
+  textPlaces,
+  firstLineOf,
+  rowLineOf,
+};
 
 // Puts the first line: rows, steps, end of the last step, bound, verdict.
 pub fn put_first(
@@ -22,7 +30,7 @@ pub fn put_first(
     verdict: bool,
 ) -> usize
     ensures { λ r. ⌜ Put (now (text .entry)) 0
-        (firstLineOf rows steps end bound verdict) (now (text .exit)) r × (r ≤ 53) ⌝ }
+        (firstLineOf rows steps end bound verdict) (now (text .exit)) r × (r ≤ firstMost) ⌝ }
 {
     let mut at = put_bytes(text, 0, b"load");
     at = put_number(text, at, rows as u32);
@@ -37,7 +45,7 @@ pub fn put_first(
 pub fn put_row(text: &mut [u8], at: usize, number: u32, row: Row, margin: i32) -> usize
     requires { ⌜ at ≤ textPlaces ⌝ }
     ensures { λ r. ⌜ Put (now (text .entry)) at
-        (rowLineOf number row margin) (now (text .exit)) r × (r ≤ at + 49) ⌝ }
+        (rowLineOf number row margin) (now (text .exit)) r × (r ≤ at + rowMost) ⌝ }
 {
     let mut next = put_bytes(text, at, b"row");
     next = put_number(text, next, number);
@@ -51,7 +59,7 @@ pub fn put_row(text: &mut [u8], at: usize, number: u32, row: Row, margin: i32) -
 pub fn put_slot(text: &mut [u8], at: usize, slot: Slot) -> usize
     requires { ⌜ at ≤ textPlaces ⌝ }
     ensures { λ r. ⌜ Put (now (text .entry)) at
-        (slotLine slot) (now (text .exit)) r × (r ≤ at + 38) ⌝ }
+        (slotLine slot) (now (text .exit)) r × (r ≤ at + slotMost) ⌝ }
 {
     let mut next = put_bytes(text, at, b"slot");
     next = put_number(text, next, slot.start);

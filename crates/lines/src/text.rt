@@ -5,7 +5,6 @@ use words::decimal_of;
 use words::overwrite;
 use words::signed_of;
 ghost use mathlib.Core.List.{_∷_};
-ghost use mathlib.Core.Path.{_≡_};
 ghost use Prim.Native.Nat.{_+_, _≤_};
 ghost use lib.ListN.{length, take};
 ghost use Rattle.words.specs.Decimal.{decimal, signedDecimal};

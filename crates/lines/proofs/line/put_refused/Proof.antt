@@ -1,5 +1,4 @@
 -- `lines::line::put_refused` puts the words of the line, one behind the other.
-use Prim.Native.Nat.{_≤_, _+_}
 use mathlib.Core.List.{_∷_}
 use mathlib.Core.Path.{ap}
 use native.Mathlib.Omega.{arith}
@@ -19,8 +18,7 @@ returns c =
     let word = number .before .before .before .before .before in
     let is-number = ap (λ n. 32 ∷ decimal n) (number .before .number-of .ensures) in
     let p₀ = first-word _ (word .put-bytes .ensures) in
-    let p₁ = next-word _ _ _ p₀ (put-same is-number (number .put-number .ensures .0)) in
-    (
+    let p₁ = next-word _ _ _ p₀ (put-same is-number (number .put-number .ensures .0)) in (
       put-more p₁ (end .put-bytes2 .ensures),
       omega (
         arith,

@@ -1,5 +1,4 @@
 -- `lines::line::put_row` puts the words of the line, one behind the other.
-use Prim.Native.Nat.{_≤_, _+_}
 use mathlib.Core.List.{_∷_}
 use mathlib.Core.Path.{ap}
 use native.Mathlib.Omega.{arith}
@@ -27,8 +26,7 @@ returns c =
     let p₁ = next-word _ _ _ p₀ (row .put-number .ensures .0) in
     let p₂ = next-word _ _ _ p₁ (identifier .put-number2 .ensures .0) in
     let p₃ = next-word _ _ _ p₂ (box .put-number3 .ensures .0) in
-    let p₄ = next-word _ _ _ p₃ (put-same signed (margin .put-signed .ensures .0)) in
-    (
+    let p₄ = next-word _ _ _ p₃ (put-same signed (margin .put-signed .ensures .0)) in (
       put-more p₄ (end .put-bytes2 .ensures),
       omega (
         arith,

@@ -1,5 +1,4 @@
 -- `lines::line::put_slot` puts the words of the line, one behind the other.
-use Prim.Native.Nat.{_≤_, _+_}
 use native.Mathlib.Omega.{arith}
 use borrow.Author.Needs.{needs}
 use Rattle.words.specs.Decimal.{text}
@@ -20,8 +19,7 @@ returns c =
     let p₀ = first-word _ (word .put-bytes .ensures) in
     let p₁ = next-word _ _ _ p₀ (start .put-number .ensures .0) in
     let p₂ = next-word _ _ _ p₁ (row .put-number2 .ensures .0) in
-    let p₃ = next-word _ _ _ p₂ (step .put-number3 .ensures .0) in
-    (
+    let p₃ = next-word _ _ _ p₂ (step .put-number3 .ensures .0) in (
       put-more p₃ (end .put-bytes2 .ensures),
       omega (
         arith,

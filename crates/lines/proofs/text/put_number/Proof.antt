@@ -1,7 +1,7 @@
 -- `lines::text::put_number` puts the word of the number, which has at most ten digits.
 use borrow.Author.Needs.{needs}
 use native.Mathlib.Omega.{arith}
-use mathlib.Core.Path.{_≡_, ap, _∙_}
+use mathlib.Core.Path.{ap}
 use Prim.Native.Nat.{_≤_}
 use lib.ListN.{length}
 use Rattle.words.specs.declared.Word.{Word}
@@ -22,7 +22,8 @@ requires c κs =
 returns : tie.Need-returns
 returns c =
     let a = c .before .before .before in
-    put-held _ (decimal (a .before .before .before .args .number)) 10 (a .decimal-of .ensures) (few a) (c .before .before .put-word .ensures)
+    put-held _ (decimal (a .before .before .before .args .number)) 10 (a .decimal-of .ensures) (few a)
+    (c .before .before .put-word .ensures)
 
 pub put-number-spec : {M : Type 1} → statement M
 put-number-spec =

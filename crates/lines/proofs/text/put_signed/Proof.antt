@@ -1,7 +1,7 @@
 -- `lines::text::put_signed` puts the word of the whole number: at most ten digits, and a sign.
 use borrow.Author.Needs.{needs}
 use native.Mathlib.Omega.{arith}
-use mathlib.Core.Path.{_≡_, ap, _∙_}
+use mathlib.Core.Path.{_≡_, ap}
 use Prim.Native.Nat.{_≤_}
 use lib.ListN.{length}
 use mir.Facts.{toZ-ofZ}
@@ -19,7 +19,8 @@ few c =
     let z = c .before .before .before .args .number in
     signedDecimal-length-le 9 z (omega (arith, natAbs-lt z (c .before .before .before .fits .number .sfits)))
 
-made : (c : tie.After-signed-of) → c .signed-of .result ≡ wordHolding (signedDecimal (c .before .before .before .args .number))
+made : (c : tie.After-signed-of)
+    → c .signed-of .result ≡ wordHolding (signedDecimal (c .before .before .before .args .number))
 made c = rw (toZ-ofZ (c .before .before .before .fits .number)) at (c .signed-of .ensures)
 
 requires : tie.Need-put-word-requires
@@ -30,7 +31,8 @@ requires c κs =
 returns : tie.Need-returns
 returns c =
     let a = c .before .before .before in
-    put-held _ (signedDecimal (a .before .before .before .args .number)) 11 (made a) (few a) (c .before .before .put-word .ensures)
+    put-held _ (signedDecimal (a .before .before .before .args .number)) 11 (made a) (few a)
+    (c .before .before .put-word .ensures)
 
 pub put-signed-spec : {M : Type 1} → statement M
 put-signed-spec =

@@ -1,5 +1,4 @@
 -- `lines::text::put_word` puts a space, and behind it the word's bytes.
-use Prim.Native.Nat.{_≤_}
 use mathlib.Core.Path.{_≡_, sym}
 use native.Mathlib.Omega.{arith}
 use borrow.Author.Needs.{needs}

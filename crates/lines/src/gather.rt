@@ -1,0 +1,153 @@
+// What is printed for a load file, gathered in a text one line behind the other. No call refuses.
+use crate::line::put_first;
+use crate::line::put_refused;
+use crate::line::put_row;
+use crate::line::put_slot;
+use bench::run;
+use bound::bound_of;
+use bound::margins_of;
+use bound::verdict_of;
+use load::Load;
+use load::MOST_ROWS;
+use load::row_at;
+use load::step_at;
+use load_file::read_load;
+use refusals::Checked;
+use rules::PLACES;
+use rules::Slot;
+ghost use mathlib.Core.Path.{_≡_};
+ghost use Prim.Native.Nat.{_≤_};
+ghost use lib.ListN.{take};
+ghost use Rattle.counting.specs.Lists.{joinTo};
+ghost use Rattle.load.specs.Load.{mostRows, shown, rowAt};
+ghost use Rattle.load.specs.View.{viewOf};
+ghost use Rattle.load.specs.Check.{checkLoad};
+ghost use Rattle.rules.specs.Margins.{marginIn};
+ghost use Rattle.rules.specs.Run.{schedule};
+ghost use Rattle.rules.specs.Slots.{slotAt, slotEnd, lastEnd};
+ghost use Rattle.rules.specs.ScheduleRules.{NamesStep};
+ghost use Rattle.lines.specs.Lines.{rowLine, slotLine, loadLine, loadLines, printed};
+ghost use Rattle.lines.specs.Parts.{
+  Put,
+  Scheduled,
+  firstMost,
+  mostSlots,
+  rowsEnd,
+  textPlaces,
+  rowLineOf,
+};
+
+// Gives when a slot ends that names a step of the load.
+fn end_of(load: Load, slot: Slot) -> u32
+    requires { ⌜ NamesStep (viewOf load) slot × (load .rows ≤ mostRows) ⌝ }
+    ensures { λ r. ⌜ r ≡ slotEnd (viewOf load) slot ⌝ }
+{
+    let row = row_at(load, slot.row as usize - 1);
+    let step = step_at(row, slot.step as usize - 1);
+    slot.start + step.cost as u32
+}
+
+// Gives the end of the last slot, and 0 where there is none.
+fn last_end(load: Load, slots: [Slot; PLACES], count: usize) -> u32
+    requires { ⌜ Scheduled load slots count ⌝ }
+    ensures { λ r. ⌜ r ≡ lastEnd (viewOf load) (take count slots) ⌝ }
+{
+    if count == 0 {
+        return 0;
+    }
+    end_of(load, slots[count - 1])
+}
+
+// Puts the lines of so many slots from a place on.
+fn put_slots(text: &mut [u8], at: usize, slots: [Slot; PLACES], count: usize) -> usize
+    requires { ⌜ (at ≤ rowsEnd) × (count ≤ mostSlots) ⌝ }
+    ensures { λ r. ⌜ Put (now (text .entry)) at
+        (joinTo (λ k. slotLine (slotAt slots k)) count) (now (text .exit)) r
+        × (r ≤ textPlaces) ⌝ }
+{
+    let mut next = at;
+    for k in 0..count {
+        next = put_slot(text, next, slots[k]);
+    }
+    next
+}
+
+// Puts the lines of the rows, with their margins, from a place on.
+fn put_rows_with(text: &mut [u8], at: usize, load: Load, margins: [i32; MOST_ROWS]) -> usize
+    requires { ⌜ (at ≤ firstMost) × (load .rows ≤ mostRows) ⌝ }
+    ensures { λ r. ⌜ Put (now (text .entry)) at
+        (joinTo (λ i. rowLineOf (shown i) (rowAt load i) (marginIn margins i)) (load .rows))
+        (now (text .exit)) r × (r ≤ rowsEnd) ⌝ }
+{
+    let rows = load.rows as usize;
+    let mut next = at;
+    for i in 0..rows {
+        next = put_row(text, next, i as u32 + 1, load.row[i], margins[i]);
+    }
+    next
+}
+
+// Puts the lines of the rows of an accepted load from a place on.
+fn put_rows(text: &mut [u8], at: usize, load: Load) -> usize
+    requires { ⌜ (checkLoad load ≡ Checked.Good) × (at ≤ firstMost) ⌝ }
+    ensures { λ r. ⌜ Put (now (text .entry)) at
+        (joinTo (rowLine load) (load .rows)) (now (text .exit)) r × (r ≤ rowsEnd) ⌝ }
+{
+    let margined = margins_of(load);
+    let margins = margined.margins;
+    put_rows_with(text, at, load, margins)
+}
+
+// Puts the first line of a load with its schedule. It has as many steps as slots.
+fn put_head(text: &mut [u8], load: Load, slots: [Slot; PLACES], count: usize) -> usize
+    requires { ⌜ Scheduled load slots count ⌝ }
+    ensures { λ r. ⌜ Put (now (text .entry)) 0
+        (loadLine (viewOf load) (schedule (viewOf load))) (now (text .exit)) r × (r ≤ firstMost) ⌝ }
+{
+    let end = last_end(load, slots, count);
+    let bounded = bound_of(load);
+    let judged = verdict_of(load);
+    put_first(
+        text,
+        load.rows,
+        count as u32,
+        end,
+        bounded.bound,
+        judged.verdict,
+    )
+}
+
+// Puts the lines of a load with its schedule: the first line, the row lines, the slot lines.
+fn put_lines(text: &mut [u8], load: Load, slots: [Slot; PLACES], count: usize) -> usize
+    requires { ⌜ Scheduled load slots count ⌝ }
+    ensures { λ r. ⌜ Put (now (text .entry)) 0
+        (loadLines load) (now (text .exit)) r × (r ≤ textPlaces) ⌝ }
+{
+    let rows_at = put_head(text, load, slots, count);
+    let slots_at = put_rows(text, rows_at, load);
+    put_slots(text, slots_at, slots, count)
+}
+
+// Puts the lines of an accepted load.
+fn put_load(text: &mut [u8], load: Load) -> usize
+    requires { ⌜ checkLoad load ≡ Checked.Good ⌝ }
+    ensures { λ r. ⌜ Put (now (text .entry)) 0
+        (loadLines load) (now (text .exit)) r × (r ≤ textPlaces) ⌝ }
+{
+    let ran = run(load);
+    let slots = ran.slots;
+    put_lines(text, load, slots, ran.count)
+}
+
+// Puts what is printed for a load file: the lines of its load, or the one line of its refusal.
+pub fn put_printed(text: &mut [u8], bytes: &[u8]) -> usize
+    ensures { λ r. ⌜ Put (now (text .entry)) 0
+        (printed (now (bytes .entry))) (now (text .exit)) r × (r ≤ textPlaces) ⌝ }
+{
+    let reading = read_load(bytes);
+    let answer = reading.answer;
+    match answer {
+        Checked::Good => put_load(text, reading.load),
+        Checked::Refused(refusal) => put_refused(text, refusal),
+    }
+}
