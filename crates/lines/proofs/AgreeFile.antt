@@ -1,0 +1,212 @@
+-- Two files that agree in their first 2,217 bytes, and are at least as long: a row that is Good takes at most 92 bytes,
+-- so row by row no record that is due stands past these bytes, and the first faulty row is refused for the same number.
+use Prim.Native.Nat.{ℕ, zero, suc, _+_, _*_, _≤_, _<_}
+use mathlib.Core.List.{List, [], _∷_, _++_}
+use mathlib.Core.Path.{_≡_, refl, ap, ap₂, sym, _∙_}
+use native.Mathlib.Omega.{arith}
+use lib.Dec.{eqb}
+use Rattle.counting.proofs.TestLaws.{anyTo-ext}
+use Rattle.refusals.specs.declared.Refusal.the-variants.{IdentifierTaken, BoxTaken}
+use Rattle.refusals.specs.declared.Checked.{Checked}
+use Rattle.refusals.specs.declared.Checked.the-variants.{Good, Refused}
+use Rattle.refusals.specs.FirstMet.{firstMet, andThen, firstFaultTo}
+use Rattle.refusals.proofs.FirstMetLaws.{
+  andThen-good-first,
+  andThen-good-second,
+  firstFaultTo-ext,
+  firstFaultTo-good,
+  good-firstFaultTo,
+}
+use Rattle.load.specs.declared.Row.{Row}
+use Rattle.load.specs.Load.{mostRows, mostSteps, mostWindows, rowAt}
+use Rattle.load.specs.Faults.{takenTests, stepTests, windowTests}
+use Rattle.load_file.specs.Records.{rowKind, stepKind, windowKind}
+use Rattle.load_file.specs.Places.{
+  stepsSaid,
+  windowsSaid,
+  stepPlace,
+  windowPlace,
+  rowFrom,
+  rowPlace,
+  rowsSaid,
+  loadIn,
+}
+use Rattle.load_file.specs.Reading.{
+  dueTests,
+  stepFaultIn,
+  windowFaultIn,
+  rowFaultAt,
+  ownFault,
+  stepsFault,
+  windowsFault,
+}
+use Rattle.load_file.proofs.ReadingLaws.{
+  rowAt-read,
+  rowFaultAt-parts,
+  own-steps-le,
+  own-windows-le,
+}
+use Rattle.lines.proofs.AgreeLaws.{
+  Agree,
+  dueTests-agree,
+  stepsSaid-agree,
+  windowsSaid-agree,
+  rowTests-agree,
+  identifier-agree,
+  box-agree,
+  windowPlace-agree,
+  rowFrom-agree,
+}
+
+-- one finding, and where it is Good the next
+pub andThen-agree : (a b x y : Checked) → a ≡ b → (a ≡ Good → x ≡ y) → andThen a x ≡ andThen b y
+andThen-agree Good b x y e h = h refl ∙ ap (λ c. andThen c y) e
+andThen-agree (Refused r) b x y e h = ap (λ c. andThen c y) e
+
+pub firstFaultTo-agree : (f g : ℕ → Checked) (m : ℕ) → ((i : ℕ) → i < m → firstFaultTo f i ≡ Good → f i ≡ g i)
+    → firstFaultTo f m ≡ firstFaultTo g m
+unfolding firstFaultTo
+firstFaultTo-agree f g zero h = refl
+firstFaultTo-agree f g (suc m) h =
+    andThen-agree (firstFaultTo f m) (firstFaultTo g m) (f m) (g m)
+    (firstFaultTo-agree f g m (λ i l. h i (omega arith))) (h m (omega arith))
+
+-- what a file's row i is refused for
+abbrev pub faultOf : List ℕ → ℕ → Checked
+faultOf bs i = rowFaultAt bs i (rowPlace bs i)
+
+-- where row i stands is the same, and how far that is
+pub record Placed (bs cs : List ℕ) (i : ℕ) : Type 0 where
+  pub place-same : rowPlace bs i ≡ rowPlace cs i
+  pub place-le : rowPlace bs i ≤ 4 + 92 * i
+
+module _ (bs cs : List ℕ) (a : Agree 2217 bs cs) where
+  pub said : rowsSaid bs ≡ rowsSaid cs
+  said = a .same 3 (omega arith)
+
+  placed-next : (i : ℕ) → i < mostRows → Placed bs cs i → faultOf bs i ≡ Good → Placed bs cs (suc i)
+  unfolding rowPlace
+  placed-next i l p good =
+      let at = rowPlace bs i in
+      let le = p .place-le in
+      let own = andThen-good-first (ownFault bs i at) _ (sym (rowFaultAt-parts bs at i) ∙ good) in
+      let steps = own-steps-le bs at i own in
+      let windows = own-windows-le bs at i own in
+      let same-steps = stepsSaid-agree 2217 bs cs a at (omega arith) in
+      let same-windows = windowsSaid-agree 2217 bs cs a at (omega arith) in
+      record {
+        place-same =
+            ap₂ (λ s w. at + 20 + 6 * s + 6 * w) same-steps same-windows
+            ∙ ap (λ p. windowPlace cs p (windowsSaid cs p)) (p .place-same);
+        place-le = omega arith;
+      }
+
+  pub placed : (i : ℕ) → i ≤ mostRows → firstFaultTo (faultOf bs) i ≡ Good → Placed bs cs i
+  unfolding firstFaultTo rowPlace
+  placed zero l good = record { place-same = refl; place-le = omega arith }
+  placed (suc i) l good =
+      placed-next i (omega arith)
+      (placed i (omega arith) (andThen-good-first (firstFaultTo (faultOf bs) i) (faultOf bs i) good))
+      (andThen-good-second (firstFaultTo (faultOf bs) i) (faultOf bs i) good)
+
+  -- row i of both files, where the rows before it are Good
+  module _ (i : ℕ) (l : i < rowsSaid bs) (few : rowsSaid bs ≤ mostRows) (before : firstFaultTo (faultOf bs) i ≡ Good)
+    where
+      at : ℕ
+      at = rowPlace bs i
+
+      here : Placed bs cs i
+      here = placed i (omega arith) before
+
+      earlier : (k : ℕ) → k < i → Placed bs cs k
+      earlier k h =
+          placed k (omega arith)
+          (good-firstFaultTo (faultOf bs) k (λ j m. firstFaultTo-good (faultOf bs) i before j (omega arith)))
+
+      -- what earlier rows hold
+      identifier-earlier : (k : ℕ) → k < i → rowAt (loadIn bs) k .identifier ≡ rowAt (loadIn cs) k .identifier
+      identifier-earlier k h =
+          let e = earlier k h in
+          let le = e .place-le in
+          ap (λ (row : Row). row .identifier) (rowAt-read bs k (omega arith))
+          ∙ identifier-agree 2217 bs cs a (rowPlace bs k) (omega arith)
+          ∙ ap (λ p. rowFrom cs p .identifier) (e .place-same)
+          ∙ sym (ap (λ (row : Row). row .identifier) (rowAt-read cs k (omega (arith, said))))
+
+      box-earlier : (k : ℕ) → k < i → rowAt (loadIn bs) k .«box_number» ≡ rowAt (loadIn cs) k .«box_number»
+      box-earlier k h =
+          let e = earlier k h in
+          let le = e .place-le in
+          ap (λ (row : Row). row .«box_number») (rowAt-read bs k (omega arith))
+          ∙ box-agree 2217 bs cs a (rowPlace bs k) (omega arith)
+          ∙ ap (λ p. rowFrom cs p .«box_number») (e .place-same)
+          ∙ sym (ap (λ (row : Row). row .«box_number») (rowAt-read cs k (omega (arith, said))))
+
+      taken-agree : takenTests (loadIn bs) i (rowFrom bs at) ≡ takenTests (loadIn cs) i (rowFrom cs at)
+      unfolding takenTests at
+      taken-agree =
+          let le = here .place-le in
+          ap₂ (λ x y. (x, IdentifierTaken) ∷ (y, BoxTaken) ∷ [])
+          (anyTo-ext _ _ i
+          (λ k h.
+          ap₂ (λ x y. eqb (x .0) (y .0)) (identifier-earlier k h) (identifier-agree 2217 bs cs a at (omega arith))))
+          (anyTo-ext _ _ i
+          (λ k h. ap₂ (λ x y. eqb (x .0) (y .0)) (box-earlier k h) (box-agree 2217 bs cs a at (omega arith))))
+
+      own-agree : ownFault bs i at ≡ ownFault cs i at
+      unfolding ownFault at
+      own-agree =
+          let le = here .place-le in
+          ap₂ (λ d t. firstMet (d ++ t))
+          (ap₂ _++_ (dueTests-agree 2217 bs cs a rowKind at (omega arith) (omega arith))
+          (rowTests-agree 2217 bs cs a at (omega arith)))
+          taken-agree
+
+      -- the steps and windows of a row whose own record is Good
+      module _ (good : ownFault bs i at ≡ Good) where
+        steps-most : stepsSaid bs at ≤ mostSteps
+        steps-most = own-steps-le bs at i good
+
+        windows-most : windowsSaid bs at ≤ mostWindows
+        windows-most = own-windows-le bs at i good
+
+        whole : at + 92 ≤ 2217
+        unfolding at
+        whole = let le = here .place-le in omega arith
+
+        row-agree : rowFrom bs at ≡ rowFrom cs at
+        row-agree = rowFrom-agree 2217 bs cs a at whole steps-most windows-most
+
+        steps-agree : stepsFault bs at ≡ stepsFault cs at
+        unfolding stepFaultIn
+        steps-agree =
+            let w = whole in
+            let most = steps-most in
+            firstFaultTo-ext (stepFaultIn bs at) (stepFaultIn cs at) (stepsSaid bs at)
+            (λ j h.
+            ap₂ (λ d row. firstMet (d ++ stepTests row j))
+            (dueTests-agree 2217 bs cs a stepKind (stepPlace at j) (omega arith) (omega arith)) row-agree)
+            ∙ ap (firstFaultTo (stepFaultIn cs at)) (stepsSaid-agree 2217 bs cs a at (omega arith))
+
+        windows-agree : windowsFault bs at ≡ windowsFault cs at
+        unfolding windowFaultIn
+        windows-agree =
+            let w = whole in
+            let most = steps-most in
+            let few-windows = windows-most in
+            firstFaultTo-ext (windowFaultIn bs at) (windowFaultIn cs at) (windowsSaid bs at)
+            (λ k h.
+            ap₂ (λ d row. firstMet (d ++ windowTests row k))
+            (dueTests-agree 2217 bs cs a windowKind (windowPlace bs at k) (omega arith) (omega arith)
+            ∙ ap (dueTests windowKind cs) (windowPlace-agree 2217 bs cs a at whole steps-most windows-most k))
+            row-agree)
+            ∙ ap (firstFaultTo (windowFaultIn cs at)) (windowsSaid-agree 2217 bs cs a at (omega arith))
+
+      pub row-fault-agree : faultOf bs i ≡ faultOf cs i
+      unfolding at
+      row-fault-agree =
+          rowFaultAt-parts bs at i
+          ∙ andThen-agree (ownFault bs i at) (ownFault cs i at) _ _ own-agree
+          (λ good. ap₂ (λ s w. andThen s (andThen w Good)) (steps-agree good) (windows-agree good))
+          ∙ sym (rowFaultAt-parts cs at i)
+          ∙ ap (rowFaultAt cs i) (here .place-same)

@@ -1,0 +1,149 @@
+-- What is printed for a file is what is printed for its first 2,217 bytes: a file of 2,217 bytes or more is refused,
+-- and for the number for which these bytes are. So the program need not read further.
+use Prim.Native.Nat.{ℕ, _+_, _≤_, _<_}
+use mathlib.Core.Bool.{not}
+use mathlib.Core.List.{List, [], _∷_, _++_}
+use mathlib.Core.Path.{_≡_, refl, ap, ap₂, sym, _∙_}
+use native.Mathlib.Decide.{decLt}
+use native.Mathlib.Omega.{arith}
+use borrow.Author.Tests.{ltb-false, lt-ltb}
+use lib.Dec.{eqb, ltb}
+use lib.ListN.{length, take}
+use lib.Seq.{take-all, length-take-le, getD-take}
+use Rattle.counting.specs.Sums.{sumTo}
+use Rattle.counting.proofs.SumLaws.{sumTo-ext}
+use Rattle.words.specs.LittleEndian.{byteAt, numberAt}
+use Rattle.refusals.specs.declared.Refusal.the-variants.{MarkDiffers, OutOfRange, EndDiffers}
+use Rattle.refusals.specs.declared.Checked.{Checked}
+use Rattle.refusals.specs.declared.Checked.the-variants.{Good, Refused}
+use Rattle.refusals.specs.FirstMet.{firstMet, andThen, firstFaultTo}
+use Rattle.refusals.proofs.FirstMetLaws.{
+  andThen-good-first,
+  andThen-good-second,
+  firstFaultTo-good,
+  good-firstFaultTo,
+}
+use Rattle.refusals.proofs.FirstFaultLaws.{firstMet-good}
+use Rattle.load.specs.Load.{mostRows}
+use Rattle.load.specs.View.{viewOf, stepsInAll}
+use Rattle.load_file.specs.Records.{headerKind, endKind, version}
+use Rattle.load_file.specs.Places.{stepsSaid, rowPlace, rowsSaid, loadIn}
+use Rattle.load_file.specs.Reading.{dueTests, headerTests, endTests, fileFault}
+use Rattle.load_file.proofs.ReadingLaws.{stepsInAll-read}
+use Rattle.lines.specs.Lines.{linesBeside, printed}
+use Rattle.lines.proofs.AgreeLaws.{Agree, numberAt-agree, dueTests-agree, stepsSaid-agree}
+use Rattle.lines.proofs.AgreeFile.{
+  andThen-agree,
+  firstFaultTo-agree,
+  faultOf,
+  Placed,
+  said,
+  placed,
+  row-fault-agree,
+}
+
+module _ (bs cs : List ℕ) (a : Agree 2217 bs cs) where
+  header-agree : headerTests bs ≡ headerTests cs
+  unfolding headerTests
+  header-agree =
+      ap (λ due. due ++ (not (eqb (byteAt bs 2) version), MarkDiffers) ∷ (ltb mostRows (rowsSaid bs), OutOfRange) ∷ [])
+      (dueTests-agree 2217 bs cs a headerKind 0 (omega arith) (omega arith))
+      ∙ ap₂
+      (λ v r. dueTests headerKind cs 0 ++ (not (eqb v version), MarkDiffers) ∷ (ltb mostRows r, OutOfRange) ∷ [])
+      (a .same 2 (omega arith)) (said bs cs a)
+
+  -- a header that is Good announces at most 24 rows
+  rows-most : firstMet (headerTests bs) ≡ Good → rowsSaid bs ≤ mostRows
+  unfolding headerTests
+  rows-most good = ltb-false mostRows (rowsSaid bs) (firstMet-good (headerTests bs) good 4)
+
+  rows-agree : rowsSaid bs ≤ mostRows
+      → firstFaultTo (faultOf bs) (rowsSaid bs) ≡ firstFaultTo (faultOf cs) (rowsSaid cs)
+  rows-agree few =
+      firstFaultTo-agree (faultOf bs) (faultOf cs) (rowsSaid bs)
+      (λ i l before. row-fault-agree bs cs a i l few before)
+      ∙ ap (firstFaultTo (faultOf cs)) (said bs cs a)
+
+  -- where all rows are Good
+  module _ (few : rowsSaid bs ≤ mostRows) (good : firstFaultTo (faultOf bs) (rowsSaid bs) ≡ Good) where
+    end : Placed bs cs (rowsSaid bs)
+    end = placed bs cs a (rowsSaid bs) few good
+
+    counts-agree : stepsInAll (viewOf (loadIn bs)) ≡ stepsInAll (viewOf (loadIn cs))
+    counts-agree =
+        sym (stepsInAll-read bs)
+        ∙ sumTo-ext (λ i. stepsSaid bs (rowPlace bs i)) (λ i. stepsSaid cs (rowPlace cs i)) (rowsSaid bs) each
+        ∙ ap (sumTo (λ i. stepsSaid cs (rowPlace cs i))) (said bs cs a)
+        ∙ stepsInAll-read cs
+      where
+        each : (i : ℕ) → i < rowsSaid bs → stepsSaid bs (rowPlace bs i) ≡ stepsSaid cs (rowPlace cs i)
+        each i l =
+            let so-far =
+            good-firstFaultTo (faultOf bs) i
+            (λ j h. firstFaultTo-good (faultOf bs) (rowsSaid bs) good j (omega arith)) in
+            let p = placed bs cs a i (omega arith) so-far in
+            let le = p .place-le in
+            stepsSaid-agree 2217 bs cs a (rowPlace bs i) (omega arith) ∙ ap (stepsSaid cs) (p .place-same)
+
+    ends-agree : endTests bs (rowPlace bs (rowsSaid bs)) ≡ endTests cs (rowPlace cs (rowsSaid cs))
+    unfolding endTests
+    ends-agree =
+        let at = rowPlace bs (rowsSaid bs) in
+        let le = end .place-le in
+        let first-more = lt-ltb (at + 4) (length bs) (omega (arith, a .first-long)) in
+        let second-more = lt-ltb (at + 4) (length cs) (omega (arith, a .second-long)) in
+        let count = stepsInAll (viewOf (loadIn bs)) in
+        let more = ltb (at + 4) (length bs) in
+        ap₂ (λ due n. due ++ (not (eqb n count), EndDiffers) ∷ (more, EndDiffers) ∷ [])
+        (dueTests-agree 2217 bs cs a endKind at (omega arith) (omega arith))
+        (numberAt-agree 2217 bs cs a 2 (at + 2) (omega arith))
+        ∙ ap₂
+        (λ n t. dueTests endKind cs at ++ (not (eqb (numberAt 2 cs (at + 2)) n), EndDiffers) ∷ (t, EndDiffers) ∷ [])
+        counts-agree (first-more ∙ sym second-more)
+        ∙ ap (endTests cs) (end .place-same ∙ ap (rowPlace cs) (said bs cs a))
+
+  file-agree : fileFault bs ≡ fileFault cs
+  unfolding fileFault
+  file-agree =
+      andThen-agree (firstMet (headerTests bs)) (firstMet (headerTests cs)) _ _ (ap firstMet header-agree)
+      (λ head.
+      andThen-agree (firstFaultTo (faultOf bs) (rowsSaid bs)) (firstFaultTo (faultOf cs) (rowsSaid cs)) _ _
+      (rows-agree (rows-most head))
+      (λ rows. ap (λ ts. andThen (firstMet ts) Good) (ends-agree (rows-most head) rows)))
+
+  -- bytes follow the end record
+  file-long : fileFault bs ≡ Good → ⊥
+  unfolding fileFault endTests
+  file-long good =
+      let head = andThen-good-first (firstMet (headerTests bs)) _ good in
+      let behind = andThen-good-second (firstMet (headerTests bs)) _ good in
+      let rows = andThen-good-first (firstFaultTo (faultOf bs) (rowsSaid bs)) _ behind in
+      let last = andThen-good-second (firstFaultTo (faultOf bs) (rowsSaid bs)) _ behind in
+      let at = rowPlace bs (rowsSaid bs) in
+      let tests = andThen-good-first (firstMet (endTests bs at)) Good last in
+      let no-more = ltb-false (at + 4) (length bs) (firstMet-good (endTests bs at) tests 4) in
+      let few = rows-most head in
+      let le = end few rows .place-le in
+      omega (arith, a .first-long)
+
+  pub printed-agree : printed bs ≡ printed cs
+  unfolding printed
+  printed-agree = go (fileFault bs) refl
+    where
+      go : (c : Checked) → fileFault bs ≡ c
+          → linesBeside (fileFault bs) (loadIn bs) ≡ linesBeside (fileFault cs) (loadIn cs)
+      go Good e = absurd (file-long e)
+      go (Refused refusal) e =
+          ap (λ c. linesBeside c (loadIn bs)) e ∙ sym (ap (λ c. linesBeside c (loadIn cs)) (sym file-agree ∙ e))
+
+-- the first 2,217 bytes are enough
+pub printed-front : (bs : List ℕ) → printed bs ≡ printed (take 2217 bs)
+printed-front bs =
+    elim (decLt 2217 (length bs)) [
+      | yes l ↦ printed-agree bs (take 2217 bs) (record {
+        same = λ k h. sym (getD-take 2217 bs k 0 h);
+        first-long = omega arith;
+        second-long = omega (arith, length-take-le 2217 bs (omega arith));
+      })
+      | no l ↦ ap printed (sym (take-all 2217 bs (omega arith)))
+    ]
