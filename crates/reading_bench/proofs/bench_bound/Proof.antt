@@ -1,0 +1,30 @@
+-- `bench_bound` gives the bytes of the bound: a load that passes its check has one.
+use mathlib.Core.Path.{ap, _∙_}
+use borrow.Author.Needs.{needs}
+use Rattle.words.specs.LittleEndian.{littleEndian}
+use Rattle.reading_bench.specs.Calls.{boundBytes}
+use Rattle.reading_bench.proofs.ForCLaws.{read-for-c}
+use Rattle.reading_bench.proofs.bench_bound.Statement.{statement}
+use Rattle.reading_bench.proofs.bench_bound.Tie as tie
+
+is-given : tie.Need-returns
+is-given c =
+    let given = c .before .before in
+    let coded = given .before .before .before in
+    let bounded = coded .before in
+    let read = bounded .before in
+    read-for-c _ _ (read .read-load .ensures) (read .before .before .shared-slice-known .given) boundBytes _ _ _ _
+    (λ good. coded .bytes32 .ensures ∙ ap (λ r. littleEndian 4 (r .bound)) (bounded .bound-of .ensures) ∙ rw good)
+    (given .give .ensures)
+
+pub bench-bound-spec : {M : Type 1} → statement M
+bench-bound-spec =
+    tie.close
+    (tie.spec
+    (λ c κs. search needs)
+    (λ c κs. search needs)
+    (λ c κs. search needs)
+    (λ c. search needs)
+    (λ c κs. search needs)
+    (λ c. search needs)
+    is-given)

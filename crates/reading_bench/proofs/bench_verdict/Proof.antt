@@ -1,0 +1,30 @@
+-- `bench_verdict` gives the verdict in 1 byte: a load that passes its check has one.
+use mathlib.Core.List.{[], _∷_}
+use mathlib.Core.Path.{ap, _∙_}
+use borrow.Author.Needs.{needs}
+use Rattle.counting.specs.Sums.{bit}
+use Rattle.reading_bench.specs.Calls.{verdictBytes}
+use Rattle.reading_bench.proofs.ForCLaws.{read-for-c}
+use Rattle.reading_bench.proofs.bench_verdict.Statement.{statement}
+use Rattle.reading_bench.proofs.bench_verdict.Tie as tie
+
+is-given : tie.Need-returns
+is-given c =
+    let given = c .before .before in
+    let judged = given .before .before .before .before in
+    let read = judged .before in
+    read-for-c _ _ (read .read-load .ensures) (read .before .before .shared-slice-known .given) verdictBytes _ _ _ _
+    (λ good. ap (λ r. bit (r .verdict) ∷ []) (judged .verdict-of .ensures) ∙ rw good)
+    (given .give .ensures)
+
+pub bench-verdict-spec : {M : Type 1} → statement M
+bench-verdict-spec =
+    tie.close
+    (tie.spec
+    (λ c κs. search needs)
+    (λ c κs. search needs)
+    (λ c. search needs)
+    (λ c. search needs)
+    (λ c κs. search needs)
+    (λ c. search needs)
+    is-given)
