@@ -5,7 +5,7 @@ use mathlib.Core.Path.{_≡_, ap, sym, _∙_}
 use Rattle.refusals.specs.declared.Checked.{Checked}
 use Rattle.refusals.specs.Refusals.{numberGiven}
 use Rattle.refusals.proofs.CallLaws.{Given-unique-finding, Given-unique-output}
-use Rattle.reading_bench.specs.Calls.{Numbered, BenchBound, BenchVerdict, BenchMargins}
+use Rattle.reading_bench.specs.Calls.{Numbered, BenchBound, BenchVerdict, BenchMargins, BenchSchedule}
 
 pub Numbered-unique : (finding : Checked) (answer out : List ℕ) (r s : ℕ) (after later : List ℕ)
     → Numbered finding answer out r after → Numbered finding answer out s later → (r ≡ s) × (after ≡ later)
@@ -27,3 +27,7 @@ BenchVerdict-unique bs out = Numbered-unique _ _ out
 pub BenchMargins-unique : (bs out : List ℕ) (r s : ℕ) (after later : List ℕ)
     → BenchMargins bs out r after → BenchMargins bs out s later → (r ≡ s) × (after ≡ later)
 BenchMargins-unique bs out = Numbered-unique _ _ out
+
+pub BenchSchedule-unique : (bs out : List ℕ) (r s : ℕ) (after later : List ℕ) → BenchSchedule bs out r after
+    → BenchSchedule bs out s later → (r ≡ s) × (after ≡ later)
+BenchSchedule-unique bs out = Numbered-unique _ _ out

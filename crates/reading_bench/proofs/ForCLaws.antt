@@ -11,7 +11,9 @@ use Rattle.words.specs.LittleEndian.{byteAt}
 use Rattle.refusals.specs.declared.Refusal.{Refusal}
 use Rattle.refusals.specs.declared.Checked.{Checked}
 use Rattle.refusals.specs.declared.Checked.the-variants.{Good, Refused}
+use Rattle.refusals.specs.Refusals.{numberOf, numberGiven}
 use Rattle.refusals.specs.Given.{Given, outputAfter}
+use Rattle.refusals.proofs.GivenLaws.{refused-given}
 use Rattle.load.specs.View.{View, viewOf}
 use Rattle.load.specs.Check.{checkLoad}
 use Rattle.load_file.specs.declared.Reading.{Reading}
@@ -32,6 +34,18 @@ refused-beside refusal answer other out found after g =
           ∙ ap (λ f. outputAfter f answer out) (g .finding-is)
           ∙ sym (ap (λ f. outputAfter f other out) (g .finding-is));
     }
+
+-- a finding that refuses is told by its number, and the output stays
+pub refused-numbered : (finding : Checked) (answer out : List ℕ) (refusal : Refusal) (r : ℕ)
+    → finding ≡ Refused refusal → r ≡ numberOf refusal → Numbered finding answer out r out
+refused-numbered finding answer out refusal r e n =
+    record { found = Refused refusal; given = refused-given finding answer out refusal e; number-is = n }
+
+-- a finding that is Good leaves what was given of the answer
+pub good-numbered : (finding : Checked) (answer out : List ℕ) (found : Checked) (r : ℕ) (after : List ℕ)
+    → finding ≡ Good → Given Good answer out found after → r ≡ numberGiven found → Numbered finding answer out r after
+good-numbered finding answer out found r after e g n =
+    record { found = found; given = subst (λ f. Given f answer out found after) (sym e) g; number-is = n }
 
 -- an answer that is right where nothing is refused is as good as the right one
 numbered-right : (finding : Checked) (answer right out : List ℕ) (r : ℕ) (after : List ℕ)

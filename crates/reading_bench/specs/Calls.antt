@@ -13,6 +13,8 @@ use Rattle.load_file.specs.Places.{loadIn}
 use Rattle.load_file.specs.Reading.{fileFault}
 use Rattle.rules.specs.Bound.{bound}
 use Rattle.rules.specs.Margins.{marginBytes, verdict}
+use Rattle.rules.specs.Run.{schedule}
+use Rattle.schedule.specs.ScheduleFile.{scheduleBytes}
 
 -- the number r of what a writing call finds, and what its output holds afterwards
 pub record Numbered (finding : Checked) (answer out : List ℕ) (r : ℕ) (after : List ℕ)
@@ -34,6 +36,10 @@ boundBytes L = littleEndian 4 (bound L)
 abbrev pub verdictBytes : View → List ℕ
 verdictBytes L = bit (verdict L) ∷ []
 
+-- the schedule file of the starts from fresh to Done
+abbrev pub scheduleFile : View → List ℕ
+scheduleFile L = scheduleBytes (schedule L)
+
 -- bench_bound(load, out): the bound
 abbrev pub BenchBound : List ℕ → List ℕ → ℕ → List ℕ → Type 0
 BenchBound = ForC boundBytes
@@ -45,3 +51,7 @@ BenchVerdict = ForC verdictBytes
 -- bench_margins(load, out): all margins, 96 bytes
 abbrev pub BenchMargins : List ℕ → List ℕ → ℕ → List ℕ → Type 0
 BenchMargins = ForC marginBytes
+
+-- bench_schedule(load, out): the schedule file of the run
+abbrev pub BenchSchedule : List ℕ → List ℕ → ℕ → List ℕ → Type 0
+BenchSchedule = ForC scheduleFile

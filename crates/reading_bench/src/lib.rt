@@ -1,6 +1,7 @@
 // The calls for C. Each is lent the bytes of a load file and an output, and gives one number: what
 // is wrong with the file, 1 to 8; then 9, where the output is shorter than the answer; else 0. A
 // refusal alters no byte, and bytes past the answer stay.
+use bench::run;
 use bound::bound_of;
 use bound::margin_bytes;
 use bound::margins_of;
@@ -9,9 +10,23 @@ use load_file::read_load;
 use refusals::Checked;
 use refusals::Refusal;
 use refusals::number_of;
+use schedule::write_array;
 use words::bytes32;
 use words::overwrite;
-ghost use Rattle.reading_bench.specs.Calls.{Numbered, BenchBound, BenchVerdict, BenchMargins};
+ghost use mathlib.Core.Path.{_≡_};
+ghost use Rattle.refusals.specs.Refusals.{numberGiven};
+ghost use Rattle.reading_bench.specs.Calls.{Numbered, BenchBound, BenchVerdict};
+ghost use Rattle.reading_bench.specs.Calls.{BenchMargins, BenchSchedule};
+
+// Gives the number of what was found: 0 where nothing is refused.
+fn number_given(found: Checked) -> u32
+    ensures { λ r. ⌜ r ≡ numberGiven found ⌝ }
+{
+    match found {
+        Checked::Good => 0,
+        Checked::Refused(refusal) => number_of(refusal),
+    }
+}
 
 // Gives what was found by its number; where that is nothing, writes the answer over the output's
 // front and gives 0, or gives 9 where there is no room for it. A refusal alters no byte, and bytes
@@ -64,4 +79,21 @@ pub extern "C" fn bench_margins(load: &[u8], out: &mut [u8]) -> u32
     let margined = margins_of(read.load);
     let margins = margined.margins;
     give(found, &margin_bytes(margins), out)
+}
+
+// Writes the schedule file of a load: the starts of its run, from fresh to Done.
+#[no_mangle]
+pub extern "C" fn bench_schedule(load: &[u8], out: &mut [u8]) -> u32
+    ensures { λ r. ⌜ BenchSchedule (now (load .entry)) (now (out .entry)) r (now (out .exit)) ⌝ }
+{
+    let read = read_load(load);
+    let found = read.answer;
+    match found {
+        Checked::Good => {
+            let ran = run(read.load);
+            let slots = ran.slots;
+            number_given(write_array(slots, ran.count, out))
+        }
+        Checked::Refused(refusal) => number_of(refusal),
+    }
 }

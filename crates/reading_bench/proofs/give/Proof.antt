@@ -7,7 +7,8 @@ use lib.ListN.{length}
 use Rattle.words.proofs.OverwriteLaws.{sets-front}
 use Rattle.refusals.specs.declared.Refusal.the-variants.{OutputShort}
 use Rattle.refusals.specs.declared.Checked.the-variants.{Good, Refused}
-use Rattle.refusals.proofs.GivenLaws.{refused-given, short-given, written-given}
+use Rattle.refusals.proofs.GivenLaws.{short-given, written-given}
+use Rattle.reading_bench.proofs.ForCLaws.{refused-numbered}
 use Rattle.reading_bench.proofs.give.Statement.{statement}
 use Rattle.reading_bench.proofs.give.Tie as tie
 
@@ -43,11 +44,8 @@ is-refused : tie.Need-returns-3
 is-refused c =
     let told = c .before .before in
     let start = told .before .before .before .before .args in
-    record {
-      found = Refused (told .found .given .0 .0);
-      given = refused-given (start .found) (start .answer .now) (start .out .now) _ (told .found .given .1);
-      number-is = c .number-of2 .ensures;
-    }
+    refused-numbered (start .found) (start .answer .now) (start .out .now) _ _ (told .found .given .1)
+    (c .number-of2 .ensures)
 
 pub give-spec : {M : Type 1} → statement M
 give-spec =

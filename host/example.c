@@ -1,0 +1,123 @@
+/* A host of the reading bench: reads a load file and says in plain words what the bench gives.
+ *
+ * usage: example [FILE]      without FILE it reads standard input
+ *
+ * Exit status: 0 where the file is accepted, 1 where it is refused, 2 where it cannot be read. */
+#include <inttypes.h>
+#include <stdbool.h>
+#include <stdio.h>
+
+#include "reading_bench.h"
+
+enum { ACCEPTED = 0, REFUSED = 1, CANNOT = 2, HEADER_BYTES = 4, SLOT_BYTES = 8 };
+
+/* One byte more than the longest load file: a file that fills it all is refused like any other that
+   is too long. */
+struct load_file {
+    size_t length;
+    uint8_t bytes[BENCH_LOAD_BYTES_MAX + 1];
+};
+
+struct answers {
+    uint8_t bound[BENCH_BOUND_BYTES];
+    uint8_t verdict[BENCH_VERDICT_BYTES];
+    uint8_t margins[BENCH_MARGINS_BYTES];
+    uint8_t schedule[BENCH_SCHEDULE_BYTES_MAX];
+};
+
+static uint32_t number_at(const uint8_t *bytes, unsigned width)
+{
+    uint32_t number = 0;
+    for (unsigned at = width; at > 0; at--)
+        number = number << 8 | bytes[at - 1];
+    return number;
+}
+
+/* Two's complement, read without a cast that would hang on the machine. */
+static int32_t margin_at(const uint8_t *bytes)
+{
+    uint32_t word = number_at(bytes, 4);
+    return word <= INT32_MAX ? (int32_t)word : -(int32_t)(UINT32_MAX - word) - 1;
+}
+
+static const char *reason_of(uint32_t number)
+{
+    static const char *const reasons[] = {
+        [BENCH_FILE_SHORT] = "it ends before or inside a record that is due",
+        [BENCH_MARK_DIFFERS] = "a mark differs, or the version is not 1",
+        [BENCH_OUT_OF_RANGE] = "a number is outside its range",
+        [BENCH_IDENTIFIER_TAKEN] = "an identifier stands in an earlier row",
+        [BENCH_BOX_TAKEN] = "a box stands in an earlier row",
+        [BENCH_WINDOW_STEPS] = "a window's steps are not there, or not in order",
+        [BENCH_LIMIT_BELOW_CHAIN] = "a window's limit is below its chain",
+        [BENCH_END_DIFFERS] = "the end count is wrong, or bytes follow",
+        [BENCH_OUTPUT_SHORT] = "the output is too short",
+    };
+    return number < sizeof reasons / sizeof *reasons ? reasons[number] : "no such number";
+}
+
+/* What the file is refused for, or 0 and every answer. */
+static uint32_t ask_bench(const struct load_file *file, struct answers *answers)
+{
+    const uint8_t *load = file->bytes;
+    uint32_t number = bench_bound(load, file->length, answers->bound, sizeof answers->bound);
+    if (number == BENCH_GOOD)
+        number = bench_verdict(load, file->length, answers->verdict, sizeof answers->verdict);
+    if (number == BENCH_GOOD)
+        number = bench_margins(load, file->length, answers->margins, sizeof answers->margins);
+    if (number == BENCH_GOOD)
+        number = bench_schedule(load, file->length, answers->schedule, sizeof answers->schedule);
+    return number;
+}
+
+static void show_margin(unsigned row, int32_t margin)
+{
+    if (margin < 0)
+        printf("Row %u may end up to %" PRId32 " after its deadline.\n", row, -margin);
+    else
+        printf("Row %u ends by its deadline, at least %" PRId32 " before it.\n", row, margin);
+}
+
+static void show_starts(const uint8_t *schedule)
+{
+    const uint8_t *slot = schedule + HEADER_BYTES;
+    for (uint32_t left = number_at(schedule + 2, 2); left > 0; left--, slot += SLOT_BYTES)
+        printf("At %" PRIu32 " row %u starts step %u.\n", number_at(slot + 4, 4), slot[2], slot[3]);
+}
+
+/* The file was accepted, so its fourth byte is the number of rows. */
+static void show_answers(const struct load_file *file, const struct answers *answers)
+{
+    unsigned rows = file->bytes[3];
+    printf("Rows: %u. All steps are over by %" PRIu32 ".\n", rows, number_at(answers->bound, 4));
+    for (unsigned row = 1; row <= rows; row++)
+        show_margin(row, margin_at(answers->margins + 4 * (row - 1)));
+    printf("The verdict is %s.\n", answers->verdict[0] == 1 ? "yes" : "no");
+    show_starts(answers->schedule);
+}
+
+static bool read_file(FILE *from, struct load_file *file)
+{
+    file->length = fread(file->bytes, 1, sizeof file->bytes, from);
+    return ferror(from) == 0;
+}
+
+int main(int count, char **words)
+{
+    struct load_file file;
+    struct answers answers;
+    FILE *from = count == 2 ? fopen(words[1], "rb") : stdin;
+    if (count > 2 || from == NULL || !read_file(from, &file)) {
+        fprintf(stderr, "usage: example [FILE]: the load file cannot be read\n");
+        return CANNOT;
+    }
+    if (from != stdin)
+        fclose(from);
+    uint32_t number = ask_bench(&file, &answers);
+    if (number != BENCH_GOOD) {
+        printf("The load file is refused with %" PRIu32 ": %s.\n", number, reason_of(number));
+        return REFUSED;
+    }
+    show_answers(&file, &answers);
+    return ACCEPTED;
+}

@@ -1,0 +1,168 @@
+/* The calls for C under load: tens of thousands of load files, sound and damaged, are lent to the
+ * bench and to the second program, and every answer is compared.
+ *
+ * usage: under_load FILES [ALTERED]      ALTERED is an answer, counted from 1, of which one byte
+ *                                        is altered: a difference that must show
+ *
+ * Each call is lent rooms of several lengths, with guard bytes round every slice. Numbers, answers,
+ * bytes past the answer, guard bytes and the lent file must all be the same afterwards. */
+#include <inttypes.h>
+#include <stdio.h>
+#include <stdlib.h>
+#include <string.h>
+
+#include "calls.h"
+#include "damaged_file.h"
+#include "numbers.h"
+#include "reading_bench.h"
+
+enum { SAME = 0, DIFFERENT = 1, CANNOT = 2 };
+enum { GUARD = 24, SPARE = 7, ROOM_MOST = BENCH_SCHEDULE_BYTES_MAX + SPARE };
+
+_Static_assert(BENCH_GOOD == ACCEPTED, "0");
+_Static_assert(BENCH_FILE_SHORT == FILE_SHORT, "1");
+_Static_assert(BENCH_MARK_DIFFERS == MARK_DIFFERS, "2");
+_Static_assert(BENCH_OUT_OF_RANGE == OUT_OF_RANGE, "3");
+_Static_assert(BENCH_IDENTIFIER_TAKEN == IDENTIFIER_TAKEN, "4");
+_Static_assert(BENCH_BOX_TAKEN == BOX_TAKEN, "5");
+_Static_assert(BENCH_WINDOW_STEPS == WINDOW_STEPS, "6");
+_Static_assert(BENCH_LIMIT_BELOW_CHAIN == LIMIT_BELOW_CHAIN, "7");
+_Static_assert(BENCH_END_DIFFERS == END_DIFFERS, "8");
+_Static_assert(BENCH_OUTPUT_SHORT == OUTPUT_SHORT, "9");
+
+typedef uint32_t answer_call(const uint8_t *load, size_t load_len, uint8_t *out, size_t out_len);
+
+struct asked {
+    const char *name;
+    answer_call *bench;
+    answer_call *second;
+    size_t most;
+};
+
+static const struct asked CALLS[] = {
+    {"bench_bound", bench_bound, second_bound, BENCH_BOUND_BYTES},
+    {"bench_verdict", bench_verdict, second_verdict, BENCH_VERDICT_BYTES},
+    {"bench_margins", bench_margins, second_margins, BENCH_MARGINS_BYTES},
+    {"bench_schedule", bench_schedule, second_schedule, BENCH_SCHEDULE_BYTES_MAX},
+};
+
+enum { CALL_COUNT = sizeof CALLS / sizeof *CALLS };
+
+/* A file between guard bytes, and an output between guard bytes. */
+struct lent_file {
+    uint8_t bytes[GUARD + DAMAGED_MOST + GUARD];
+};
+
+struct lent_room {
+    uint8_t bytes[GUARD + ROOM_MOST + GUARD];
+};
+
+/* What was compared so far, and which answer is to be altered; none where that is 0. */
+struct tally {
+    uint64_t answers;
+    uint64_t altered;
+    uint64_t by_number[BENCH_OUTPUT_SHORT + 1];
+};
+
+static void fill(struct dice *dice, uint8_t *bytes, size_t length)
+{
+    for (size_t at = 0; at < length; at++)
+        bytes[at] = (uint8_t)throw_dice(dice);
+}
+
+/* The length of this file's own answer, as the second program gives it; 0 for a refused file. */
+static size_t answer_length(const struct asked *asked, const struct damaged_file *file)
+{
+    uint8_t out[BENCH_SCHEDULE_BYTES_MAX];
+    if (asked->second(file->bytes, file->length, out, sizeof out) != BENCH_GOOD)
+        return 0;
+    if (asked->most < BENCH_SCHEDULE_BYTES_MAX)
+        return asked->most;
+    return BENCH_SCHEDULE_BYTES((size_t)(out[2] | out[3] << 8));
+}
+
+static int tell(const struct asked *asked, const struct damaged_file *file, size_t room,
+                const char *what)
+{
+    printf("%s, a room of %zu bytes: %s differs. The file:\n", asked->name, room, what);
+    for (size_t at = 0; at < file->length; at++)
+        printf("%02X%c", file->bytes[at], at % 32 == 31 || at + 1 == file->length ? '\n' : ' ');
+    return DIFFERENT;
+}
+
+/* Lends a file and a room to both, and compares what they gave and left. */
+static int compare(struct tally *tally, struct dice *dice, const struct asked *asked,
+                   const struct damaged_file *file, size_t room)
+{
+    struct lent_file load, load_before;
+    struct lent_room bench, second, before;
+    size_t place = GUARD - throw_dice(dice) % 8;
+    fill(dice, load.bytes, sizeof load.bytes);
+    memcpy(load.bytes + place, file->bytes, file->length);
+    load_before = load;
+    fill(dice, before.bytes, sizeof before.bytes);
+    bench = second = before;
+    uint32_t given = asked->bench(load.bytes + place, file->length, bench.bytes + place, room);
+    uint32_t wanted = asked->second(file->bytes, file->length, second.bytes + place, room);
+    tally->answers++;
+    if (tally->answers == tally->altered)
+        second.bytes[place] ^= 1;
+    if (given != wanted)
+        return tell(asked, file, room, "the number");
+    if (memcmp(&load, &load_before, sizeof load) != 0)
+        return tell(asked, file, room, "the lent file");
+    if (memcmp(bench.bytes, before.bytes, place) != 0
+        || memcmp(bench.bytes + place + room, before.bytes + place + room,
+                  sizeof bench.bytes - place - room) != 0)
+        return tell(asked, file, room, "a guard byte");
+    if (memcmp(&bench, &second, sizeof bench) != 0)
+        return tell(asked, file, room, "the output");
+    if (given <= BENCH_OUTPUT_SHORT)
+        tally->by_number[given]++;
+    return SAME;
+}
+
+/* Rooms: just enough, more, one byte short, none. */
+static int compare_rooms(struct tally *tally, struct dice *dice, const struct asked *asked,
+                         const struct damaged_file *file)
+{
+    size_t length = answer_length(asked, file);
+    int found = compare(tally, dice, asked, file, length);
+    if (found == SAME)
+        found = compare(tally, dice, asked, file, length + 1 + throw_dice(dice) % SPARE);
+    if (found == SAME && length > 0)
+        found = compare(tally, dice, asked, file, length - 1);
+    if (found == SAME && length > 1)
+        found = compare(tally, dice, asked, file, 0);
+    return found;
+}
+
+static int compare_files(struct tally *tally, uint64_t files)
+{
+    struct dice dice = {0x9E3779B97F4A7C15u};
+    int found = SAME;
+    for (uint64_t made = 0; made < files && found == SAME; made++) {
+        struct damaged_file file;
+        make_file(&dice, made, &file);
+        for (unsigned call = 0; call < CALL_COUNT && found == SAME; call++)
+            found = compare_rooms(tally, &dice, &CALLS[call], &file);
+    }
+    return found;
+}
+
+int main(int count, char **words)
+{
+    if (count < 2 || count > 3) {
+        fputs("usage: under_load FILES [ALTERED]\n", stderr);
+        return CANNOT;
+    }
+    struct tally tally = {.altered = count == 3 ? strtoull(words[2], NULL, 10) : 0};
+    uint64_t files = strtoull(words[1], NULL, 10);
+    int found = compare_files(&tally, files);
+    printf("under load: %" PRIu64 " files, %" PRIu64 " answers compared, by number", files,
+           tally.answers);
+    for (unsigned number = 0; number <= BENCH_OUTPUT_SHORT; number++)
+        printf(" %" PRIu64, tally.by_number[number]);
+    puts(found == SAME ? ": no difference" : ": a difference");
+    return found;
+}
