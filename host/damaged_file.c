@@ -4,7 +4,8 @@
 
 #include "bound.h"
 
-enum { SOUND_EVERY = 4, FULL_EVERY = 1000, QUICK_SIZES = 8 };
+/* Of random_load.h's sizes the first 8 are quick to run. */
+enum { QUICK = 8, SOUND_EVERY = 4, SLOW_EVERY = 100, FULL_EVERY = 1000, EMPTY_AT = 500 };
 
 /* A load that is not refused, its deadlines on either side of its row bounds. */
 static struct load sound_load(struct dice *dice, unsigned sizes)
@@ -102,7 +103,7 @@ enum { DAMAGE_COUNT = sizeof DAMAGES / sizeof *DAMAGES, SPOILED = DAMAGE_COUNT }
 
 static void make_damaged(struct dice *dice, struct damaged_file *file)
 {
-    struct load load = sound_load(dice, QUICK_SIZES);
+    struct load load = sound_load(dice, QUICK);
     unsigned way = throw_dice(dice) % (2 * DAMAGE_COUNT);
     if (way >= SPOILED)
         spoil(dice, &load);
@@ -111,12 +112,21 @@ static void make_damaged(struct dice *dice, struct damaged_file *file)
         DAMAGES[way](dice, file);
 }
 
+static struct load sound_at(struct dice *dice, uint64_t turn)
+{
+    if (turn % FULL_EVERY == 0)
+        return full_load(dice);
+    if (turn % FULL_EVERY == EMPTY_AT)
+        return (struct load){0};
+    return sound_load(dice, turn % SLOW_EVERY == 0 ? ALL_SIZES : QUICK);
+}
+
 void make_file(struct dice *dice, uint64_t turn, struct damaged_file *file)
 {
-    if (turn % SOUND_EVERY != 0) {
+    if (turn % SOUND_EVERY == 0) {
+        struct load load = sound_at(dice, turn);
+        put_file(&load, file);
+    } else {
         make_damaged(dice, file);
-        return;
     }
-    struct load load = turn % FULL_EVERY == 0 ? full_load(dice) : sound_load(dice, QUICK_SIZES);
-    put_file(&load, file);
 }

@@ -13,8 +13,8 @@ struct damaged_file {
     uint8_t bytes[DAMAGED_MOST];
 };
 
-/* The file of a turn, counted from 0: every fourth is sound, and one in a thousand is of 24 rows of
-   8 steps; the others are damaged, each in one of several ways. */
+/* The file of a turn, counted from 0. Every fourth is sound, now and then one with long waits, one
+   of 24 rows of 8 steps, or one with no rows; the others are damaged, each in one way of many. */
 void make_file(struct dice *dice, uint64_t turn, struct damaged_file *file);
 
 #endif

@@ -32,23 +32,24 @@ _Static_assert(BENCH_OUTPUT_SHORT == OUTPUT_SHORT, "9");
 
 typedef uint32_t answer_call(const uint8_t *load, size_t load_len, uint8_t *out, size_t out_len);
 
+/* A call, and the length of its answer; 0 for the schedule, which has its own count. */
 struct asked {
     const char *name;
     answer_call *bench;
     answer_call *second;
-    size_t most;
+    size_t length;
 };
 
 static const struct asked CALLS[] = {
     {"bench_bound", bench_bound, second_bound, BENCH_BOUND_BYTES},
     {"bench_verdict", bench_verdict, second_verdict, BENCH_VERDICT_BYTES},
     {"bench_margins", bench_margins, second_margins, BENCH_MARGINS_BYTES},
-    {"bench_schedule", bench_schedule, second_schedule, BENCH_SCHEDULE_BYTES_MAX},
+    {"bench_schedule", bench_schedule, second_schedule, 0},
 };
 
 enum { CALL_COUNT = sizeof CALLS / sizeof *CALLS };
 
-/* A file between guard bytes, and an output between guard bytes. */
+/* A file, and an output, each between guard bytes. */
 struct lent_file {
     uint8_t bytes[GUARD + DAMAGED_MOST + GUARD];
 };
@@ -70,15 +71,23 @@ static void fill(struct dice *dice, uint8_t *bytes, size_t length)
         bytes[at] = (uint8_t)throw_dice(dice);
 }
 
-/* The length of this file's own answer, as the second program gives it; 0 for a refused file. */
-static size_t answer_length(const struct asked *asked, const struct damaged_file *file)
+/* What the second program gives where there is room enough: its number, and the answer; a refused
+   file has no bytes. */
+struct wanted {
+    uint32_t number;
+    size_t length;
+    uint8_t bytes[BENCH_SCHEDULE_BYTES_MAX];
+};
+
+static void ask_second(const struct asked *asked, const struct damaged_file *file,
+                       struct wanted *wanted)
 {
-    uint8_t out[BENCH_SCHEDULE_BYTES_MAX];
-    if (asked->second(file->bytes, file->length, out, sizeof out) != BENCH_GOOD)
-        return 0;
-    if (asked->most < BENCH_SCHEDULE_BYTES_MAX)
-        return asked->most;
-    return BENCH_SCHEDULE_BYTES((size_t)(out[2] | out[3] << 8));
+    wanted->length = 0;
+    wanted->number = asked->second(file->bytes, file->length, wanted->bytes, sizeof wanted->bytes);
+    if (wanted->number == BENCH_GOOD && asked->length != 0)
+        wanted->length = asked->length;
+    else if (wanted->number == BENCH_GOOD)
+        wanted->length = BENCH_SCHEDULE_BYTES((size_t)(wanted->bytes[2] | wanted->bytes[3] << 8));
 }
 
 static int tell(const struct asked *asked, const struct damaged_file *file, size_t room,
@@ -90,35 +99,34 @@ static int tell(const struct asked *asked, const struct damaged_file *file, size
     return DIFFERENT;
 }
 
-/* Lends a file and a room to both, and compares what they gave and left. */
+/* Lends the file and a room to the bench, and compares what it gave and left with what is wanted:
+   9 where the room is below the answer's length, and then, as after any refusal, every byte as it
+   was. */
 static int compare(struct tally *tally, struct dice *dice, const struct asked *asked,
-                   const struct damaged_file *file, size_t room)
+                   const struct damaged_file *file, const struct wanted *wanted, size_t room)
 {
     struct lent_file load, load_before;
-    struct lent_room bench, second, before;
+    struct lent_room out, out_wanted;
     size_t place = GUARD - throw_dice(dice) % 8;
+    uint32_t number = room < wanted->length ? BENCH_OUTPUT_SHORT : wanted->number;
     fill(dice, load.bytes, sizeof load.bytes);
     memcpy(load.bytes + place, file->bytes, file->length);
     load_before = load;
-    fill(dice, before.bytes, sizeof before.bytes);
-    bench = second = before;
-    uint32_t given = asked->bench(load.bytes + place, file->length, bench.bytes + place, room);
-    uint32_t wanted = asked->second(file->bytes, file->length, second.bytes + place, room);
+    fill(dice, out.bytes, sizeof out.bytes);
+    out_wanted = out;
+    if (number == BENCH_GOOD)
+        memcpy(out_wanted.bytes + place, wanted->bytes, wanted->length);
     tally->answers++;
     if (tally->answers == tally->altered)
-        second.bytes[place] ^= 1;
-    if (given != wanted)
+        out_wanted.bytes[place] ^= 1;
+    uint32_t given = asked->bench(load.bytes + place, file->length, out.bytes + place, room);
+    if (given != number)
         return tell(asked, file, room, "the number");
     if (memcmp(&load, &load_before, sizeof load) != 0)
-        return tell(asked, file, room, "the lent file");
-    if (memcmp(bench.bytes, before.bytes, place) != 0
-        || memcmp(bench.bytes + place + room, before.bytes + place + room,
-                  sizeof bench.bytes - place - room) != 0)
-        return tell(asked, file, room, "a guard byte");
-    if (memcmp(&bench, &second, sizeof bench) != 0)
-        return tell(asked, file, room, "the output");
-    if (given <= BENCH_OUTPUT_SHORT)
-        tally->by_number[given]++;
+        return tell(asked, file, room, "the lent file, or a byte beside it,");
+    if (memcmp(&out, &out_wanted, sizeof out) != 0)
+        return tell(asked, file, room, "the output, or a byte beside it,");
+    tally->by_number[number]++;
     return SAME;
 }
 
@@ -126,14 +134,16 @@ static int compare(struct tally *tally, struct dice *dice, const struct asked *a
 static int compare_rooms(struct tally *tally, struct dice *dice, const struct asked *asked,
                          const struct damaged_file *file)
 {
-    size_t length = answer_length(asked, file);
-    int found = compare(tally, dice, asked, file, length);
+    struct wanted wanted;
+    ask_second(asked, file, &wanted);
+    int found = compare(tally, dice, asked, file, &wanted, wanted.length);
     if (found == SAME)
-        found = compare(tally, dice, asked, file, length + 1 + throw_dice(dice) % SPARE);
-    if (found == SAME && length > 0)
-        found = compare(tally, dice, asked, file, length - 1);
-    if (found == SAME && length > 1)
-        found = compare(tally, dice, asked, file, 0);
+        found = compare(tally, dice, asked, file, &wanted,
+                        wanted.length + 1 + throw_dice(dice) % SPARE);
+    if (found == SAME && wanted.length > 0)
+        found = compare(tally, dice, asked, file, &wanted, wanted.length - 1);
+    if (found == SAME && wanted.length > 1)
+        found = compare(tally, dice, asked, file, &wanted, 0);
     return found;
 }
 
