@@ -28,7 +28,7 @@ extern "C" {
  *   has written nothing. Bytes after the answer stay as they were.
  * - Any bytes may be lent as a load file, of any length: what is wrong with them a number tells.
  * - It allocates nothing, keeps no state between calls, and always returns. Calls with outputs of
- *   their own may run at the same time.
+ *   their own may run at the same time. 32 KiB of stack are enough: measured, not proved.
  */
 
 /* The numbers that these calls give, in the order of document 01's table. */
