@@ -139,7 +139,7 @@ module _ (load : Load) (bench : Bench) (board : Board) (shows : Shows load bench
         (opening-after load bench board shows i l)
         ∙ benchStarted-state bench size (viewOf load) i _ inside
 
-    renewed : lookAfter load board (bench .clock) i ≡ lookOf (viewOf load) (stateOf after) i
+    renewed : lookAfter (rowAt load i) board (bench .clock) i ≡ lookOf (viewOf load) (stateOf after) i
     renewed =
         sym
         (ap₂ (λ a b. lookBy load i a b (getD (after .opening) i 0))
@@ -155,7 +155,7 @@ module _ (load : Load) (bench : Bench) (board : Board) (shows : Shows load bench
         (getD-set-other (bench .end) i k _ 0 q) (getD-set-other (bench .opening) i k _ 0 q)
 
     -- the row is looked up anew, and the others are as they were
-    pub shows-started : (look : Look) → look ≡ lookAfter load board (bench .clock) i → Modest look
+    pub shows-started : (look : Look) → look ≡ lookAfter (rowAt load i) board (bench .clock) i → Modest look
         → Shows load after (boardWith board i look)
     shows-started look e m =
         record {

@@ -11,7 +11,7 @@ use Rattle.counting.specs.Searches.{at}
 use Rattle.counting.proofs.ListLaws.{filled-stored}
 use Rattle.refusals.specs.declared.Checked.the-variants.{Good}
 use Rattle.load.specs.declared.Load.{Load}
-use Rattle.load.specs.Load.{lastMoment}
+use Rattle.load.specs.Load.{lastMoment, rowAt}
 use Rattle.load.specs.View.{View, viewOf}
 use Rattle.load.specs.Check.{checkLoad}
 use Rattle.load.proofs.AcceptableLaws.{check-acceptable}
@@ -142,7 +142,7 @@ module _ (load : Load) (accepted : checkLoad load ≡ Good) (most : load .rows �
           room = place-left;
         }
 
-    pub running-start : (look : Look) → look ≡ lookAfter load board clock i → Modest look
+    pub running-start : (look : Look) → look ≡ lookAfter (rowAt load i) board clock i → Modest look
         → Running load (boardWith board i look) (clock + lookIn board i .cost) (count + 1) (set slots count slot)
     running-start look e m =
         let over : Bench = benchOver (r .bench) board i in
@@ -153,7 +153,7 @@ module _ (load : Load) (accepted : checkLoad load ≡ Good) (most : load .rows �
           clock-is = ap (λ t. t + lookIn board i .cost) (r .clock-is);
           shows =
               shows-started load (r .bench) board (r .shows) (r .sized) i l (omega arith) look
-              (e ∙ ap (λ t. lookAfter load board t i) (sym (r .clock-is))) m;
+              (e ∙ ap (λ t. lookAfter (rowAt load i) board t i) (sym (r .clock-is))) m;
           kept = subst (Kept L) (sym state) (chosen-kept L good s (r .kept) (sym asked ∙ nd) i chosen-is);
           moves = r .moves - 1;
           moves-most = omega (arith, r .moves-most, cost-least);

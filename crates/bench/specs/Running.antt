@@ -4,18 +4,18 @@
 use Prim.Native.Nat.{ℕ, _+_, _≤_, _<_}
 use mathlib.Core.Bool.{true}
 use mathlib.Core.Path.{_≡_}
-use Rattle.load.specs.declared.Load.{Load}
-use Rattle.load.specs.Load.{lastMoment, rowAt}
+use Rattle.load.specs.declared.Row.{Row}
+use Rattle.load.specs.Load.{lastMoment}
 use Rattle.bench.specs.declared.Look.{Look}
 use Rattle.bench.specs.declared.Board.{Board}
 use Rattle.bench.specs.Alike.{viewAlike, stateAlike, lookOf}
 use Rattle.bench.specs.Boards.{lookIn}
 use Rattle.bench.specs.Choices.{openingIn, candidateIn}
 
--- row i once its next step, started at a moment, is over
-abbrev pub lookAfter : Load → Board → ℕ → ℕ → Look
-lookAfter load board clock i =
-    lookOf (viewAlike (rowAt load i))
+-- row i, which is that row, once its next step, started at a moment, is over
+abbrev pub lookAfter : Row → Board → ℕ → ℕ → Look
+lookAfter row board clock i =
+    lookOf (viewAlike row)
     (stateAlike 0 (lookIn board i .finished + 1) (clock + lookIn board i .cost)
     (openingIn board clock i))
     0

@@ -11,6 +11,7 @@ use crate::search::opening_after;
 use crate::search::search;
 use crate::state::fresh;
 use load::Load;
+use load::Row;
 use load::check_load;
 use refusals::Checked;
 use refusals::Refusal;
@@ -24,21 +25,20 @@ ghost use Rattle.refusals.specs.declared.Checked.the-variants.{Good, Refused};
 ghost use Rattle.load.specs.Check.{checkLoad};
 ghost use Rattle.load.specs.View.{viewOf};
 ghost use Rattle.rules.specs.Run.{schedule};
-ghost use Rattle.bench.specs.Alike.{Modest};
+ghost use Rattle.bench.specs.Alike.{Fitting, Modest};
 ghost use Rattle.bench.specs.Choices.{BoardFits, candidateIn};
 ghost use Rattle.bench.specs.Runs.{ranWith};
 ghost use Rattle.bench.specs.Running.{lookAfter};
 ghost use Rattle.bench.specs.Calls.{Runs};
 
-// Looks a row up as it will be once its next step, a candidate started at the clock, is over.
-fn look_after(load: Load, board: Board, clock: u32, i: usize) -> Look
-    requires { ⌜ checkLoad load ≡ Good ⌝ }
-    requires { ⌜ BoardFits board clock (load .rows) ⌝ }
-    requires { ⌜ (i < load .rows) × (candidateIn board clock (load .rows) i ≡ true) ⌝ }
-    ensures { λ r. ⌜ r ≡ lookAfter load board clock i ⌝ }
+// Looks row i up as it will be once its next step, a candidate started at the clock, is over.
+fn look_after(row: Row, board: Board, clock: u32, rows: usize, i: usize) -> Look
+    requires { ⌜ Fitting row ⌝ }
+    requires { ⌜ BoardFits board clock rows ⌝ }
+    requires { ⌜ (i < rows) × (candidateIn board clock rows i ≡ true) ⌝ }
+    ensures { λ r. ⌜ r ≡ lookAfter row board clock i ⌝ }
     ensures { λ r. ⌜ Modest r ⌝ }
 {
-    let row = load.row[i];
     let end = clock + board.cost[i];
     let opening = opening_after(board.stays[i], board.held[i], board.opening[i], clock);
     look_of(row, board.finished[i] + 1, end, opening)
@@ -69,7 +69,8 @@ fn run_checked(load: Load) -> Ran
                 start: clock,
             };
             count += 1;
-            let look = look_after(load, board, clock, i);
+            let row = load.row[i];
+            let look = look_after(row, board, clock, rows, i);
             clock += board.cost[i];
             board = board.with_look(i, look);
             done = all_finished(board, rows);

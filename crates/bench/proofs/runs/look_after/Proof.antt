@@ -6,7 +6,6 @@ use native.Mathlib.Omega.{arith}
 use Rattle.load.specs.Load.{lastMoment}
 use Rattle.bench.specs.Boards.{lookIn}
 use Rattle.bench.specs.Choices.{openingBy}
-use Rattle.bench.proofs.CheckedLaws.{checked-fitting}
 use Rattle.bench.proofs.SearchLaws.{candidate-more, candidate-ends}
 use borrow.Author.Needs.{needs}
 use Rattle.bench.proofs.runs.look_after.Statement.{statement}
@@ -31,17 +30,17 @@ ends : (c : tie.Start) → c .args .clock + lookIn (c .args .t2) (c .args .i) .c
 ends c = candidate-ends (lookIn (c .args .t2) (c .args .i)) (c .args .clock) _ (c .pre .1 .1 .1)
 
 add-end : tie.Need-add-end
-add-end c = omega (arith, ends (c .before .before))
+add-end c = omega (arith, ends (c .before))
 
 add-look-of : tie.Need-add-look-of
-add-look-of c = omega (arith, more (c .before .before .before .before .before .before .before))
+add-look-of c = omega (arith, more (c .before .before .before .before .before .before))
 
 look-of-requires : tie.Need-look-of-requires
 look-of-requires c κs =
-    let start = c .before .before .before .before .before .before .before in
+    let start = c .before .before .before .before .before .before in
     let l = start .pre .1 .1 .0 in
     let look = lookIn (start .args .t2) (start .args .i) in (
-      checked-fitting (start .args .t1) (start .pre .0) (start .args .i) l,
+      start .pre .0,
       (
         omega (arith, more start),
         ends start,
@@ -58,8 +57,6 @@ pub look-after-spec : {M : Type 1} → statement M
 look-after-spec =
     tie.close
     (tie.spec
-    (λ c. search needs)
-    (λ c. search needs)
     (λ c. search needs)
     (λ c. search needs)
     add-end

@@ -11,15 +11,9 @@ use Rattle.bench.specs.declared.Bench.{Bench}
 use Rattle.bench.specs.Boards.{Shows}
 use Rattle.bench.specs.Choices.{BoardFits}
 use Rattle.bench.specs.Moves.{finishedIn}
-use Rattle.bench.proofs.CheckedLaws.{checked-rows}
-use Rattle.bench.proofs.RunningLaws.{
-  Running,
-  fresh-shaped,
-  running-fresh,
-  running-early,
-  running-done,
-  running-on,
-}
+use Rattle.bench.proofs.CheckedLaws.{checked-rows, checked-fitting}
+use Rattle.bench.proofs.RunningLaws.{Running, fresh-shaped, running-fresh, running-early}
+use Rattle.bench.proofs.RunningLaws.{running-done, running-on}
 use Rattle.bench.proofs.StartedRun.{Startable, running-startable, running-start}
 use borrow.Author.Needs.{needs}
 use Rattle.bench.proofs.runs.run_checked.Statement.{statement}
@@ -34,26 +28,26 @@ abbrev μ-loop : tie.MeasureT-loop
 
 board-of-requires : tie.Need-board-of-requires Inv-loop μ-loop
 board-of-requires c κs =
-    let ok = c .before .before .pre in (ok, rw (c .fresh .ensures) (fresh-shaped _ ok (checked-rows _ ok)))
+    let ok = c .before .pre in (ok, rw (c .fresh .ensures) (fresh-shaped _ ok (checked-rows _ ok)))
 
 loop-holds : tie.Need-loop-holds Inv-loop μ-loop
 loop-holds c =
     let made = c .before in
-    let start = made .before .before .before in
+    let start = made .before .before in
     let board = made .board-of .result in (
       c .all-finished .ensures,
-      running-fresh (start .args .load) (start .pre) (checked-rows _ (start .pre)) board
-          (subst (λ (b : Bench). Shows (start .args .load) b board) (made .before .fresh .ensures)
+      running-fresh (start .args .t1) (start .pre) (checked-rows _ (start .pre)) board
+          (subst (λ (b : Bench). Shows (start .args .t1) b board) (made .before .fresh .ensures)
           (made .board-of .ensures)),
     )
 
 -- a turn, with work left
 module _ (c : tie.In-loop Inv-loop μ-loop) where
   abbrev start : tie.Start Inv-loop μ-loop
-  start = c .before .before .before .before .before .before
+  start = c .before .before .before .before .before
 
   abbrev load : Load
-  load = start .args .load
+  load = start .args .t1
 
   rows-most : load .rows ≤ 24
   rows-most = checked-rows load (start .pre)
@@ -86,13 +80,15 @@ module _ (c : tie.Then1 Inv-loop μ-loop) where
 
 look-after-requires : tie.Need-look-after-requires Inv-loop μ-loop
 look-after-requires c κs =
-    let t = turn (c .before) in
-    let l = c .before .if1 .taken in (start t .pre, (fits t, (l, c .before .before .search .ensures .candidate l)))
+    let found = c .before .before in
+    let t = turn found in
+    let l = found .if1 .taken in
+    (checked-fitting (load t) (start t .pre) _ l, (fits t, (l, found .before .search .ensures .candidate l)))
 
 loop-again : tie.Need-loop-again Inv-loop μ-loop
 loop-again c =
     let looked = c .before .before .before in
-    let found = looked .before .before in
+    let found = looked .before .before .before in
     let t = turn found in (
       c .all-finished2 .ensures,
       rw (c .before .with-look .ensures)
@@ -112,7 +108,7 @@ loop-again-2 c =
 
 returns : tie.Need-returns Inv-loop μ-loop
 returns c =
-    let start = c .before .before .before .before .before .before in
+    let start = c .before .before .before .before .before in
     let inv = c .before .loop .inv in
     running-done _ (start .pre) (checked-rows _ (start .pre)) _ _ _ _ (inv .1)
     (sym (inv .0) ∙ not-false _ (c .loop-test .left))
@@ -126,7 +122,7 @@ run-checked-spec =
     (λ c. search needs)
     (λ c κs. search needs)
     board-of-requires
-    (λ c κs. checked-rows _ (c .before .before .before .pre))
+    (λ c κs. checked-rows _ (c .before .before .pre))
     loop-holds
     (λ c κs. fits c)
     (λ c. omega (arith, goes c .place))
@@ -136,13 +132,15 @@ run-checked-spec =
     (λ c. omega (arith, goes (c .before) .room))
     (λ c. omega (arith, goes (c .before) .room))
     (λ c. omega (arith, goes (c .before) .room))
+    (λ c. omega (arith, goes (c .before) .place))
+    (λ c. goes (c .before) .place)
     look-after-requires
-    (λ c. omega (arith, goes (c .before .before) .place))
-    (λ c. goes (c .before .before) .place)
-    (λ c. omega (arith, goes (c .before .before .before) .ends))
-    (λ c κs. goes (c .before .before .before) .place)
-    (λ c κs. rows-most (c .before .before .before .before .before .before))
-    (λ c. omega (arith, goes (c .before .before .before .before .before)))
+    (λ c. omega (arith, goes (c .before .before .before) .place))
+    (λ c. goes (c .before .before .before) .place)
+    (λ c. omega (arith, goes (c .before .before .before .before) .ends))
+    (λ c κs. goes (c .before .before .before .before) .place)
+    (λ c κs. rows-most (c .before .before .before .before .before .before .before))
+    (λ c. omega (arith, goes (c .before .before .before .before .before .before)))
     loop-again
     (λ c κs. (fits (c .before .before), early (c .before .before)))
     (λ c. omega (arith, c .next-moment .ensures))
