@@ -8,7 +8,7 @@ use native.Mathlib.Omega.{arith}
 use borrow.Author.Tests.{ltb-true, leb-true, le-leb, lt-leb}
 use lib.Dec.{leb, ltb}
 use Rattle.counting.specs.Sums.{allTo}
-use Rattle.counting.proofs.TestLaws.{and-left, and-right, true-false}
+use Rattle.counting.proofs.TestLaws.{and-left, and-right, allTo-true, true-false}
 use Rattle.load.specs.Load.{lastMoment}
 use Rattle.bench.specs.declared.Look.{Look}
 use Rattle.bench.specs.declared.Board.{Board}
@@ -113,6 +113,22 @@ module _ (board : Board) (clock rows : ℕ) where
         | yes q ↦ g k l q
         | no q ↦ h k l (omega arith)
       ]
+
+  -- below the lowest unfinished step no row has a step left
+  pub passed-lowest : BoardFits board clock rows → (lowest : ℕ)
+      → ((j : ℕ) → j ≤ 8 → allTo (belowIn board j) rows ≡ leb j lowest) → PassedSteps lowest
+  passed-lowest fits lowest known k l h c =
+      let look = lookIn board k in
+      let more : look .finished < look .steps = candidate-more look clock _ c in
+      let low : allTo (belowIn board (look .finished + 1)) rows ≡ true =
+      known (look .finished + 1) (omega (arith, fits .modest k l .steps-most))
+      ∙ le-leb (look .finished + 1) lowest (omega arith) in
+      absurd
+      (omega (
+        arith,
+        leb-true (min (look .finished + 1) (look .steps)) (look .finished)
+            (allTo-true (belowIn board (look .finished + 1)) rows low k l),
+      ))
 
   -- the first that is not passed over is chosen
   pub first-chosen : (step i : ℕ) → i < rows → PassedSteps step → PassedRows step i

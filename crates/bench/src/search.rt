@@ -117,7 +117,7 @@ pub fn search(board: Board, clock: u32, rows: usize) -> usize
 {
     let lowest = lowest_step(board, rows);
     let mut found = rows;
-    'search: for step in 0..8u8 {
+    'search: for step in lowest..8 {
         for i in 0..rows {
             if board.finished[i] == step {
                 if is_candidate(

@@ -9,6 +9,7 @@ use Rattle.bench.specs.Choices.{candidateIn}
 use Rattle.bench.proofs.SearchLaws.{
   PassedSteps,
   PassedRows,
+  passed-lowest,
   passed-row,
   passed-step,
   first-chosen,
@@ -28,17 +29,19 @@ abbrev μ-loop : tie.MeasureT-loop
 
 abbrev Inv-search : tie.InvT-search
 Inv-search clock rows board lowest found₀ step₀ found step =
-    (step ≤ 8) × (rows ≤ 24) × (found ≡ rows) × PassedSteps board clock rows step
+    (rows ≤ 24) × (found ≡ rows) × PassedSteps board clock rows step
 
 abbrev μ-search : tie.MeasureT-search
 μ-search clock rows board lowest found₀ step₀ found step = 8 - step
 
 search-holds : tie.Need-search-holds Inv-loop μ-loop Inv-search μ-search
-search-holds c = (search needs, c .before .pre .rows-most, refl, λ k l h. absurd (omega arith))
+search-holds c =
+    let fits = c .before .pre in
+    (fits .rows-most, refl, passed-lowest _ _ _ fits (c .lowest-step .result) (c .lowest-step .ensures))
 
 loop-holds : tie.Need-loop-holds Inv-loop μ-loop Inv-search μ-search
 loop-holds c =
-    (search needs, c .before .search .inv .1, c .before .search .inv .2, λ k l h. absurd (omega arith))
+    (search needs, c .before .search .inv .0, c .before .search .inv .1, λ k l h. absurd (omega arith))
 
 is-candidate-requires : tie.Need-is-candidate-requires Inv-loop μ-loop Inv-search μ-search
 is-candidate-requires c κs =
@@ -87,18 +90,17 @@ search-again c =
     let rows =
     subst (λ n. PassedRows (start .args .t1) (start .args .clock) (start .args .rows) (round .step) n) e (inv .3) in (
       search needs,
-      search needs,
       inv .2,
-      passed-step (start .args .t1) (start .args .clock) (start .args .rows) _ (round .inv .3) rows,
+      passed-step (start .args .t1) (start .args .clock) (start .args .rows) _ (round .inv .2) rows,
     )
 
 returns : tie.Need-returns Inv-loop μ-loop Inv-search μ-search
 returns c =
     let start = c .before .before .before in
     let inv = c .before .search .inv in
-    let e : c .before .search .step ≡ 8 = omega arith in
-    let steps = subst (λ n. PassedSteps (start .args .t1) (start .args .clock) (start .args .rows) n) e (inv .3) in
-    rw (inv .2) (none-chosen (start .args .t1) (start .args .clock) (start .args .rows) (start .pre) steps)
+    rw (inv .1)
+    (none-chosen (start .args .t1) (start .args .clock) (start .args .rows) (start .pre)
+    (λ k l h. inv .2 k l (omega arith)))
 
 returns-2 : tie.Need-returns-2 Inv-loop μ-loop Inv-search μ-search
 returns-2 c =
@@ -112,7 +114,7 @@ returns-2 c =
     let known = lowest .lowest-step .ensures step (omega arith) in
     let e = equal .if1 .taken in
     first-chosen (start .args .t1) (start .args .clock) (start .args .rows) step (turn .before .loop .i)
-    (turn .loop-test .taken) (round .before .search .inv .3) (turn .before .loop .inv .3) e
+    (turn .loop-test .taken) (round .before .search .inv .2) (turn .before .loop .inv .3) e
     (candidate-is (start .args .t1) (start .args .clock) (start .args .rows) _ step _ e known
     ∙ sym (asked .is-candidate .ensures)
     ∙ c .before .before .if2 .taken)
