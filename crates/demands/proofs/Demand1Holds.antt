@@ -5,6 +5,13 @@ use Rattle.bench.specs.declared.Moved.{Moved}
 use Rattle.demands.specs.Demand1.{Demand1}
 use Rattle.demands.proofs.CallsDecided.{every-answer}
 use Rattle.demands.proofs.TableLaws.{numberOf-apart, numberOf-in-table}
+use Rattle.demands.proofs.RefusedAlone.{
+  refused-load,
+  refused-bound,
+  refused-margins,
+  refused-verdict,
+  refused-slots,
+}
 use Rattle.demands.proofs.RefusedMoves.{bench-kept}
 use Rattle.demands.proofs.CallNumbers.{load-gives, file-gives, schedule-gives, move-gives}
 
@@ -19,6 +26,11 @@ demand1 =
       schedule-numbers = λ load slots r e. rw e (schedule-gives load slots .number);
       move-numbers = λ load bench r e. rw e (move-gives load bench);
       run-numbers = λ load r e. rw e (load-gives load .number);
+      no-load = refused-load;
+      no-bound = refused-bound;
+      no-margins = refused-margins;
+      no-verdict = refused-verdict;
+      no-slots = refused-slots;
       load-stays = λ load out refusal after g. g .output-is;
       schedule-stays = λ slots out refusal after g. g .output-is;
       array-stays = λ slots n out refusal after g. g .output-is;

@@ -3,6 +3,7 @@ pub mod CallsDecided
 pub mod NumberLaws
 pub mod CallNumbers
 pub mod TableLaws
+pub mod RefusedAlone
 pub mod RefusedMoves
 pub mod Demand1Holds
 pub mod StateHeld

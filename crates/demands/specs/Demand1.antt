@@ -3,10 +3,12 @@
 -- slot lent to it." That a call ends is part of what is proved of its code, and what is lent to be
 -- read, as slots are, is altered by no call. To be read after PublicCalls. Rests on D49.
 use Prim.Native.Nat.{ℕ, _≤_}
-use mathlib.Core.Bool.{true}
+use mathlib.Core.Bool.{true, false}
 use mathlib.Core.List.{List, [], _∷_}
 use mathlib.Core.Path.{_≡_}
 use lib.Dec.{eqb}
+use lib.IntN.{pos}
+use lib.ListN.{replicate}
 use Rattle.counting.specs.Lists.{anyIn}
 use Rattle.refusals.specs.declared.Refusal.{Refusal}
 use Rattle.refusals.specs.declared.Checked.{Checked}
@@ -14,12 +16,17 @@ use Rattle.refusals.specs.declared.Checked.the-variants.{Refused}
 use Rattle.refusals.specs.Refusals.{numberGiven}
 use Rattle.refusals.specs.Calls.{NumberOf}
 use Rattle.load.specs.declared.Load.{Load}
+use Rattle.load.specs.Load.{mostRows, zeroLoad}
 use Rattle.load.specs.Calls.{CheckLoad}
 use Rattle.load_file.specs.declared.Reading.{Reading}
 use Rattle.load_file.specs.Calls.{ReadLoad, WriteLoad}
 use Rattle.rules.specs.declared.Slot.{Slot}
 use Rattle.rules.specs.declared.Outcome.the-variants as outcome
 use Rattle.rules.specs.Outcomes.{toldBy}
+use Rattle.bound.specs.declared.Bounded.{Bounded}
+use Rattle.bound.specs.declared.Margined.{Margined}
+use Rattle.bound.specs.declared.Judged.{Judged}
+use Rattle.bound.specs.Calls.{BoundOf, MarginsOf, VerdictOf}
 use Rattle.schedule.specs.Calls.{CheckSchedule, WriteSchedule, WriteArray}
 use Rattle.bench.specs.declared.Bench.{Bench}
 use Rattle.bench.specs.declared.Moved.{Moved}
@@ -62,6 +69,17 @@ pub record Demand1 : Type 0 where
       → OneOf (3 ∷ 4 ∷ 5 ∷ 6 ∷ 7 ∷ 10 ∷ 11 ∷ []) (toldBy (r .outcome) .number)
   pub run-numbers : (load : Load) (r : Ran) → Runs load r
       → OneOf (3 ∷ 4 ∷ 5 ∷ 6 ∷ 7 ∷ []) (numberGiven (r .answer))
+  -- a refusal is returned alone: with the all-zero load, bound 0, margins 0, verdict no, no slot
+  pub no-load : (bs : List ℕ) (r : Reading) (refusal : Refusal) → ReadLoad bs r
+      → r .answer ≡ Refused refusal → r .load ≡ zeroLoad
+  pub no-bound : (load : Load) (r : Bounded) (refusal : Refusal) → BoundOf load r
+      → r .answer ≡ Refused refusal → r .bound ≡ 0
+  pub no-margins : (load : Load) (r : Margined) (refusal : Refusal) → MarginsOf load r
+      → r .answer ≡ Refused refusal → r .margins ≡ replicate mostRows (pos 0)
+  pub no-verdict : (load : Load) (r : Judged) (refusal : Refusal) → VerdictOf load r
+      → r .answer ≡ Refused refusal → r .verdict ≡ false
+  pub no-slots : (load : Load) (r : Ran) (refusal : Refusal) → Runs load r
+      → r .answer ≡ Refused refusal → r .count ≡ 0
   -- a refused call leaves the output as it was
   pub load-stays : (load : Load) (out : List ℕ) (refusal : Refusal) (after : List ℕ)
       → WriteLoad load out (Refused refusal) after → after ≡ out
