@@ -14,7 +14,7 @@ use Rattle.load.specs.View.{View, isFree, stepsInAll}
 use Rattle.load.specs.Acceptable.{windowOf as windowAt}
 use Rattle.rules.specs.declared.Slot.{Slot}
 use Rattle.rules.specs.Slots.{slotAt, rowOf, stepOf, slotEnd}
-use Rattle.rules.specs.ScheduleRules.{NamesStep, HasSlot, SameRow, windowOf, SlotRules}
+use Rattle.rules.specs.ScheduleRules.{NamesStep, HasSlot, SameRow, SlotRules}
 use Rattle.rules.proofs.NextLaws.{countTo-ranked, slot-is, ofRow-mono, EachNext, in-order, later, once}
 use Rattle.rules.proofs.SlotLaws.{AfterLower, ofRow, Fits}
 
@@ -63,9 +63,9 @@ module _ (L : View) (slots : List Slot) (w : Whole L slots) where
   pub windows-kept : ((i p : ℕ) → i < L .rows → p < length (L .windows i)
       → windowAt L i p .first < windowAt L i p .last)
       → (k h p : ℕ) → SameRow slots k h → p < length (L .windows (rowOf (slotAt slots k)))
-      → slotAt slots k .step ≡ windowOf L (slotAt slots k) p .first
-      → slotAt slots h .step ≡ windowOf L (slotAt slots k) p .last
-      → slotEnd L (slotAt slots h) ≤ slotAt slots k .start + windowOf L (slotAt slots k) p .limit
+      → slotAt slots k .step ≡ windowAt L (rowOf (slotAt slots k)) p .first
+      → slotAt slots h .step ≡ windowAt L (rowOf (slotAt slots k)) p .last
+      → slotEnd L (slotAt slots h) ≤ slotAt slots k .start + windowAt L (rowOf (slotAt slots k)) p .limit
   windows-kept long k h p r lp first last =
       let mine = slot-is L (slotAt slots k) (names k (r .first)) in
       let i = rowOf (slotAt slots k) in

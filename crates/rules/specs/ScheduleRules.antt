@@ -3,10 +3,10 @@
 use Prim.Native.Nat.{ℕ, suc, _+_, _≤_, _<_}
 use mathlib.Core.List.{List}
 use mathlib.Core.Path.{_≡_}
-use lib.ListN.{length, getD}
-use Rattle.load.specs.declared.Window.{Window}
-use Rattle.load.specs.Load.{lastMoment, shown, noWindow}
+use lib.ListN.{length}
+use Rattle.load.specs.Load.{lastMoment, shown}
 use Rattle.load.specs.View.{View}
+use Rattle.load.specs.Acceptable.{windowOf}
 use Rattle.rules.specs.declared.Slot.{Slot}
 use Rattle.rules.specs.Slots.{slotAt, rowOf, stepOf, slotEnd}
 
@@ -31,10 +31,6 @@ pub record SameRow (slots : List Slot) (k h : ℕ) : Type 0 where
   pub second : h < length slots
   pub same : slotAt slots k .row ≡ slotAt slots h .row
 
--- the window at a place of the row of slot k
-abbrev pub windowOf : View → Slot → ℕ → Window
-windowOf L slot p = getD (L .windows (rowOf slot)) p noWindow
-
 -- what the slots keep, whatever the deadlines
 pub record SlotRules (L : View) (slots : List Slot) : Type 0 where
   -- nothing but steps of the load is scheduled
@@ -57,9 +53,10 @@ pub record SlotRules (L : View) (slots : List Slot) : Type 0 where
       ≤ slotAt slots h .start
   -- a window's last step ends within the limit from the start of its first
   pub windows : (k h p : ℕ) → SameRow slots k h → p < length (L .windows (rowOf (slotAt slots k)))
-      → slotAt slots k .step ≡ windowOf L (slotAt slots k) p .first
-      → slotAt slots h .step ≡ windowOf L (slotAt slots k) p .last
-      → slotEnd L (slotAt slots h) ≤ slotAt slots k .start + windowOf L (slotAt slots k) p .limit
+      → slotAt slots k .step ≡ windowOf L (rowOf (slotAt slots k)) p .first
+      → slotAt slots h .step ≡ windowOf L (rowOf (slotAt slots k)) p .last
+      → slotEnd L (slotAt slots h)
+      ≤ slotAt slots k .start + windowOf L (rowOf (slotAt slots k)) p .limit
 
 -- the schedule rules
 pub record ScheduleRules (L : View) (slots : List Slot) : Type 0 where
