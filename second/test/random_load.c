@@ -11,7 +11,7 @@ uint32_t throw_dice(struct dice *dice)
     return (uint32_t)(dice->state >> 32);
 }
 
-static uint32_t between(struct dice *dice, uint32_t least, uint32_t most)
+uint32_t between(struct dice *dice, uint32_t least, uint32_t most)
 {
     return least + throw_dice(dice) % (most - least + 1);
 }
@@ -45,19 +45,24 @@ static void add_window(struct dice *dice, struct row *row, const struct size *si
     row->windows[row->window_count++] = window;
 }
 
-static struct row any_row(struct dice *dice, const struct size *size, unsigned number)
+static struct row row_without_windows(struct dice *dice, const struct size *size,
+                                      unsigned number, uint32_t steps)
 {
-    struct row row = {0};
-    row.identifier.number = 100 + number;
-    row.box.number = 200 + number;
+    struct row row = {.identifier = {100 + number}, .box = {200 + number},
+                      .deadline = MOST_DEADLINE, .step_count = (uint8_t)steps};
     row.phase = between(dice, 0, size->phase);
-    row.deadline = MOST_DEADLINE;
-    row.step_count = (uint8_t)between(dice, 1, size->steps);
     for (unsigned step = 1; step <= row.step_count; step++) {
         uint32_t wait = step == row.step_count ? 0 : between(dice, 0, size->wait);
         row.steps[step - 1] = (struct step){(uint16_t)between(dice, 1, size->cost),
                                             (uint16_t)wait};
     }
+    return row;
+}
+
+static struct row any_row(struct dice *dice, const struct size *size, unsigned number)
+{
+    uint32_t steps = between(dice, 1, size->steps);
+    struct row row = row_without_windows(dice, size, number, steps);
     for (uint32_t tries = between(dice, 0, MOST_WINDOWS); tries > 0; tries--)
         add_window(dice, &row, size);
     return row;
@@ -69,6 +74,37 @@ struct load any_load(struct dice *dice, unsigned among)
     struct load load = {.row_count = (uint8_t)between(dice, 1, size.rows)};
     for (unsigned row = 1; row <= load.row_count; row++)
         load.rows[row - 1] = any_row(dice, &size, row);
+    return load;
+}
+
+/* Of the steps, twice as many as windows are chosen, each choice as likely as any other; they are
+   by turns a first and a last step. */
+static void add_windows(struct dice *dice, struct row *row, unsigned windows, uint32_t spare)
+{
+    unsigned chosen = 0;
+    for (unsigned step = 1; step <= row->step_count; step++) {
+        if (throw_dice(dice) % (row->step_count - step + 1u) >= 2 * windows - chosen)
+            continue;
+        struct window *window = &row->windows[chosen / 2];
+        if (chosen % 2 == 0)
+            window->first = (uint8_t)step;
+        else
+            window->last = (uint8_t)step;
+        chosen++;
+    }
+    row->window_count = (uint8_t)windows;
+    for (struct window *window = row->windows; window < row->windows + windows; window++)
+        window->limit = (uint16_t)(chain_of(row, window) + between(dice, 0, spare));
+}
+
+struct load load_with(struct dice *dice, unsigned rows, unsigned steps, unsigned windows)
+{
+    static const struct size size = {MOST_ROWS, MOST_STEPS, 5, 12, 8, 15};
+    struct load load = {.row_count = (uint8_t)rows};
+    for (unsigned row = 1; row <= rows; row++) {
+        load.rows[row - 1] = row_without_windows(dice, &size, row, steps);
+        add_windows(dice, &load.rows[row - 1], windows, size.spare);
+    }
     return load;
 }
 
@@ -98,23 +134,4 @@ void spoil(struct dice *dice, struct load *load)
     case 7: if (there) window->last = (uint8_t)between(dice, 0, 9); break;
     default: if (there) window->limit = (uint16_t)between(dice, 0, 20); break;
     }
-}
-
-struct bench any_state(struct dice *dice, const struct load *load)
-{
-    static const uint32_t clocks[] = {0, 9, 60, 700, 999990, 1000000, 1000001};
-    struct bench state = {.clock = clocks[throw_dice(dice) % 7]};
-    for (unsigned row = 1; row <= load->row_count; row++) {
-        struct progress *progress = &state.rows[row - 1];
-        progress->finished = (uint8_t)between(dice, 0, row_of(load, row)->step_count);
-        uint32_t since = between(dice, 0, state.clock < 90 ? state.clock : 90);
-        progress->end = progress->finished == 0 ? 0 : state.clock - since;
-        if (open_window(row_of(load, row), progress->finished) != NULL)
-            progress->opening = progress->end - (progress->end < 9 ? 0 : between(dice, 1, 9));
-    }
-    if (throw_dice(dice) % 8 == 0) {
-        struct progress *any = &state.rows[throw_dice(dice) % MOST_ROWS];
-        any->opening = between(dice, 0, 99);
-    }
-    return state;
 }

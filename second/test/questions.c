@@ -1,0 +1,138 @@
+#include "questions.h"
+
+#include "little_endian.h"
+#include "load_file.h"
+
+struct asked_file file_of(const struct load *load)
+{
+    struct asked_file file = {0};
+    file.length = (size_t)(put_load(file.bytes, load) - file.bytes);
+    return file;
+}
+
+struct asked_slots slots_of(const struct load *load)
+{
+    struct run run = run_of(load);
+    struct asked_slots list = {.count = run.slot_count};
+    for (size_t place = 0; place < list.count; place++)
+        list.slots[place] = run.slots[place];
+    return list;
+}
+
+static void write_1(struct asking *asking, unsigned number)
+{
+    fputc((int)(number & 0xFF), asking->out);
+}
+
+static void write_2(struct asking *asking, unsigned number)
+{
+    uint8_t bytes[2];
+    put_2(bytes, (uint16_t)number);
+    fwrite(bytes, 1, sizeof bytes, asking->out);
+}
+
+static void write_4(struct asking *asking, uint32_t number)
+{
+    uint8_t bytes[4];
+    put_4(bytes, number);
+    fwrite(bytes, 1, sizeof bytes, asking->out);
+}
+
+static void write_file(struct asking *asking, const struct asked_file *file)
+{
+    write_2(asking, (unsigned)file->length);
+    fwrite(file->bytes, 1, file->length, asking->out);
+}
+
+static void write_slots(struct asking *asking, const struct asked_slots *list)
+{
+    write_2(asking, (unsigned)list->count);
+    for (size_t place = 0; place < list->count; place++) {
+        write_1(asking, list->slots[place].row);
+        write_1(asking, list->slots[place].step);
+        write_4(asking, list->slots[place].start);
+    }
+}
+
+static void write_progress(struct asking *asking, const struct progress *progress)
+{
+    write_1(asking, progress->finished);
+    write_4(asking, progress->end);
+    write_4(asking, progress->opening);
+}
+
+static void write_row_fields(struct asking *asking, const struct row *row)
+{
+    write_4(asking, row->identifier.number);
+    write_4(asking, row->box.number);
+    write_4(asking, row->phase);
+    write_4(asking, row->deadline);
+    write_1(asking, row->step_count);
+    write_1(asking, row->window_count);
+}
+
+static void write_row_places(struct asking *asking, const struct row *row)
+{
+    for (unsigned step = 1; step <= MOST_STEPS; step++) {
+        write_2(asking, step_of(row, step)->cost);
+        write_2(asking, step_of(row, step)->wait);
+    }
+    for (unsigned window = 1; window <= MOST_WINDOWS; window++) {
+        write_1(asking, window_of(row, window)->first);
+        write_1(asking, window_of(row, window)->last);
+        write_2(asking, window_of(row, window)->limit);
+    }
+}
+
+void ask_report(struct asking *asking, const struct asked_file *file)
+{
+    asking->reports++;
+    write_1(asking, 'F');
+    write_file(asking, file);
+}
+
+void ask_move(struct asking *asking, const struct asked_file *file, const struct bench *state)
+{
+    asking->moves++;
+    write_1(asking, 'M');
+    write_file(asking, file);
+    write_4(asking, state->clock);
+    for (unsigned row = 1; row <= MOST_ROWS; row++)
+        write_progress(asking, progress_of(state, row));
+}
+
+void ask_check(struct asking *asking, const struct asked_file *file,
+               const struct asked_slots *list)
+{
+    asking->checks++;
+    write_1(asking, 'C');
+    write_file(asking, file);
+    write_slots(asking, list);
+}
+
+void ask_load(struct asking *asking, const struct load *load)
+{
+    asking->loads++;
+    write_1(asking, 'W');
+    write_1(asking, load->row_count);
+    for (unsigned row = 1; row <= MOST_ROWS; row++) {
+        write_row_fields(asking, row_of(load, row));
+        write_row_places(asking, row_of(load, row));
+    }
+}
+
+void ask_schedule(struct asking *asking, const struct asked_slots *list)
+{
+    asking->schedules++;
+    write_1(asking, 'S');
+    write_slots(asking, list);
+}
+
+void ask_half(struct asking *asking, const struct asked_file *file)
+{
+    asking->moves++;
+    write_1(asking, 'M');
+    write_file(asking, file);
+    write_4(asking, 0);
+    write_1(asking, 0);
+}
