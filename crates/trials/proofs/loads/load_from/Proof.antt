@@ -1,0 +1,30 @@
+-- `load_from` fills the places of 24 rows.
+use Prim.Native.Nat.{_-_, _≤_}
+use borrow.Author.Needs.{needs}
+use Rattle.trials.proofs.loads.load_from.Statement.{statement}
+use Rattle.trials.proofs.loads.load_from.Tie as tie
+
+abbrev Inv-loop : tie.InvT-loop
+Inv-loop bytes rows₀ i₀ rows i = i ≤ 24
+
+abbrev μ-loop : tie.MeasureT-loop
+μ-loop bytes rows₀ i₀ rows i = 24 - i
+
+pub load-from-spec : {M : Type 1} → statement M
+load-from-spec =
+    tie.close
+    (tie.spec
+    Inv-loop
+    μ-loop
+    (λ c κs. search needs)
+    (λ c. search needs)
+    (λ c. search needs)
+    (λ c. search needs)
+    (λ c κs. search needs)
+    (λ c. search needs)
+    (λ c. search needs)
+    (λ c. search needs)
+    (λ c. search needs)
+    (λ c. search needs)
+    (λ c κs. search needs)
+    (λ c. search needs))

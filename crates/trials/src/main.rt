@@ -1,0 +1,50 @@
+// A test program, and no product: it answers a stream of questions on standard input, so that the
+// public calls can be compared from outside. A question is a letter and its bytes, with numbers
+// little-endian; a module for each letter says which bytes, and what is answered. What is no
+// question, or one cut short, is answered by `bad`, and ends the program; so does the input's end.
+mod checks;
+mod input;
+mod line;
+mod loads;
+mod moves;
+mod reports;
+mod schedules;
+mod slots;
+
+use input::read_whole;
+use libc::STDOUT_FILENO;
+
+// Reads what follows a question's letter, and answers it. Says no where there is no such letter, or
+// the question is cut short.
+fn answer_kind(letter: u8) -> bool {
+    match letter {
+        b'F' => reports::answer(),
+        b'M' => moves::answer(),
+        b'C' => checks::answer(),
+        b'W' => loads::answer(),
+        b'S' => schedules::answer(),
+        _ => false,
+    }
+}
+
+// Answers the next question. Says no at the end of the input, and after `bad`.
+fn answer_next() -> bool {
+    let mut letter = [0u8; 1];
+    if !read_whole(&mut letter) {
+        return false;
+    }
+    let is_answered = answer_kind(letter[0]);
+    if !is_answered {
+        io::write_all(STDOUT_FILENO, b"bad\n");
+    }
+    is_answered
+}
+
+// A proved loop has to end, and nothing says that the input does. So the questions are counted
+// down, from a number that no run uses up.
+fn main() {
+    let mut left = u32::MAX;
+    while left > 0 && answer_next() {
+        left -= 1;
+    }
+}
