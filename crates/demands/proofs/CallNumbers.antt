@@ -101,7 +101,7 @@ load-gives load =
     (last-gives ofLoad _ (zeros-give (allFrom (λ i. isZeroRow (rowAt load i)) (load .rows) mostRows))))
 
 -- 1 to 8
-abbrev ofFile : List ℕ
+abbrev pub ofFile : List ℕ
 ofFile = 1 ∷ 2 ∷ 3 ∷ 4 ∷ 5 ∷ 6 ∷ 7 ∷ 8 ∷ []
 
 file-row-gives : (bs : List ℕ) (i place : ℕ) → Gives ofFile (rowFaultAt bs i place)

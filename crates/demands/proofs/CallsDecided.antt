@@ -3,11 +3,21 @@
 use Prim.Native.Nat.{ℕ}
 use mathlib.Core.List.{List, [], _∷_}
 use mathlib.Core.Path.{_≡_, refl}
-use Rattle.words.proofs.CallLaws.{ByteAt-unique, NumberAt-unique, Overwrite-unique, LittleEndian-unique}
+use Rattle.words.proofs.CallLaws.{
+  ByteAt-unique,
+  NumberAt-unique,
+  Overwrite-unique,
+  LittleEndian-unique,
+  DecimalOf-unique,
+  SignedOf-unique,
+}
 use Rattle.refusals.specs.declared.Checked.{Checked}
+use Rattle.refusals.specs.declared.Checked.the-variants.{Good}
+use Rattle.refusals.specs.Refusals.{numberGiven}
 use Rattle.refusals.specs.FirstMet.{firstFault}
 use Rattle.refusals.specs.Given.{roomFor, outputAfter, Given}
 use Rattle.refusals.proofs.CallLaws.{NumberOf-unique}
+use Rattle.load.specs.View.{View, viewOf}
 use Rattle.load.specs.Check.{checkLoad}
 use Rattle.load.proofs.CallLaws.{
   CheckLoad-unique,
@@ -24,7 +34,10 @@ use Rattle.load.proofs.CallLaws.{
   ZeroLoad-unique,
 }
 use Rattle.load_file.specs.Writing.{loadBytes}
+use Rattle.load_file.specs.Places.{loadIn}
+use Rattle.load_file.specs.Reading.{fileFault}
 use Rattle.load_file.proofs.CallLaws.{ReadLoad-unique, WriteLoad-unique}
+use Rattle.rules.specs.Margins.{marginBytes}
 use Rattle.bound.proofs.CallLaws.{BoundOf-unique, MarginsOf-unique, VerdictOf-unique, MarginBytes-unique}
 use Rattle.schedule.specs.ScheduleFile.{slotsFault, scheduleBytes}
 use Rattle.schedule.specs.Calls.{firstSlots}
@@ -35,6 +48,17 @@ use Rattle.schedule.proofs.CallLaws.{
   WriteArray-unique,
 }
 use Rattle.bench.proofs.CallLaws.{Fresh-unique, NextMove-unique, Runs-unique}
+use Rattle.reading_bench.specs.Calls.{ForC, boundBytes, verdictBytes, scheduleFile}
+use Rattle.reading_bench.proofs.CallLaws.{
+  BenchBound-unique,
+  BenchVerdict-unique,
+  BenchMargins-unique,
+  BenchSchedule-unique,
+}
+use Rattle.lines.specs.declared.Printed.{Printed}
+use Rattle.lines.specs.Lines.{printed}
+use Rattle.lines.specs.Calls.{lengthGiven, PrintLines}
+use Rattle.lines.proofs.CallLaws.{PrintLines-unique}
 use Rattle.demands.specs.PublicCalls.{Wrote, Writes, EveryCall}
 use Rattle.demands.specs.Sameness.{OneResult, Sameness}
 use Rattle.demands.specs.Demand1.{Answer}
@@ -56,6 +80,8 @@ sameness =
       overwrite = Overwrite-unique;
       bytes16 = LittleEndian-unique 2;
       bytes32 = LittleEndian-unique 4;
+      decimal-of = DecimalOf-unique;
+      signed-of = SignedOf-unique;
       number-of = NumberOf-unique;
       check-load = CheckLoad-unique;
       check-fields = CheckFields-unique;
@@ -82,6 +108,11 @@ sameness =
       fresh = Fresh-unique;
       next-move = NextMove-unique;
       run = Runs-unique;
+      bench-bound = λ bs out. both _ (BenchBound-unique bs out);
+      bench-verdict = λ bs out. both _ (BenchVerdict-unique bs out);
+      bench-margins = λ bs out. both _ (BenchMargins-unique bs out);
+      bench-schedule = λ bs out. both _ (BenchSchedule-unique bs out);
+      print-lines = λ bs out. both _ (PrintLines-unique bs out);
     }
 
 -- an equation is met by what it names
@@ -97,6 +128,28 @@ given finding answer out =
       met = record { finding-is = refl; output-is = refl };
     }
 
+-- a call for C gives the number of what is found
+for-c : (answer : View → List ℕ) (bs out : List ℕ) → Answer (Wrote ℕ) (Writes (ForC answer bs out))
+for-c answer bs out =
+    let g = given (fileFault bs) (answer (viewOf (loadIn bs))) out in
+    record {
+      result = record { gives = numberGiven (g .result .gives); after = g .result .after };
+      met = record { found = g .result .gives; given = g .met; number-is = refl };
+    }
+
+-- and printing says how much is written
+printing : (bs out : List ℕ) → Answer (Wrote Printed) (Writes (PrintLines bs out))
+printing bs out =
+    let g = given Good (printed bs) out in
+    let found = g .result .gives in
+    record {
+      result = record {
+        gives = record { answer = found; length = lengthGiven found (printed bs) };
+        after = g .result .after;
+      };
+      met = record { given = g .met; length-is = refl };
+    }
+
 pub every-answer : EveryCall Answer
 every-answer =
     record {
@@ -106,6 +159,8 @@ every-answer =
       overwrite = λ out at bytes. is _;
       bytes16 = λ n. is _;
       bytes32 = λ n. is _;
+      decimal-of = λ n. is _;
+      signed-of = λ z. is _;
       number-of = λ refusal. is _;
       check-load = λ load. is _;
       check-fields = λ row. is _;
@@ -132,4 +187,9 @@ every-answer =
       fresh = is _;
       next-move = λ load bench. is _;
       run = λ load. is _;
+      bench-bound = for-c boundBytes;
+      bench-verdict = for-c verdictBytes;
+      bench-margins = for-c marginBytes;
+      bench-schedule = for-c scheduleFile;
+      print-lines = printing;
     }

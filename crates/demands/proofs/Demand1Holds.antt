@@ -12,6 +12,7 @@ use Rattle.demands.proofs.RefusedAlone.{
   refused-verdict,
   refused-slots,
 }
+use Rattle.demands.proofs.WritingCalls.{c-gives, lines-give, c-keeps, lines-keep}
 use Rattle.demands.proofs.RefusedMoves.{bench-kept}
 use Rattle.demands.proofs.CallNumbers.{load-gives, file-gives, schedule-gives, move-gives}
 
@@ -26,6 +27,8 @@ demand1 =
       schedule-numbers = λ load slots r e. rw e (schedule-gives load slots .number);
       move-numbers = λ load bench r e. rw e (move-gives load bench);
       run-numbers = λ load r e. rw e (load-gives load .number);
+      c-numbers = c-gives;
+      lines-numbers = lines-give;
       no-load = refused-load;
       no-bound = refused-bound;
       no-margins = refused-margins;
@@ -34,6 +37,8 @@ demand1 =
       load-stays = λ load out refusal after g. g .output-is;
       schedule-stays = λ slots out refusal after g. g .output-is;
       array-stays = λ slots n out refusal after g. g .output-is;
+      c-stays = c-keeps;
+      lines-stay = lines-keep;
       bench-stays = λ load bench refusal r e h.
           e ∙ bench-kept load bench refusal (ap (λ (m : Moved). m .outcome) (sym e) ∙ h);
     }

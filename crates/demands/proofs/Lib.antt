@@ -3,6 +3,7 @@ pub mod CallsDecided
 pub mod NumberLaws
 pub mod CallNumbers
 pub mod TableLaws
+pub mod WritingCalls
 pub mod RefusedAlone
 pub mod RefusedMoves
 pub mod Demand1Holds

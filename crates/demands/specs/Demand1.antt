@@ -5,6 +5,7 @@
 use Prim.Native.Nat.{ℕ, _≤_}
 use mathlib.Core.Bool.{true, false}
 use mathlib.Core.List.{List, [], _∷_}
+use mathlib.Core.Logic.{_≢_}
 use mathlib.Core.Path.{_≡_}
 use lib.Dec.{eqb}
 use lib.IntN.{pos}
@@ -17,6 +18,7 @@ use Rattle.refusals.specs.Refusals.{numberGiven}
 use Rattle.refusals.specs.Calls.{NumberOf}
 use Rattle.load.specs.declared.Load.{Load}
 use Rattle.load.specs.Load.{mostRows, zeroLoad}
+use Rattle.load.specs.View.{View}
 use Rattle.load.specs.Calls.{CheckLoad}
 use Rattle.load_file.specs.declared.Reading.{Reading}
 use Rattle.load_file.specs.Calls.{ReadLoad, WriteLoad}
@@ -33,6 +35,9 @@ use Rattle.bench.specs.declared.Moved.{Moved}
 use Rattle.bench.specs.declared.Ran.{Ran}
 use Rattle.bench.specs.Held.{refusedWith}
 use Rattle.bench.specs.Calls.{NextMove, Runs}
+use Rattle.reading_bench.specs.Calls.{ForC}
+use Rattle.lines.specs.declared.Printed.{Printed}
+use Rattle.lines.specs.Calls.{PrintLines}
 use Rattle.demands.specs.PublicCalls.{EveryCall}
 
 -- a result that meets a relation
@@ -57,7 +62,8 @@ pub record Demand1 : Type 0 where
   pub numbered : (refusal : Refusal) (n : ℕ) → NumberOf refusal n → InTable n
   -- which is no other refusal's
   pub apart : (a b : Refusal) (n : ℕ) → NumberOf a n → NumberOf b n → a ≡ b
-  -- the numbers that a load, a file, a schedule, a move and a run can be refused with
+  -- the numbers that a load, a file, a schedule, a move, a run, a call for C and printing can be
+  -- refused with
   pub load-numbers : (load : Load) (r : Checked) → CheckLoad load r
       → OneOf (3 ∷ 4 ∷ 5 ∷ 6 ∷ 7 ∷ []) (numberGiven r)
   pub file-numbers : (bs : List ℕ) (r : Reading) → ReadLoad bs r
@@ -69,6 +75,10 @@ pub record Demand1 : Type 0 where
       → OneOf (3 ∷ 4 ∷ 5 ∷ 6 ∷ 7 ∷ 10 ∷ 11 ∷ []) (toldBy (r .outcome) .number)
   pub run-numbers : (load : Load) (r : Ran) → Runs load r
       → OneOf (3 ∷ 4 ∷ 5 ∷ 6 ∷ 7 ∷ []) (numberGiven (r .answer))
+  pub c-numbers : (answer : View → List ℕ) (bs out : List ℕ) (r : ℕ) (after : List ℕ)
+      → ForC answer bs out r after → OneOf (1 ∷ 2 ∷ 3 ∷ 4 ∷ 5 ∷ 6 ∷ 7 ∷ 8 ∷ 9 ∷ []) r
+  pub lines-numbers : (bs out : List ℕ) (r : Printed) (after : List ℕ) → PrintLines bs out r after
+      → OneOf (9 ∷ []) (numberGiven (r .answer))
   -- a refusal is returned alone: with the all-zero load, bound 0, margins 0, verdict no, no slot
   pub no-load : (bs : List ℕ) (r : Reading) (refusal : Refusal) → ReadLoad bs r
       → r .answer ≡ Refused refusal → r .load ≡ zeroLoad
@@ -87,6 +97,10 @@ pub record Demand1 : Type 0 where
       → WriteSchedule slots out (Refused refusal) after → after ≡ out
   pub array-stays : (slots : List Slot) (n : ℕ) (out : List ℕ) (refusal : Refusal) (after : List ℕ)
       → WriteArray slots n out (Refused refusal) after → after ≡ out
+  pub c-stays : (answer : View → List ℕ) (bs out : List ℕ) (r : ℕ) (after : List ℕ)
+      → ForC answer bs out r after → r ≢ 0 → after ≡ out
+  pub lines-stay : (bs out : List ℕ) (refusal : Refusal) (r : Printed) (after : List ℕ)
+      → PrintLines bs out r after → r .answer ≡ Refused refusal → after ≡ out
   -- and a refused move hands back the state it was given, with lamp word and count 0
   pub bench-stays : (load : Load) (bench : Bench) (refusal : Refusal) (r : Moved)
       → NextMove load bench r → r .outcome ≡ outcome.Refused refusal

@@ -4,7 +4,8 @@ use Prim.Native.Nat.{ℕ}
 use mathlib.Core.Bool.{Bool}
 use mathlib.Core.List.{List}
 use lib.IntN.{ℤ}
-use Rattle.words.specs.Calls.{ByteAt, NumberAt, Overwrite, LittleEndian}
+use Rattle.words.specs.declared.Word.{Word}
+use Rattle.words.specs.Calls.{ByteAt, NumberAt, Overwrite, LittleEndian, DecimalOf, SignedOf}
 use Rattle.refusals.specs.declared.Refusal.{Refusal}
 use Rattle.refusals.specs.declared.Checked.{Checked}
 use Rattle.refusals.specs.Calls.{NumberOf}
@@ -40,6 +41,9 @@ use Rattle.bench.specs.declared.Bench.{Bench}
 use Rattle.bench.specs.declared.Moved.{Moved}
 use Rattle.bench.specs.declared.Ran.{Ran}
 use Rattle.bench.specs.Calls.{Fresh, NextMove, Runs}
+use Rattle.reading_bench.specs.Calls.{BenchBound, BenchVerdict, BenchMargins, BenchSchedule}
+use Rattle.lines.specs.declared.Printed.{Printed}
+use Rattle.lines.specs.Calls.{PrintLines}
 
 -- what a writing call gives, and what its output holds afterwards
 pub record Wrote (A : Type 0) : Type 0 where
@@ -59,6 +63,8 @@ pub record EveryCall (Claim : (A : Type 0) → (A → Type 0) → Type 0) : Type
   pub overwrite : (out : List ℕ) (at : ℕ) (bytes : List ℕ) → Claim (List ℕ) (Overwrite out at bytes)
   pub bytes16 : (number : ℕ) → Claim (List ℕ) (LittleEndian 2 number)
   pub bytes32 : (number : ℕ) → Claim (List ℕ) (LittleEndian 4 number)
+  pub decimal-of : (number : ℕ) → Claim Word (DecimalOf number)
+  pub signed-of : (number : ℤ) → Claim Word (SignedOf number)
   -- refusals
   pub number-of : (refusal : Refusal) → Claim ℕ (NumberOf refusal)
   -- load
@@ -97,3 +103,10 @@ pub record EveryCall (Claim : (A : Type 0) → (A → Type 0) → Type 0) : Type
   pub fresh : Claim Bench Fresh
   pub next-move : (load : Load) (bench : Bench) → Claim Moved (NextMove load bench)
   pub run : (load : Load) → Claim Ran (Runs load)
+  -- reading_bench
+  pub bench-bound : (bs out : List ℕ) → Claim (Wrote ℕ) (Writes (BenchBound bs out))
+  pub bench-verdict : (bs out : List ℕ) → Claim (Wrote ℕ) (Writes (BenchVerdict bs out))
+  pub bench-margins : (bs out : List ℕ) → Claim (Wrote ℕ) (Writes (BenchMargins bs out))
+  pub bench-schedule : (bs out : List ℕ) → Claim (Wrote ℕ) (Writes (BenchSchedule bs out))
+  -- lines
+  pub print-lines : (bs out : List ℕ) → Claim (Wrote Printed) (Writes (PrintLines bs out))
