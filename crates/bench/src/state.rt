@@ -4,6 +4,7 @@ use load::MOST_ROWS;
 ghost use mathlib.Core.Path.{_≡_};
 ghost use Prim.Native.Nat.{_+_, _≤_, _<_};
 ghost use lib.ListN.{getD};
+ghost use Rattle.load.specs.Load.{lastMoment};
 ghost use Rattle.bench.specs.Updates.{benchStarted, benchTicked};
 ghost use Rattle.bench.specs.Calls.{Fresh};
 
@@ -37,7 +38,7 @@ impl Bench {
 
     // Moves the clock one tick.
     pub(crate) fn idle(mut self) -> Bench
-        requires { ⌜ self .clock < 4294967295 ⌝ }
+        requires { ⌜ self .clock ≤ lastMoment ⌝ }
         ensures { λ r. ⌜ r ≡ benchTicked self ⌝ }
     {
         self.clock += 1;

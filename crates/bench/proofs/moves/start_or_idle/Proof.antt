@@ -42,4 +42,5 @@ returns-2 c =
 pub start-or-idle-spec : {M : Type 1} → statement M
 start-or-idle-spec =
     tie.close
-    (tie.spec (λ c κs. search needs) started-requires returns (λ c κs. search needs) (λ c κs. search needs) returns-2)
+    (tie.spec (λ c κs. search needs) started-requires returns (λ c κs. c .before .before .before .pre .0 .clock-most)
+    (λ c κs. search needs) returns-2)
