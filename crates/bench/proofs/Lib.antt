@@ -12,6 +12,7 @@ pub mod NextLaws
 pub mod SameMoves
 pub mod LaterBoards
 pub mod RunsLaws
+pub mod CrowdLaws
 pub mod QuietLaws
 pub mod RunningLaws
 pub mod StartedRun

@@ -31,13 +31,14 @@ use Rattle.bench.specs.declared.Bench.{Bench}
 use Rattle.bench.specs.declared.Board.{Board}
 use Rattle.bench.specs.Held.{stateOf, benchOf}
 use Rattle.bench.specs.Boards.{Shows}
-use Rattle.bench.specs.Choices.{ChosenIn}
+use Rattle.bench.specs.Choices.{candidateIn, passesIn, ChosenIn}
 use Rattle.bench.specs.Moves.{finishedIn}
 use Rattle.bench.specs.Running.{QuietTo}
 use Rattle.bench.specs.Runs.{ranWith}
 use Rattle.bench.proofs.HeldLaws.{Sized}
 use Rattle.bench.proofs.ChoiceLaws.{chosen-nothing}
 use Rattle.bench.proofs.NextLaws.{finished-is}
+use Rattle.bench.proofs.CrowdLaws.{crowded-refused}
 use Rattle.bench.proofs.QuietLaws.{quiet-chosen}
 use Rattle.bench.proofs.LaterBoards.{benchAt, fresh-sized, fresh-state, benchAt-sized, shows-at}
 
@@ -145,6 +146,11 @@ module _ (load : Load) (accepted : checkLoad load ≡ Good) (most : load .rows �
         shown-at : (m : ℕ) → Shows load (benchAt (r .bench) m) board
         shown-at m = shows-at load (r .bench) board (r .shows) m
 
+        refused : (m : ℕ) → clock < m → m < t → (k : ℕ) → k < load .rows
+            → candidateIn board m (load .rows) k ≡ true → passesIn board m (load .rows) k ≡ false
+        refused m a b k l e =
+            crowded-refused board clock (load .rows) k (r .shows .wide) most l (q .quiet m k a b l e) m (omega arith)
+
         none-at : (m : ℕ) → clock ≤ m → m < t → chosen L (stateOf (benchAt (r .bench) m)) ≡ none
         none-at m a b =
             elim (ℕ-discrete m clock) [
@@ -153,7 +159,7 @@ module _ (load : Load) (accepted : checkLoad load ≡ Good) (most : load .rows �
                   (subst (λ x. ChosenIn board x (load .rows) i) (sym e) c) h
               | no e ↦
                   chosen-nothing load (benchAt (r .bench) m) board (shown-at m) most (load .rows)
-                  (quiet-chosen board m (load .rows) (λ k. q .quiet m k (omega arith) b)) (omega arith)
+                  (quiet-chosen board m (load .rows) (refused m (omega arith) b)) (omega arith)
             ]
 
         quiet : Quiet L s (t - clock)

@@ -2,8 +2,10 @@
 -- nothing starts. Nothing here is to be believed: run's own contract cites the schedule. To be read
 -- after Choices.
 use Prim.Native.Nat.{ℕ, _+_, _≤_, _<_}
-use mathlib.Core.Bool.{true}
+use mathlib.Core.Bool.{Bool, true, cond, not, _&&_}
 use mathlib.Core.Path.{_≡_}
+use lib.Dec.{ltb}
+use Rattle.counting.specs.Sums.{sumTo}
 use Rattle.load.specs.declared.Row.{Row}
 use Rattle.load.specs.Load.{lastMoment}
 use Rattle.bench.specs.declared.Look.{Look}
@@ -20,8 +22,27 @@ lookAfter row board clock i =
     (openingIn board clock i))
     0
 
--- r is a later moment, 1,000,000 at the latest, and between the two no step is a candidate
+-- row k's open window is due before a moment
+abbrev pub isSooner : Board → ℕ → ℕ → Bool
+isSooner board moment k = lookIn board k .held && ltb (lookIn board k .due) moment
+
+-- what is left of the open windows that are due before a moment
+abbrev pub workBefore : Board → ℕ → ℕ → ℕ
+workBefore board moment rows =
+    sumTo (λ k. cond (isSooner board moment k) (lookIn board k .left) 0) rows
+
+-- row i's next step opens a window, and those that are due before it leave too little of its limit
+abbrev pub crowdedIn : Board → ℕ → ℕ → ℕ → Bool
+crowdedIn board clock rows i =
+    not (lookIn board i .held)
+    && lookIn board i .stays
+    && ltb (lookIn board i .limit)
+    (lookIn board i .cost + lookIn board i .rest
+    + workBefore board (clock + lookIn board i .limit) rows)
+
+-- r is a later moment, 1,000,000 at the latest, and what is a candidate in between is crowded now
 pub record QuietTo (board : Board) (clock rows r : ℕ) : Type 0 where
   pub later : clock < r
   pub most : r ≤ lastMoment
-  pub quiet : (t k : ℕ) → clock < t → t < r → k < rows → candidateIn board t rows k ≡ true → ⊥
+  pub quiet : (t k : ℕ) → clock < t → t < r → k < rows → candidateIn board t rows k ≡ true
+      → crowdedIn board clock rows k ≡ true

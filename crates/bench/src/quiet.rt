@@ -4,18 +4,62 @@ use crate::search::is_allowed;
 use crate::search::lowest_step;
 use load::ranges::LAST_MOMENT;
 ghost use mathlib.Core.Path.{_≡_};
-ghost use mathlib.Core.Bool.{_&&_, _||_, cond};
+ghost use mathlib.Core.Bool.{_&&_, _||_, cond, not};
 ghost use Prim.Native.Nat.{min, _<_};
 ghost use lib.Dec.{leb, ltb};
 ghost use Rattle.load.specs.Load.{lastMoment};
 ghost use Rattle.bench.specs.Choices.{BoardFits};
-ghost use Rattle.bench.specs.Running.{QuietTo};
+ghost use Rattle.bench.specs.Running.{QuietTo, crowdedIn};
 
-// Gives the sooner of a moment and a row's release, where the row's next step is allowed.
-fn sooner_release(next: u32, finished: u8, steps: u8, held: bool, release: u32, lowest: u8) -> u32
-    ensures { λ r. ⌜ r ≡ cond (ltb finished steps && (held || leb finished lowest))
+// Gives what is left of a row's open window where it is due before a moment, else 0.
+fn work_of(held: bool, due: u32, left: u32, moment: u32) -> u32
+    ensures { λ r. ⌜ r ≡ cond (held && ltb due moment) left 0 ⌝ }
+{
+    if !held {
+        return 0;
+    }
+    if due < moment { left } else { 0 }
+}
+
+// Says whether row i's next step opens a window, and those that are due before it leave too little
+// of its limit: the plan refuses it now, and at any later moment until something starts.
+fn is_crowded(board: Board, clock: u32, rows: usize, i: usize) -> bool
+    requires { ⌜ BoardFits board clock rows ⌝ }
+    requires { ⌜ i < rows ⌝ }
+    ensures { λ r. ⌜ r ≡ crowdedIn board clock rows i ⌝ }
+{
+    if board.held[i] {
+        return false;
+    }
+    if !board.stays[i] {
+        return false;
+    }
+    let limit = board.limit[i];
+    let moment = clock + limit;
+    let mut work: u32 = 0;
+    for k in 0..rows {
+        work += work_of(board.held[k], board.due[k], board.left[k], moment);
+    }
+    limit < board.cost[i] + board.rest[i] + work
+}
+
+// Gives the sooner of a moment and a row's release, where the row's next step is allowed and not
+// crowded.
+fn sooner_release(
+    next: u32,
+    crowded: bool,
+    finished: u8,
+    steps: u8,
+    held: bool,
+    release: u32,
+    lowest: u8,
+) -> u32
+    ensures { λ r. ⌜ r ≡ cond (not crowded && ltb finished steps && (held || leb finished lowest))
         (min next release) next ⌝ }
 {
+    if crowded {
+        return next;
+    }
     if steps <= finished {
         return next;
     }
@@ -26,7 +70,7 @@ fn sooner_release(next: u32, finished: u8, steps: u8, held: bool, release: u32, 
 }
 
 // Gives the next release of an allowed next step, 1,000,000 at the latest; one tick on where such a
-// step is ready already: what the plan refuses now, it may let pass then.
+// step is ready already, and not crowded: what the plan refuses now, it may let pass then.
 pub fn next_moment(board: Board, clock: u32, rows: usize) -> u32
     requires { ⌜ BoardFits board clock rows ⌝ }
     requires { ⌜ clock < lastMoment ⌝ }
@@ -35,8 +79,10 @@ pub fn next_moment(board: Board, clock: u32, rows: usize) -> u32
     let lowest = lowest_step(board, rows);
     let mut next = LAST_MOMENT;
     for k in 0..rows {
+        let crowded = is_crowded(board, clock, rows, k);
         next = sooner_release(
             next,
+            crowded,
             board.finished[k],
             board.steps[k],
             board.held[k],

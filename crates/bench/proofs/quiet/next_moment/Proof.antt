@@ -1,5 +1,7 @@
 -- `next_moment` asks one row a turn: its moment is not after the release of an allowed next step of the first k rows.
-use Prim.Native.Nat.{ℕ, _-_, _≤_, _<_}
+use Prim.Native.Nat.{ℕ, min, _-_, _≤_, _<_}
+use mathlib.Core.Bool.{cond}
+use mathlib.Core.Path.{_≡_}
 use native.Mathlib.Decide.{ℕ-discrete}
 use native.Mathlib.Omega.{arith}
 use Rattle.load.specs.Load.{lastMoment}
@@ -11,7 +13,7 @@ use Rattle.bench.proofs.quiet.next_moment.Tie as tie
 
 abbrev Inv-loop : tie.InvT-loop
 Inv-loop clock rows board lowest next₀ k₀ next k =
-    (k ≤ rows) × (rows ≤ 24) × (next ≤ lastMoment) × ((j : ℕ) → j < k → Awaits board lowest next j)
+    (k ≤ rows) × (rows ≤ 24) × (next ≤ lastMoment) × ((j : ℕ) → j < k → Awaits board clock rows lowest next j)
 
 abbrev μ-loop : tie.MeasureT-loop
 μ-loop clock rows board lowest next₀ k₀ next k = rows - k
@@ -21,20 +23,23 @@ loop-holds c = (search needs, c .before .pre .0 .rows-most, search needs, λ j l
 
 loop-again : tie.Need-loop-again Inv-loop μ-loop
 loop-again c =
-    let turn = c .before .before .before .before .before in
-    let board = turn .before .before .before .args .t1 in
+    let asked = c .before .before .before .before .before in
+    let turn = asked .before in
+    let start = turn .before .before .before in
+    let board = start .args .t1 in
     let lowest = turn .before .before .lowest-step .result in
     let k = turn .before .loop .k in
     let next = turn .before .loop .next in
     let inv = turn .before .loop .inv in
-    let e = c .sooner-release .ensures in
-    let waits = awaits board lowest k in
+    let waits = awaits board (start .args .clock) (start .args .rows) lowest k in
+    let e : c .sooner-release .result ≡ cond waits (min next (lookIn board k .release)) next =
+    rw (asked .is-crowded .ensures) at (c .sooner-release .ensures) in
     let less : c .sooner-release .result ≤ next = rw e (sooner-le waits next (lookIn board k .release)) in (
       search needs,
       search needs,
       omega arith,
       λ j l h. elim (ℕ-discrete j k) [
-        | yes q ↦ rw e (rw q (sooner-release-le waits next (lookIn board k .release) (rw q at h)))
+        | yes q ↦ rw (e, q) (sooner-release-le waits next (lookIn board k .release) (rw q at h))
         | no q ↦ omega (arith, inv .3 j (omega arith) h)
       ],
     )
@@ -67,6 +72,7 @@ next-moment-spec =
     μ-loop
     (λ c κs. c .pre .0 .rows-most)
     loop-holds
+    (λ c κs. (c .before .before .before .pre .0, c .loop-test .taken))
     (λ c. search needs)
     (λ c. search needs)
     (λ c. search needs)
