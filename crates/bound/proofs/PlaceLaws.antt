@@ -7,10 +7,11 @@ use mathlib.Core.Path.{_≡_, sym, ap, ap₂, _∙_}
 use borrow.Author.Tests.{ltb-true}
 use lib.Dec.{eqb, ltb}
 use lib.ListN.{getD}
-use Rattle.counting.specs.Sums.{maxTo}
+use Rattle.counting.specs.Sums.{anyTo, maxTo}
 use Rattle.counting.specs.Lists.{filled}
 use Rattle.counting.proofs.SumLaws.{maxTo-ext}
-use Rattle.counting.proofs.TestLaws.{and-left}
+use Rattle.counting.proofs.MaxLaws.{maxTo-none}
+use Rattle.counting.proofs.TestLaws.{and-left, anyTo-false}
 use Rattle.counting.proofs.ListLaws.{getD-filled}
 use Rattle.counting.proofs.PairLaws.{pairsSmallest, pairsSmallest-is, pairsSmallest-ext}
 use Rattle.load.specs.View.{View, isFree, embedded}
@@ -71,3 +72,15 @@ module _ (L : View) (j : ℕ) (here next : List ℕ) (pairs : List Bool) (waits 
       (λ i l.
       ap₂ (λ b w. cond b w 0) (read _ _ 24 false frees (h .frees-is) i l)
       (ap₂ _-_ (read _ _ 24 0 waits (h .waits-is) i l) (smallest-read i)))
+
+-- where no row's wait is free, there is no W
+pub largestW-none : (L : View) (j : ℕ) (frees : List Bool)
+    → frees ≡ filled (λ i. isFree L i (suc j)) (L .rows) 24 false → anyTo (isMarked frees) (L .rows) ≡ false
+    → 0 ≡ largestW smallestCosts L j
+unfolding largestW
+largestW-none L j frees e none =
+    sym
+    (maxTo-none (waitLeft smallestCosts L j) (L .rows)
+    (λ i l.
+    ap (λ b. cond b (L .wait i j - smallestCosts L j i) 0)
+    (sym (read _ _ 24 false frees e i l) ∙ anyTo-false (isMarked frees) (L .rows) none i l)))

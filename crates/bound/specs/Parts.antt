@@ -7,9 +7,11 @@ use mathlib.Core.Path.{_≡_}
 use lib.Dec.{eqb, ltb}
 use lib.ListN.{getD}
 use Rattle.counting.specs.Sums.{sumTo}
+use Rattle.counting.specs.Lists.{filled}
 use Rattle.counting.specs.Searches.{firstTo}
 use Rattle.load.specs.declared.Row.{Row}
-use Rattle.load.specs.Load.{mostRows, largestCost, stepAt}
+use Rattle.load.specs.declared.Load.{Load}
+use Rattle.load.specs.Load.{mostRows, largestCost, rowAt, stepAt}
 use Rattle.load.specs.View.{View, rowWindows, embeddedAmong}
 use Rattle.rules.specs.Bound.{largestW, smallestCosts}
 
@@ -33,6 +35,10 @@ pub record Costed (n : ℕ) (costs : List ℕ) (marks : List Bool) : Type 0 wher
 -- a row has a step at place j, and it is free
 abbrev pub freeIn : Row → ℕ → Bool
 freeIn row j = ltb j (row .steps) && not (embeddedAmong j (rowWindows row))
+
+-- the rows of a load that have a free step at place j
+abbrev pub freesAt : Load → ℕ → List Bool
+freesAt load j = filled (λ i. freeIn (rowAt load i) j) (load .rows) mostRows false
 
 -- how many steps a row keeps that keeps its first ones for certain
 unfoldable pub keptFrom : Row → ℕ → ℕ

@@ -10,7 +10,7 @@ ghost use mathlib.Core.Path.{_≡_};
 ghost use Prim.Native.Nat.{_+_, _≤_, _<_};
 ghost use Rattle.counting.specs.Lists.{filled};
 ghost use Rattle.load.specs.Load.{mostRows, rowAt, stepAt};
-ghost use Rattle.bound.specs.Parts.{freeIn};
+ghost use Rattle.bound.specs.Parts.{freeIn, freesAt};
 
 // Says whether a row has a step at a place and that step is free.
 fn free_in(row: Row, j: usize) -> bool
@@ -64,7 +64,7 @@ pub fn waits_at(load: Load, j: usize) -> [u16; MOST_ROWS]
 // Marks the rows whose step at a place is there and free.
 pub fn frees_at(load: Load, j: usize) -> [bool; MOST_ROWS]
     requires { ⌜ load .rows ≤ mostRows ⌝ }
-    ensures { λ r. ⌜ r ≡ filled (λ i. freeIn (rowAt load i) j) (load .rows) mostRows false ⌝ }
+    ensures { λ r. ⌜ r ≡ freesAt load j ⌝ }
 {
     let rows = load.rows as usize;
     let mut frees = [false; MOST_ROWS];

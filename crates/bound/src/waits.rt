@@ -9,13 +9,14 @@ use load::Load;
 use load::MOST_ROWS;
 ghost use mathlib.Core.Bool.{cond};
 ghost use mathlib.Core.Path.{_≡_};
-ghost use Prim.Native.Nat.{_-_, _<_, max};
-ghost use Rattle.counting.specs.Sums.{maxTo};
+ghost use Prim.Native.Nat.{_+_, _-_, _≤_, _<_, max};
+ghost use Rattle.counting.specs.Sums.{anyTo, maxTo};
 ghost use Rattle.counting.proofs.PairLaws.{pairsSmallest};
+ghost use Rattle.load.specs.Load.{mostRows};
 ghost use Rattle.load.specs.View.{viewOf};
 ghost use Rattle.load.specs.Acceptable.{Acceptable};
 ghost use Rattle.rules.specs.Bound.{smallestCosts, largestW};
-ghost use Rattle.bound.specs.Parts.{at, isMarked, isOther, Costed};
+ghost use Rattle.bound.specs.Parts.{at, isMarked, isOther, Costed, freesAt};
 
 // Gives the larger of two numbers.
 fn larger(a: u16, b: u16) -> u16
@@ -71,9 +72,22 @@ fn largest_left(
     most
 }
 
-// Gives the largest W at a place, and 0 where no row has a free wait there.
-pub fn largest_w(load: Load, j: usize) -> u16
-    requires { ⌜ Acceptable (viewOf load) × (j < 8) ⌝ }
+// Says whether one of the first n rows is marked.
+fn any_marked(n: usize, marks: &[bool; MOST_ROWS]) -> bool
+    requires { ⌜ n ≤ mostRows ⌝ }
+    ensures { λ r. ⌜ r ≡ anyTo (isMarked (now (marks .entry))) n ⌝ }
+{
+    for i in 0..n {
+        if marks[i] {
+            return true;
+        }
+    }
+    false
+}
+
+// Gives the largest W at a place, for the rows whose wait there is free.
+fn largest_of(load: Load, j: usize, frees: &[bool; MOST_ROWS]) -> u16
+    requires { ⌜ Acceptable (viewOf load) × (j < 8) × (now frees ≡ freesAt load (j + 1)) ⌝ }
     ensures { λ r. ⌜ r ≡ largestW smallestCosts (viewOf load) j ⌝ }
 {
     let rows = load.rows as usize;
@@ -81,6 +95,17 @@ pub fn largest_w(load: Load, j: usize) -> u16
     let next = costs_at(load, j + 1);
     let pairs = pairs_at(load, j);
     let waits = waits_at(load, j);
+    largest_left(rows, &here, &next, pairs, &waits, frees)
+}
+
+// Gives the largest W at a place, and 0 where no row has a free wait there.
+pub fn largest_w(load: Load, j: usize) -> u16
+    requires { ⌜ Acceptable (viewOf load) × (j < 8) ⌝ }
+    ensures { λ r. ⌜ r ≡ largestW smallestCosts (viewOf load) j ⌝ }
+{
     let frees = frees_at(load, j + 1);
-    largest_left(rows, &here, &next, pairs, &waits, &frees)
+    if any_marked(load.rows as usize, &frees) {
+        return largest_of(load, j, &frees);
+    }
+    0
 }

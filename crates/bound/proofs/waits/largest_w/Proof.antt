@@ -1,68 +1,41 @@
--- `largest_w` fills the arrays of its place and asks for the largest of what is left there.
-use Prim.Native.Nat.{suc, _+_, _≤_}
-use mathlib.Core.Bool.{false, _&&_}
-use mathlib.Core.Path.{_≡_, _∙_, ap}
+-- `largest_w` asks for the largest of what is left at a place only where some wait there is free.
+use Prim.Native.Nat.{_≤_}
+use mathlib.Core.Path.{sym, _∙_, ap}
 use native.Mathlib.Numerals.{add-one}
 use borrow.Author.Needs.{needs}
-use Rattle.counting.specs.Lists.{filled}
-use Rattle.load.specs.Load.{rowAt, stepAt}
 use Rattle.load.specs.View.{viewOf, embedded}
-use Rattle.bound.specs.Parts.{freeIn}
+use Rattle.bound.specs.Parts.{freesAt}
 use Rattle.bound.proofs.AcceptedLaws.{accepted-few}
-use Rattle.bound.proofs.PlaceLaws.{AtPlace, place-costed, largestW-read}
+use Rattle.bound.proofs.PlaceLaws.{largestW-none}
 use Rattle.bound.proofs.waits.largest_w.Statement.{statement}
 use Rattle.bound.proofs.waits.largest_w.Tie as tie
-
--- the function's entry, and the arrays of the place
-abbrev start : tie.After-frees-at → tie.Start
-start c = c .before .before .before .before .before .before
-
-place : (c : tie.After-frees-at)
-    → AtPlace (viewOf (start c .args .load)) (start c .args .j) (c .before .before .before .before .costs-at .result)
-    (c .before .before .before .costs-at2 .result) (c .before .before .pairs-at .result) (c .before .waits-at .result)
-    (c .frees-at .result)
-unfolding viewOf embedded
-place c =
-    let load = start c .args .load in
-    let j = start c .args .j in
-    let next : j + 1 ≡ suc j = add-one j in
-    record {
-      here-is = c .before .before .before .before .costs-at .ensures;
-      next-is =
-          c .before .before .before .costs-at2 .ensures
-          ∙ ap (λ k. filled (λ i. stepAt (rowAt load i) k .cost) (load .rows) 24 0) next;
-      pairs-is =
-          c .before .before .pairs-at .ensures
-          ∙ ap (λ k. filled (λ i. freeIn (rowAt load i) j && freeIn (rowAt load i) k) (load .rows) 24 false) next;
-      waits-is = c .before .waits-at .ensures;
-      frees-is = c .frees-at .ensures ∙ ap (λ k. filled (λ i. freeIn (rowAt load i) k) (load .rows) 24 false) next;
-    }
 
 -- there are few rows
 few : (c : tie.Start) → c .args .load .rows ≤ 24
 few c = accepted-few (c .args .load) (c .pre .0)
 
-largest-left-requires : tie.Need-largest-left-requires
-unfolding viewOf
-largest-left-requires c κs =
-    let filled-in = c .before .before .before .before in
-    place-costed _ _ _ _ _ _ _ (place filled-in) (start filled-in .pre .0)
+asked : tie.Need-largest-of-requires
+asked c κs =
+    let made = c .before .before .before .before .before in
+    (made .before .pre .0, made .before .pre .1, made .frees-at .ensures)
 
-returns : tie.Need-returns
-unfolding viewOf
-returns c = c .largest-left .ensures ∙ largestW-read _ _ _ _ _ _ _ (place (c .before .before .before .before .before))
+none : tie.Need-returns-2
+unfolding viewOf embedded
+none c =
+    let made = c .before .before .before .before in
+    let load = made .before .args .load in
+    let j = made .before .args .j in
+    largestW-none (viewOf load) j (made .frees-at .result) (made .frees-at .ensures ∙ ap (freesAt load) (add-one j))
+    (sym (c .before .any-marked .ensures) ∙ c .if1 .left)
 
 pub largest-w-spec : {M : Type 1} → statement M
 largest-w-spec =
     tie.close
     (tie.spec
     (λ c. search needs)
-    (λ c κs. few (c .before))
+    (λ c κs. few c)
     (λ c. search needs)
-    (λ c κs. few (c .before .before))
-    (λ c κs. (few (c .before .before .before), search needs))
-    (λ c κs. few (c .before .before .before .before))
-    (λ c. search needs)
-    (λ c κs. few (c .before .before .before .before .before))
-    largest-left-requires
-    returns)
+    (λ c κs. few (c .before .before .before))
+    asked
+    (λ c. c .largest-of .ensures)
+    none)
