@@ -79,6 +79,9 @@ pub fn next_moment(board: Board, clock: u32, rows: usize) -> u32
     let lowest = lowest_step(board, rows);
     let mut next = LAST_MOMENT;
     for k in 0..rows {
+        if next <= clock {
+            return clock + 1;
+        }
         let crowded = is_crowded(board, clock, rows, k);
         next = sooner_release(
             next,

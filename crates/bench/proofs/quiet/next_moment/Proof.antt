@@ -24,7 +24,7 @@ loop-holds c = (search needs, c .before .pre .0 .rows-most, search needs, λ j l
 loop-again : tie.Need-loop-again Inv-loop μ-loop
 loop-again c =
     let asked = c .before .before .before .before .before in
-    let turn = asked .before in
+    let turn = asked .before .before in
     let start = turn .before .before .before in
     let board = start .args .t1 in
     let lowest = turn .before .before .lowest-step .result in
@@ -44,20 +44,29 @@ loop-again c =
       ],
     )
 
+-- a step is ready: one tick
 returns : tie.Need-returns Inv-loop μ-loop
 returns c =
+    record {
+      later = omega arith;
+      most = search needs;
+      quiet = λ t k l m. absurd (omega arith);
+    }
+
+returns-2 : tie.Need-returns-2 Inv-loop μ-loop
+returns-2 c =
     let start = c .before .before .before .before in
     let lowest = c .before .before .before .lowest-step in
     let inv = c .before .before .loop .inv in
     record {
-      later = c .if1 .taken;
+      later = c .if2 .taken;
       most = inv .2;
       quiet = λ t k l m b. awaits-quiet (start .args .t1) (start .args .clock) (start .args .rows) (lowest .result)
           (c .before .before .loop .next) (start .pre .0) (lowest .ensures) (λ j h. inv .3 j (omega arith)) t k m b;
     }
 
-returns-2 : tie.Need-returns-2 Inv-loop μ-loop
-returns-2 c =
+returns-3 : tie.Need-returns-3 Inv-loop μ-loop
+returns-3 c =
     record {
       later = omega arith;
       most = search needs;
@@ -72,7 +81,9 @@ next-moment-spec =
     μ-loop
     (λ c κs. c .pre .0 .rows-most)
     loop-holds
-    (λ c κs. (c .before .before .before .pre .0, c .loop-test .taken))
+    (λ c. search needs)
+    returns
+    (λ c κs. (c .before .before .before .before .pre .0, c .before .loop-test .taken))
     (λ c. search needs)
     (λ c. search needs)
     (λ c. search needs)
@@ -83,5 +94,5 @@ next-moment-spec =
     (λ c. search needs)
     loop-again
     (λ c. search needs)
-    returns
-    returns-2)
+    returns-2
+    returns-3)
