@@ -2,7 +2,7 @@
 use crate::Board;
 use crate::search::is_allowed;
 use crate::search::lowest_step;
-use load::ranges::LAST_MOMENT;
+use load::LAST_MOMENT;
 ghost use mathlib.Core.Path.{_≡_};
 ghost use mathlib.Core.Bool.{_&&_, _||_, cond, not};
 ghost use Prim.Native.Nat.{min, _<_};

@@ -2,7 +2,7 @@
 use crate::Board;
 use crate::Stack;
 use crate::plan::plan_passes;
-use load::ranges::LAST_MOMENT;
+use load::LAST_MOMENT;
 ghost use mathlib.Core.Path.{_≡_};
 ghost use mathlib.Core.Bool.{_&&_, _||_};
 ghost use Prim.Native.Nat.{ℕ, _+_, min, _≤_, _<_};

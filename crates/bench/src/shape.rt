@@ -2,10 +2,10 @@
 // the load does not have.
 use crate::Bench;
 use crate::lookups::open_window;
+use load::LAST_MOMENT;
 use load::Load;
 use load::MOST_ROWS;
 use load::Row;
-use load::ranges::LAST_MOMENT;
 ghost use mathlib.Core.Path.{_≡_};
 ghost use mathlib.Core.Bool.{cond};
 ghost use lib.Dec.{eqb, ltb};

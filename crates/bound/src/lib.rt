@@ -1,7 +1,7 @@
 // The bound of a load, its margins and its verdict. Each call takes a load in memory and checks it
 // first; a refusal comes with bound 0, margins that are all 0, and the verdict no.
 mod bounds;
-pub mod bytes;
+mod bytes;
 mod cut;
 mod margins;
 mod places;

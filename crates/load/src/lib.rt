@@ -1,12 +1,12 @@
 // A load held in memory, by value. Identifiers and box numbers come from separate registers, so
 // each has a type of its own, and a row cannot be built with the two exchanged.
 mod chains;
-pub mod check;
-pub mod faults;
-pub mod parts;
-pub mod ranges;
-pub mod taken;
-pub mod windows;
+mod check;
+mod faults;
+mod parts;
+mod ranges;
+mod taken;
+mod windows;
 mod zeros;
 
 pub use check::check_load;
@@ -19,6 +19,7 @@ pub use parts::window_at;
 pub use parts::zero_load;
 pub use parts::zero_row;
 pub use ranges::LARGEST_COST;
+pub use ranges::LAST_MOMENT;
 pub use ranges::MOST_ROWS;
 pub use ranges::MOST_STEPS;
 pub use ranges::MOST_WINDOWS;

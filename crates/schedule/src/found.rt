@@ -2,10 +2,10 @@
 use crate::Seen;
 use crate::before::place_of;
 use crate::before::with_found;
+use load::LAST_MOMENT;
 use load::Load;
 use load::MOST_ROWS;
 use load::Row;
-use load::ranges::LAST_MOMENT;
 use load::row_at;
 use load::step_at;
 use load::window_at;
