@@ -2,7 +2,7 @@
 -- be refused.
 use Prim.Native.Nat.{ℕ}
 use mathlib.Core.Bool.{Bool, true, false}
-use mathlib.Core.Path.{_≡_, refl, ap, _∙_}
+use mathlib.Core.Path.{_≡_, refl, ap, sym, _∙_}
 use native.Mathlib.Omega.{arith}
 use lib.IntN.{pos}
 use lib.ListN.{length, getD}
@@ -126,13 +126,13 @@ shut-out =
             demand1 .numbered refusal (numberOf refusal) refl .least,
           );
       fixed-verdict = λ v m.
-          true-false v (verdict-of loadB b-holds v (m (loadB .load)) ∙ b-yes)
-          (verdict-of loadA a-holds v (m (loadA .load)) ∙ a-no);
+          true-false v (verdict-of loadB b-holds v (m (loadB .load) (sym (b-holds .checks))) ∙ b-yes)
+          (verdict-of loadA a-holds v (m (loadA .load) (sym (a-holds .checks))) ∙ a-no);
       fixed-schedule = λ r m. omega (
         arith,
-        slots-of loadA a-holds r (m (loadA .load)),
+        slots-of loadA a-holds r (m (loadA .load) (sym (a-holds .checks))),
         a-slots,
-        slots-of loadEmpty empty-holds r (m (loadEmpty .load)),
+        slots-of loadEmpty empty-holds r (m (loadEmpty .load) (sym (empty-holds .checks))),
         no-slots,
       );
       moves-nothing = λ outcome lamps count bench f m. omega (

@@ -45,9 +45,9 @@ pub record ShutOut : Type 0 where
       → (refusal : Refusal) → run .moved n ≡ refusesMove refusal load (run .bench n) → ⊥
   -- one with a fixed verdict: A's is no, and B's is yes
   pub fixed-verdict : (verdict : Bool)
-      → ((load : Load) → VerdictOf load (fixedVerdict verdict load)) → ⊥
+      → ((load : Load) → CheckLoad load Good → VerdictOf load (fixedVerdict verdict load)) → ⊥
   -- or schedule: A has 6 slots, and the load of no rows has none
-  pub fixed-schedule : (r : Ran) → ((load : Load) → Runs load r) → ⊥
+  pub fixed-schedule : (r : Ran) → ((load : Load) → CheckLoad load Good → Runs load r) → ⊥
   -- or that moves nothing: A's first move takes 2 ticks
   pub moves-nothing : (outcome : Outcome) (lamps count : ℕ) (bench : Bench) → Fresh bench
       → NextMove (loadA .load) bench (movesNothing outcome lamps count (loadA .load) bench) → ⊥
