@@ -7,6 +7,7 @@
  * Each call is lent rooms of several lengths, with guard bytes round every slice. Numbers, answers,
  * bytes past the answer, guard bytes and the lent file must all be the same afterwards. */
 #include <inttypes.h>
+#include <stdbool.h>
 #include <stdio.h>
 #include <stdlib.h>
 #include <string.h>
@@ -130,7 +131,7 @@ static int compare(struct tally *tally, struct dice *dice, const struct asked *a
     return SAME;
 }
 
-/* Rooms: just enough, more, one byte short, none. */
+/* Rooms: just enough, more, one byte short, none; and all there is, which a refusal leaves too. */
 static int compare_rooms(struct tally *tally, struct dice *dice, const struct asked *asked,
                          const struct damaged_file *file)
 {
@@ -144,6 +145,8 @@ static int compare_rooms(struct tally *tally, struct dice *dice, const struct as
         found = compare(tally, dice, asked, file, &wanted, wanted.length - 1);
     if (found == SAME && wanted.length > 1)
         found = compare(tally, dice, asked, file, &wanted, 0);
+    if (found == SAME)
+        found = compare(tally, dice, asked, file, &wanted, ROOM_MOST);
     return found;
 }
 
@@ -160,6 +163,15 @@ static int compare_files(struct tally *tally, uint64_t files)
     return found;
 }
 
+/* Whether every number was met: a comparison that never meets one shows nothing of it. */
+static bool all_met(const struct tally *tally)
+{
+    bool met = true;
+    for (unsigned number = 0; number <= BENCH_OUTPUT_SHORT; number++)
+        met = met && tally->by_number[number] > 0;
+    return met;
+}
+
 int main(int count, char **words)
 {
     if (count < 2 || count > 3) {
@@ -174,5 +186,5 @@ int main(int count, char **words)
     for (unsigned number = 0; number <= BENCH_OUTPUT_SHORT; number++)
         printf(" %" PRIu64, tally.by_number[number]);
     puts(found == SAME ? ": no difference" : ": a difference");
-    return found;
+    return found == SAME && !all_met(&tally) ? CANNOT : found;
 }

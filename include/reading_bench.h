@@ -63,7 +63,7 @@ uint32_t bench_bound(const uint8_t *load, size_t load_len, uint8_t *out, size_t 
  *
  * Answer: 1 byte, 1 for yes and 0 for no.
  * Numbers: 1 to 8 by the first faulty record of the file, then 9 where `out_len` is 0.
- * Example: load A gives 00: row 3 is late by 1.
+ * Example: load A gives 00: the margin of row 3 is -1.
  */
 uint32_t bench_verdict(const uint8_t *load, size_t load_len, uint8_t *out, size_t out_len);
 
