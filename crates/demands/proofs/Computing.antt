@@ -45,7 +45,17 @@ use Rattle.rules.specs.Run.{stateAfter, starts, schedule}
 use Rattle.rules.specs.Slots.{slotFor, lastEnd}
 use Rattle.rules.specs.Check.{slotTests, checkSlots, checkSchedule}
 use Rattle.schedule.specs.ScheduleFile.{scheduleBytes}
-use Rattle.lines.specs.Lines.{spaced, loadLine, rowLine, slotLine, loadLines, refusedLine, printed}
+use Rattle.lines.specs.Lines.{
+  spaced,
+  firstLineOf,
+  loadLine,
+  rowLineOf,
+  rowLine,
+  slotLine,
+  loadLines,
+  refusedLine,
+  printed,
+}
 use Rattle.demands.specs.Notation.{pairs, hex, bytesOf, linesOf}
 
 -- to open this is to open all that its line names
@@ -57,6 +67,6 @@ unfolding sumTo maxTo allTo anyTo joinTo joinIn anyIn keepIn firstIn sumIn chang
     allEmbeddedWaits largestW boundBy partners pairCosts smallestCosts bound rowBound margin verdict margins
     bytesOfMargins fresh opensAt openWindow shaped isAllowed isCandidate candidates due stack windowLeft inTime
     lampWord lampCount started ticked passes chosen allFinished shapedMove move stateAfter starts schedule slotFor
-    lastEnd slotTests checkSlots checkSchedule scheduleBytes spaced loadLine rowLine slotLine loadLines refusedLine
-    printed pairs hex bytesOf linesOf
+    lastEnd slotTests checkSlots checkSchedule scheduleBytes spaced firstLineOf loadLine rowLineOf rowLine slotLine
+    loadLines refusedLine printed pairs hex bytesOf linesOf
 computing = 0

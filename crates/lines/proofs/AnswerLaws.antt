@@ -26,8 +26,8 @@ use Rattle.bound.specs.declared.Margined.{Margined}
 use Rattle.bound.specs.declared.Judged.{Judged}
 use Rattle.bound.specs.Calls.{ifGood, BoundOf, MarginsOf, VerdictOf}
 use Rattle.bound.proofs.AcceptedLaws.{accepted-few}
-use Rattle.lines.specs.Lines.{loadLine, rowLine}
-use Rattle.lines.specs.Parts.{Scheduled, firstLineOf, rowLineOf}
+use Rattle.lines.specs.Lines.{loadLine, rowLine, firstLineOf, rowLineOf}
+use Rattle.lines.specs.Parts.{Scheduled}
 
 module _ (load : Load) (accepted : checkLoad load ≡ Good) where
   bound-told : (r : Bounded) → BoundOf load r → r .bound ≡ bound (viewOf load)

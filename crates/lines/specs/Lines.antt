@@ -3,12 +3,14 @@ use Prim.Native.Nat.{ℕ}
 use Prim.Native.String.{String}
 use mathlib.Core.Bool.{Bool, cond}
 use mathlib.Core.List.{List, [], _∷_, _++_}
+use lib.IntN.{ℤ}
 use Rattle.counting.specs.Lists.{joinTo, joinIn}
 use Rattle.words.specs.Decimal.{text, decimal, signedDecimal}
 use Rattle.refusals.specs.declared.Refusal.{Refusal}
 use Rattle.refusals.specs.declared.Checked.{Checked}
 use Rattle.refusals.specs.declared.Checked.the-variants.{Good, Refused}
 use Rattle.refusals.specs.Refusals.{numberOf}
+use Rattle.load.specs.declared.Row.{Row}
 use Rattle.load.specs.declared.Load.{Load}
 use Rattle.load.specs.Load.{rowAt, shown}
 use Rattle.load.specs.View.{View, viewOf, stepsInAll}
@@ -34,25 +36,29 @@ abbrev pub yesOrNo : Bool → List ℕ
 yesOrNo answer = cond answer (text "yes") (text "no")
 
 -- first line: rows, steps, end of the last step (0 if none), bound, verdict
+unfoldable pub firstLineOf : ℕ → ℕ → ℕ → ℕ → Bool → List ℕ
+firstLineOf rows steps end bound answer =
+    line "load"
+    (decimal rows ∷ decimal steps ∷ decimal end ∷ decimal bound ∷ yesOrNo answer ∷ [])
+
+-- the first line of a load with its schedule
 unfoldable pub loadLine : View → List Slot → List ℕ
 loadLine L slots =
-    line "load"
-    (decimal (L .rows)
-    ∷ decimal (stepsInAll L)
-    ∷ decimal (lastEnd L slots)
-    ∷ decimal (bound L)
-    ∷ yesOrNo (verdict L)
-    ∷ [])
+    firstLineOf (L .rows) (stepsInAll L) (lastEnd L slots) (bound L) (verdict L)
 
 -- row lines: row, identifier, box, margin
-unfoldable pub rowLine : Load → ℕ → List ℕ
-rowLine load i =
+unfoldable pub rowLineOf : ℕ → Row → ℤ → List ℕ
+rowLineOf row fields margin =
     line "row"
-    (decimal (shown i)
-    ∷ decimal (rowAt load i .identifier .0)
-    ∷ decimal (rowAt load i .«box_number» .0)
-    ∷ signedDecimal (margin (viewOf load) i)
+    (decimal row
+    ∷ decimal (fields .identifier .0)
+    ∷ decimal (fields .«box_number» .0)
+    ∷ signedDecimal margin
     ∷ [])
+
+-- the line of a load's row at a place
+unfoldable pub rowLine : Load → ℕ → List ℕ
+rowLine load i = rowLineOf (shown i) (rowAt load i) (margin (viewOf load) i)
 
 -- slot lines: start, row, step
 unfoldable pub slotLine : Slot → List ℕ

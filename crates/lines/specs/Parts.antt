@@ -1,22 +1,17 @@
 -- What the parts of the code give: bytes put into a text from a place on, and lines of plain
 -- numbers. The promises do not cite this page.
 use Prim.Native.Nat.{ℕ, _+_, _*_, _≤_}
-use mathlib.Core.Bool.{Bool}
-use mathlib.Core.List.{List, [], _∷_}
+use mathlib.Core.List.{List}
 use mathlib.Core.Path.{_≡_}
-use lib.IntN.{ℤ}
 use lib.ListN.{length, take}
 use lib.Seq.{sets}
-use Rattle.words.specs.Decimal.{decimal, signedDecimal}
 use Rattle.refusals.specs.declared.Checked.the-variants.{Good}
-use Rattle.load.specs.declared.Row.{Row}
 use Rattle.load.specs.declared.Load.{Load}
 use Rattle.load.specs.Load.{mostRows}
 use Rattle.load.specs.View.{viewOf, stepsInAll}
 use Rattle.load.specs.Check.{checkLoad}
 use Rattle.rules.specs.declared.Slot.{Slot}
 use Rattle.rules.specs.Run.{schedule}
-use Rattle.lines.specs.Lines.{line, yesOrNo}
 
 -- 24 rows of 8 steps have at most 192 slots
 abbrev pub mostSlots : ℕ
@@ -53,19 +48,3 @@ pub record Scheduled (load : Load) (slots : List Slot) (count : ℕ) : Type 0 wh
 pub record Put (before : List ℕ) (at : ℕ) (bs after : List ℕ) (next : ℕ) : Type 0 where
   pub text-is : after ≡ sets before at bs
   pub place-is : next ≡ at + length bs
-
--- the first line, of its numbers and its verdict
-unfoldable pub firstLineOf : ℕ → ℕ → ℕ → ℕ → Bool → List ℕ
-firstLineOf rows steps end bound answer =
-    line "load"
-    (decimal rows ∷ decimal steps ∷ decimal end ∷ decimal bound ∷ yesOrNo answer ∷ [])
-
--- a row line, of the row as it is shown, the row and its margin
-unfoldable pub rowLineOf : ℕ → Row → ℤ → List ℕ
-rowLineOf row fields margin =
-    line "row"
-    (decimal row
-    ∷ decimal (fields .identifier .0)
-    ∷ decimal (fields .«box_number» .0)
-    ∷ signedDecimal margin
-    ∷ [])

@@ -26,7 +26,14 @@ ghost use Rattle.rules.specs.Margins.{marginIn};
 ghost use Rattle.rules.specs.Run.{schedule};
 ghost use Rattle.rules.specs.Slots.{slotAt, slotEnd, lastEnd};
 ghost use Rattle.rules.specs.ScheduleRules.{NamesStep};
-ghost use Rattle.lines.specs.Lines.{rowLine, slotLine, loadLine, loadLines, printed};
+ghost use Rattle.lines.specs.Lines.{
+  rowLine,
+  slotLine,
+  loadLine,
+  loadLines,
+  printed,
+  rowLineOf,
+};
 ghost use Rattle.lines.specs.Parts.{
   Put,
   Scheduled,
@@ -34,7 +41,6 @@ ghost use Rattle.lines.specs.Parts.{
   mostSlots,
   rowsEnd,
   textPlaces,
-  rowLineOf,
 };
 
 // Gives when a slot ends that names a step of the load.

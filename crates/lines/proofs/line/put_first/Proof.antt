@@ -2,7 +2,7 @@
 use native.Mathlib.Omega.{arith}
 use borrow.Author.Needs.{needs}
 use Rattle.words.specs.Decimal.{text}
-use Rattle.lines.specs.Parts.{firstLineOf}
+use Rattle.lines.specs.Lines.{firstLineOf}
 use Rattle.lines.proofs.PutLaws.{put-more}
 use Rattle.lines.proofs.LineLaws.{first-word, next-word}
 use Rattle.lines.proofs.line.put_first.Statement.{statement}

@@ -5,7 +5,7 @@ use native.Mathlib.Omega.{arith}
 use borrow.Author.Needs.{needs}
 use mir.Facts.{toZ-ofZ}
 use Rattle.words.specs.Decimal.{text, signedDecimal}
-use Rattle.lines.specs.Parts.{rowLineOf}
+use Rattle.lines.specs.Lines.{rowLineOf}
 use Rattle.lines.proofs.PutLaws.{put-more, put-same}
 use Rattle.lines.proofs.LineLaws.{first-word, next-word}
 use Rattle.lines.proofs.line.put_row.Statement.{statement}
