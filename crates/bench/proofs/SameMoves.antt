@@ -6,7 +6,8 @@ use Rattle.load.specs.declared.Load.{Load}
 use Rattle.load.specs.Check.{checkLoad}
 use Rattle.load.specs.View.{View}
 use Rattle.rules.specs.Move.{move}
-use Rattle.rules.proofs.SameBound.{SameLoad, viewOf-same}
+use Rattle.rules.specs.SameLoads.{SameLoad}
+use Rattle.rules.proofs.SameBound.{viewOf-same}
 use Rattle.bench.specs.declared.Bench.{Bench}
 use Rattle.bench.specs.Held.{stateOf, handedOn, nextMove}
 use Rattle.bench.proofs.NextLaws.{nextMove-good}

@@ -1,9 +1,10 @@
--- Signed numbers of 32 bits: a deadline less a bound is one, the test against 0 says whether it is negative, and raised
--- by 2 ^ 32 it is its word in two's complement, modulo 2 ^ 32.
+-- Signed numbers: a deadline less a bound is one of 32 bits; the test against 0 says whether one is negative; and
+-- raised by 2 ^ bits it is its word of so many bits in two's complement, modulo 2 ^ bits, for any width.
 use Prim.Native.Nat.{ℕ, zero, suc, _+_, _-_, _%_, _^_, _≤_, _<_, zero-le}
 use mathlib.Core.Bool.{Bool, true, false, cond}
 use mathlib.Core.List.{List, [], _∷_}
-use mathlib.Core.Path.{_≡_, refl}
+use mathlib.Core.Path.{_≡_, refl, _∙_}
+use native.Mathlib.Nat.{add-mod-right, mod-eq-of-lt, pow-suc}
 use native.Mathlib.Omega.{arith}
 use borrow.Author.Tests.{le-ltb}
 use lib.Dec.{ltb}
@@ -31,22 +32,23 @@ pub isNegative-test : (z : ℤ) → ltZ z (pos 0) ≡ isNegative z
 isNegative-test (pos n) = le-ltb n 0 zero-le
 isNegative-test (negsuc n) = refl
 
--- a number of 32 bits raised by 2 ^ 32
-abbrev pub raised : ℤ → ℕ
-raised (pos n) = n + 4294967296
-raised (negsuc n) = 4294967296 - suc n
+-- a number raised by 2 ^ bits
+abbrev pub raised : ℕ → ℤ → ℕ
+raised bits (pos n) = n + 2 ^ bits
+raised bits (negsuc n) = 2 ^ bits - suc n
 
-pub raised-is : (z : ℤ) → mag z < 2 ^ 31 → z +ℤ pos 4294967296 ≡ pos (raised z)
-raised-is (pos n) h = refl
-raised-is (negsuc n) h = rw (le-ltb 4294967296 (suc n) (omega arith))
+module _ (bits : ℕ) where
+  pub raised-is : (z : ℤ) → mag z < 2 ^ bits → z +ℤ pos (2 ^ bits) ≡ pos (raised bits z)
+  raised-is (pos n) h = refl
+  raised-is (negsuc n) h = rw (le-ltb (2 ^ bits) (suc n) (omega arith))
 
-pub raised-lt : (z : ℤ) → mag z < 2 ^ 31 → raised z < 2 ^ 33
-raised-lt (pos n) h = omega arith
-raised-lt (negsuc n) h = omega arith
+  pub raised-lt : (z : ℤ) → mag z < 2 ^ bits → raised bits z < 2 ^ suc bits
+  raised-lt (pos n) h = omega (arith, pow-suc 2 bits)
+  raised-lt (negsuc n) h = omega (arith, pow-suc 2 bits)
 
-pub raised-word : (z : ℤ) → mag z < 2 ^ 31 → raised z % 4294967296 ≡ twosComplement 32 z
-raised-word (pos n) h = omega arith
-raised-word (negsuc n) h = omega arith
+  pub raised-word : (z : ℤ) → mag z < 2 ^ bits → raised bits z % 2 ^ bits ≡ twosComplement bits z
+  raised-word (pos n) h = add-mod-right n (2 ^ bits) ∙ mod-eq-of-lt h
+  raised-word (negsuc n) h = mod-eq-of-lt (omega arith)
 
 -- what owning an array of them tells of each, and 0 past the end fits too
 pub each-fits : (zs : List ℤ) (us : List Val) (i : ℕ) → shadow (each ℤ (SInt w32 .own) zs us)

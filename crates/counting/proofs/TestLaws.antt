@@ -18,6 +18,11 @@ and-right false b e = cc
 pub and-both : (a b : Bool) → a ≡ true → b ≡ true → (a && b) ≡ true
 and-both a b p q = rw (p, q)
 
+-- what is false beside a true test
+not-and : (a : Bool) → (a && true) ≡ false → a ≡ false
+not-and true e = e
+not-and false e = refl
+
 pub or-left : (a b : Bool) → (a || b) ≡ false → a ≡ false
 or-left true b e = cc
 or-left false b e = refl
@@ -62,6 +67,23 @@ false-allTo p n k l h = go (allTo p n) refl
     go : (t : Bool) → allTo p n ≡ t → t ≡ false
     go true e = absurd (true-false (p k) (allTo-true p n e k l) h)
     go false e = refl
+
+-- a number below n that has not p
+pub record Fails (p : ℕ → Bool) (n : ℕ) : Type 0 where
+  pub place : ℕ
+  pub below : place < n
+  pub fails : p place ≡ false
+
+pub allTo-false : (p : ℕ → Bool) (n : ℕ) → allTo p n ≡ false → Fails p n
+unfolding allTo
+allTo-false p zero h = absurd (true-false true refl h)
+allTo-false p (suc n) h = go (p n) refl h (allTo-false p n)
+  where
+    go : (b : Bool) → p n ≡ b → (allTo p n && b) ≡ false → (allTo p n ≡ false → Fails p n) → Fails p (suc n)
+    go false e q lower = record { place = n; below = omega arith; fails = e }
+    go true e q lower =
+        let f = lower (not-and (allTo p n) q) in
+        record { place = f .place; below = omega (arith, f .below); fails = f .fails }
 
 pub allTo-ext : (p q : ℕ → Bool) (n : ℕ) → ((i : ℕ) → i < n → p i ≡ q i) → allTo p n ≡ allTo q n
 unfolding allTo

@@ -24,6 +24,7 @@ use Rattle.load.specs.Check.{
   zeroStepsFrom,
   zeroWindowsFrom,
   isZeroRow,
+  checkFields,
   checkStep,
   checkWindow,
   rowFault,
@@ -62,7 +63,7 @@ use Rattle.rules.specs.Check.{slotTests, checkSlots, checkSchedule}
 use Rattle.bench.specs.declared.Bench.{Bench}
 use Rattle.bench.specs.Held.{stateOf, nextMove}
 use Rattle.bench.proofs.NextLaws.{nextMove-good, nextMove-refused}
-use Rattle.demands.specs.Demand1.{OneOf}
+use Rattle.demands.specs.Numbers.{OneOf, ofLoad, ofFile, ofSlots, ofRange, ofWindow, ofState}
 use Rattle.demands.proofs.NumberLaws.{
   Gives,
   tests-give,
@@ -72,9 +73,18 @@ use Rattle.demands.proofs.NumberLaws.{
   OneOf-more,
 }
 
--- 3 to 7
-abbrev ofLoad : List ℕ
-ofLoad = 3 ∷ 4 ∷ 5 ∷ 6 ∷ 7 ∷ []
+-- the parts of a load
+pub fields-give : (row : Row) → Gives ofRange (checkFields row)
+unfolding rowTests anyIn
+fields-give row = tests-give ofRange (rowTests row) refl
+
+pub step-gives : (row : Row) (j : ℕ) → Gives ofRange (checkStep row j)
+unfolding stepTests anyIn
+step-gives row j = tests-give ofRange (stepTests row j) refl
+
+pub window-gives : (row : Row) (k : ℕ) → Gives ofWindow (checkWindow row k)
+unfolding windowTests anyIn
+window-gives row k = tests-give ofWindow (windowTests row k) refl
 
 zeros-give : (zeros : Bool) → Gives ofLoad (allZero zeros)
 unfolding anyIn
@@ -99,10 +109,6 @@ load-gives load =
     (then-gives ofLoad _ _
     (faultsTo-give ofLoad (λ i. rowFault load i (rowAt load i)) (λ i. row-gives load i (rowAt load i)) (load .rows))
     (last-gives ofLoad _ (zeros-give (allFrom (λ i. isZeroRow (rowAt load i)) (load .rows) mostRows))))
-
--- 1 to 8
-abbrev pub ofFile : List ℕ
-ofFile = 1 ∷ 2 ∷ 3 ∷ 4 ∷ 5 ∷ 6 ∷ 7 ∷ 8 ∷ []
 
 file-row-gives : (bs : List ℕ) (i place : ℕ) → Gives ofFile (rowFaultAt bs i place)
 unfolding rowFaultAt ownFault stepFaultIn windowFaultIn rowTests takenTests stepTests windowTests anyIn
@@ -130,7 +136,7 @@ file-gives bs =
 
 -- 3 to 7, then 12 to 17
 abbrev ofSchedule : List ℕ
-ofSchedule = 3 ∷ 4 ∷ 5 ∷ 6 ∷ 7 ∷ 12 ∷ 13 ∷ 14 ∷ 15 ∷ 16 ∷ 17 ∷ []
+ofSchedule = ofLoad ++ ofSlots
 
 pub schedule-gives : (load : Load) (slots : List Slot) → Gives ofSchedule (checkSchedule load slots)
 unfolding checkSchedule checkSlots slotTests anyIn
@@ -146,7 +152,7 @@ schedule-gives load slots =
 
 -- 3 to 7, 10 and 11
 abbrev ofMove : List ℕ
-ofMove = 3 ∷ 4 ∷ 5 ∷ 6 ∷ 7 ∷ 10 ∷ 11 ∷ []
+ofMove = ofLoad ++ ofState
 
 -- the number of an answer
 abbrev numberIn : Outcome → ℕ

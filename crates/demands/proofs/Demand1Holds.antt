@@ -1,5 +1,5 @@
 -- Demand 1 holds: an equation is met, the table gives each refusal a number of its own, the definitions refuse with no
--- other, and a refusal leaves what it was lent.
+-- other and exactly then, and a refusal leaves what it was lent.
 use mathlib.Core.Path.{ap, sym, _∙_}
 use Rattle.bench.specs.declared.Moved.{Moved}
 use Rattle.demands.specs.Demand1.{Demand1}
@@ -12,9 +12,10 @@ use Rattle.demands.proofs.RefusedAlone.{
   refused-verdict,
   refused-slots,
 }
-use Rattle.demands.proofs.WritingCalls.{c-gives, lines-give, c-keeps, lines-keep}
+use Rattle.demands.proofs.WritingCalls.{c-keeps, lines-keep}
 use Rattle.demands.proofs.RefusedMoves.{bench-kept}
-use Rattle.demands.proofs.CallNumbers.{load-gives, file-gives, schedule-gives, move-gives}
+use Rattle.demands.proofs.NumbersHold.{numbers}
+use Rattle.demands.proofs.ExactlyHolds.{exactly-then}
 
 pub demand1 : Demand1
 demand1 =
@@ -22,13 +23,8 @@ demand1 =
       answered = every-answer;
       numbered = λ refusal n e. rw e (numberOf-in-table refusal);
       apart = λ a b n p q. numberOf-apart a b (sym p ∙ q);
-      load-numbers = λ load r e. rw e (load-gives load .number);
-      file-numbers = λ bs r e. rw e (file-gives bs .number);
-      schedule-numbers = λ load slots r e. rw e (schedule-gives load slots .number);
-      move-numbers = λ load bench r e. rw e (move-gives load bench);
-      run-numbers = λ load r e. rw e (load-gives load .number);
-      c-numbers = c-gives;
-      lines-numbers = lines-give;
+      numbers = numbers;
+      exactly = exactly-then;
       no-load = refused-load;
       no-bound = refused-bound;
       no-margins = refused-margins;

@@ -1,5 +1,5 @@
 -- Demand 2 holds: the round trips of load_file told of the calls, the equations of bound and bench read where nothing
--- is refused, and the check that says yes exactly when the rules hold.
+-- is refused, the check that says yes exactly when the rules hold, what the host gets, and twins.
 use Prim.Native.Nat.{ℕ}
 use mathlib.Core.List.{List, [], _∷_}
 use mathlib.Core.Path.{_≡_, ap, sym, _∙_}
@@ -29,6 +29,8 @@ use Rattle.bound.specs.Calls.{ifGood, BoundOf, MarginsOf, VerdictOf}
 use Rattle.schedule.proofs.CheckExactly.{checkSchedule-exactly}
 use Rattle.demands.specs.Demand2.{fileIn, Demand2}
 use Rattle.demands.proofs.MovesHeld.{next-same}
+use Rattle.demands.proofs.HostHolds.{host-answers}
+use Rattle.demands.proofs.TwinsHold.{twins}
 
 -- a file that is not refused, written back
 pub file-back : (bs : List ℕ) → Bytes bs → readLoad bs .answer ≡ Good → WrittenLoad (readLoad bs .load) bs
@@ -84,4 +86,6 @@ demand2 =
       verdicts = verdict-is;
       moves = λ load bench r good held e. rw e (next-same load (sym good) bench held);
       says-yes = λ load slots r e. rw e (checkSchedule-exactly load slots);
+      host = host-answers;
+      twins = twins;
     }

@@ -1,20 +1,22 @@
 -- The idle builds are shut out: on loads A and B the definitions compute to something else, and demand 3 lets no move
 -- be refused.
-use Prim.Native.Nat.{ℕ}
+use Prim.Native.Nat.{ℕ, _<_}
 use mathlib.Core.Bool.{Bool, true, false}
 use mathlib.Core.Path.{_≡_, refl, ap, sym, _∙_}
 use native.Mathlib.Omega.{arith}
 use lib.IntN.{pos}
 use lib.ListN.{length, getD}
 use Rattle.counting.proofs.TestLaws.{true-false}
+use Rattle.counting.proofs.ListLaws.{getD-listTo}
 use Rattle.refusals.specs.declared.Checked.the-variants.{Refused}
 use Rattle.refusals.specs.Refusals.{numberOf}
 use Rattle.refusals.proofs.FirstMetLaws.{good-refused}
 use Rattle.load.specs.declared.Load.{Load}
+use Rattle.load.specs.Load.{mostRows}
 use Rattle.load.specs.View.{viewOf}
 use Rattle.load_file.specs.declared.Reading.{Reading}
 use Rattle.rules.specs.Outcomes.{toldBy}
-use Rattle.rules.specs.Margins.{margins}
+use Rattle.rules.specs.Margins.{marginAt, margins, marginIn}
 use Rattle.rules.specs.State.{fresh}
 use Rattle.bound.specs.Calls.{VerdictOf}
 use Rattle.bench.specs.declared.Bench.{Bench}
@@ -28,7 +30,7 @@ use Rattle.demands.specs.LoadA.{loadA}
 use Rattle.demands.specs.LoadB.{loadB}
 use Rattle.demands.specs.SmallLoads.{loadEmpty}
 use Rattle.demands.specs.AllLoads.{SoundHolds}
-use Rattle.demands.specs.IdleBuilds.{fixedVerdict, startsAtOnce, inventsMargins}
+use Rattle.demands.specs.IdleBuilds.{fixedVerdict, inventsMargins}
 use Rattle.demands.specs.ShutOut.{ShutOut}
 use Rattle.demands.proofs.Computing.{computing}
 use Rattle.demands.proofs.LoadsHold.{a-holds, b-holds, empty-holds}
@@ -48,7 +50,7 @@ fresh-clock : benchOf fresh .clock ≡ 0
 unfolding benchOf fresh
 fresh-clock = refl
 
--- on load A: the clock, what row 2 has finished, the first end, and the second move
+-- on load A: the clock, what row 2 has finished, and the second move
 a-clock : first (loadA .load) .bench .clock ≡ 2
 unfolding computing nextMove benchOf loadA
 a-clock = refl
@@ -57,26 +59,9 @@ a-finished : getD (first (loadA .load) .bench .finished) 1 0 ≡ 0
 unfolding computing nextMove benchOf loadA
 a-finished = refl
 
-a-all : getD (startsAtOnce (loadA .load) (benchOf fresh) .bench .finished) 1 0 ≡ 2
-unfolding computing benchOf loadA
-a-all = refl
-
-a-end : getD (first (loadA .load) .bench .end) 0 0 ≡ 2
-unfolding computing nextMove benchOf loadA
-a-end = refl
-
 a-second : startsIn (nextMove (loadA .load) (first (loadA .load) .bench)) ≡ 1
 unfolding computing nextMove benchOf loadA
 a-second = refl
-
-a-margin : getD (margins (viewOf (loadA .load))) 0 (pos 0) ≡ pos 1
-unfolding computing margins loadA
-a-margin = refl
-
--- on load B: the lamps of the first move
-b-count : first (loadB .load) .count ≡ 1
-unfolding computing nextMove benchOf loadB
-b-count = refl
 
 -- how many slots a worked load has
 slots-of : (e : Sound) → SoundHolds e → (r : Ran) → Runs (e .load) r → r .count ≡ length (e .answers .slots)
@@ -106,6 +91,11 @@ a-no = refl
 b-yes : loadB .answers .verdict-of ≡ true
 unfolding loadB
 b-yes = refl
+
+-- the margin at a place of all margins
+margins-at : (load : Load) (i : ℕ) → i < mostRows → marginIn (margins (viewOf load)) i ≡ marginAt (viewOf load) i
+unfolding margins
+margins-at load i l = getD-listTo (marginAt (viewOf load)) mostRows i (pos 0) l
 
 -- a relation at a fresh bench
 module _ (load : Load) (bench : Bench) (f : Fresh bench) (r : Moved) (m : NextMove load bench r) where
@@ -142,11 +132,9 @@ shut-out =
         ap (λ (r : Moved). r .bench .clock) (first-is (loadA .load) bench f _ m),
         a-clock,
       );
-      starts-at-once = λ bench f m. omega (
+      starts-at-once = λ bench r f more m. omega (
         arith,
-        ap (λ (b : Bench). getD (startsAtOnce (loadA .load) b .bench .finished) 1 0) f,
-        a-all,
-        ap (λ (r : Moved). getD (r .bench .finished) 1 0) (first-is (loadA .load) bench f _ m),
+        ap (λ (x : Moved). getD (x .bench .finished) 1 0) (first-is (loadA .load) bench f r m),
         a-finished,
       );
       then-idles = λ bench r f m n. omega (
@@ -155,13 +143,10 @@ shut-out =
         ap (λ (x : Moved). startsIn (nextMove (loadA .load) (x .bench))) (first-is (loadA .load) bench f r m),
         a-second,
       );
-      invents-count = λ n bench ne f m.
-          ne (ap (λ (r : Moved). r .count) (first-is (loadB .load) bench f _ m) ∙ b-count);
-      invents-ends = λ ends bench ne f m.
-          ne (ap (λ (r : Moved). getD (r .bench .end) 0 0) (first-is (loadA .load) bench f _ m) ∙ a-end);
-      invents-margins = λ ms ne m.
+      invents-count = λ load bench n ne m. ne (ap (λ (r : Moved). r .count) m);
+      invents-ends = λ load bench ends ne m. ne (ap (λ (r : Moved). r .bench .end) m);
+      invents-margins = λ load good given i l ne m.
           ne
-          (ap (λ l. getD l 0 (pos 0))
-          (demand2 .margins-are (loadA .load) (inventsMargins ms (loadA .load)) m (a-holds .checks))
-          ∙ a-margin);
+          (ap (λ ms. marginIn ms i) (demand2 .margins-are load (inventsMargins given load) m (sym good))
+          ∙ margins-at load i l);
     }

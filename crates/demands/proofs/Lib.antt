@@ -4,11 +4,15 @@ pub mod NumberLaws
 pub mod CallNumbers
 pub mod TableLaws
 pub mod WritingCalls
+pub mod NumbersHold
+pub mod ExactlyHolds
 pub mod RefusedAlone
 pub mod RefusedMoves
 pub mod Demand1Holds
 pub mod StateHeld
 pub mod MovesHeld
+pub mod HostHolds
+pub mod TwinsHold
 pub mod Demand2Holds
 pub mod RunByCalls
 pub mod Demand3Holds

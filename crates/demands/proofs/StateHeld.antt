@@ -15,7 +15,7 @@ use Rattle.load.specs.Load.{lastMoment, mostRows}
 use Rattle.load.specs.View.{View}
 use Rattle.rules.specs.State.{State, fresh, shaped}
 use Rattle.rules.specs.Move.{started, ticked, startOrIdle, allFinished, chosen, shapedMove, move}
-use Rattle.rules.proofs.ShapeLaws.{Unused}
+use Rattle.rules.specs.Shape.{Unused}
 use Rattle.rules.proofs.MoveLaws.{
   started-finished-other,
   started-end-other,

@@ -1,35 +1,30 @@
 -- Demand 1: "Every input gets an answer and every call ends. No public call asks its caller to have
 -- checked anything. A refusal carries one number from document 01's table and alters no byte or
 -- slot lent to it." That a call ends is part of what is proved of its code, and what is lent to be
--- read, as slots are, is altered by no call. To be read after PublicCalls. Rests on D49.
+-- read, as slots are, is altered by no call. To be read after Numbers and ExactlyThen. Rests on
+-- D49.
 use Prim.Native.Nat.{ℕ, _≤_}
-use mathlib.Core.Bool.{true, false}
-use mathlib.Core.List.{List, [], _∷_}
+use mathlib.Core.Bool.{false}
+use mathlib.Core.List.{List}
 use mathlib.Core.Logic.{_≢_}
 use mathlib.Core.Path.{_≡_}
-use lib.Dec.{eqb}
 use lib.IntN.{pos}
 use lib.ListN.{replicate}
-use Rattle.counting.specs.Lists.{anyIn}
 use Rattle.refusals.specs.declared.Refusal.{Refusal}
-use Rattle.refusals.specs.declared.Checked.{Checked}
 use Rattle.refusals.specs.declared.Checked.the-variants.{Refused}
-use Rattle.refusals.specs.Refusals.{numberGiven}
 use Rattle.refusals.specs.Calls.{NumberOf}
 use Rattle.load.specs.declared.Load.{Load}
 use Rattle.load.specs.Load.{mostRows, zeroLoad}
 use Rattle.load.specs.View.{View}
-use Rattle.load.specs.Calls.{CheckLoad}
 use Rattle.load_file.specs.declared.Reading.{Reading}
 use Rattle.load_file.specs.Calls.{ReadLoad, WriteLoad}
 use Rattle.rules.specs.declared.Slot.{Slot}
 use Rattle.rules.specs.declared.Outcome.the-variants as outcome
-use Rattle.rules.specs.Outcomes.{toldBy}
 use Rattle.bound.specs.declared.Bounded.{Bounded}
 use Rattle.bound.specs.declared.Margined.{Margined}
 use Rattle.bound.specs.declared.Judged.{Judged}
 use Rattle.bound.specs.Calls.{BoundOf, MarginsOf, VerdictOf}
-use Rattle.schedule.specs.Calls.{CheckSchedule, WriteSchedule, WriteArray}
+use Rattle.schedule.specs.Calls.{WriteSchedule, WriteArray}
 use Rattle.bench.specs.declared.Bench.{Bench}
 use Rattle.bench.specs.declared.Moved.{Moved}
 use Rattle.bench.specs.declared.Ran.{Ran}
@@ -39,6 +34,8 @@ use Rattle.reading_bench.specs.Calls.{ForC}
 use Rattle.lines.specs.declared.Printed.{Printed}
 use Rattle.lines.specs.Calls.{PrintLines}
 use Rattle.demands.specs.PublicCalls.{EveryCall}
+use Rattle.demands.specs.Numbers.{Numbers}
+use Rattle.demands.specs.ExactlyThen.{ExactlyThen}
 
 -- a result that meets a relation
 pub record Answer (A : Type 0) (meets : A → Type 0) : Type 0 where
@@ -50,10 +47,6 @@ pub record InTable (n : ℕ) : Type 0 where
   pub least : 1 ≤ n
   pub most : n ≤ 17
 
--- a number given back is 0, or one of these
-abbrev pub OneOf : List ℕ → ℕ → Type 0
-OneOf numbers n = anyIn (eqb n) (0 ∷ numbers) ≡ true
-
 -- demand 1
 pub record Demand1 : Type 0 where
   -- every input of every call gets an answer; nothing is asked of it first
@@ -62,23 +55,10 @@ pub record Demand1 : Type 0 where
   pub numbered : (refusal : Refusal) (n : ℕ) → NumberOf refusal n → InTable n
   -- which is no other refusal's
   pub apart : (a b : Refusal) (n : ℕ) → NumberOf a n → NumberOf b n → a ≡ b
-  -- the numbers that a load, a file, a schedule, a move, a run, a call for C and printing can be
-  -- refused with
-  pub load-numbers : (load : Load) (r : Checked) → CheckLoad load r
-      → OneOf (3 ∷ 4 ∷ 5 ∷ 6 ∷ 7 ∷ []) (numberGiven r)
-  pub file-numbers : (bs : List ℕ) (r : Reading) → ReadLoad bs r
-      → OneOf (1 ∷ 2 ∷ 3 ∷ 4 ∷ 5 ∷ 6 ∷ 7 ∷ 8 ∷ []) (numberGiven (r .answer))
-  pub schedule-numbers : (load : Load) (slots : List Slot) (r : Checked)
-      → CheckSchedule load slots r
-      → OneOf (3 ∷ 4 ∷ 5 ∷ 6 ∷ 7 ∷ 12 ∷ 13 ∷ 14 ∷ 15 ∷ 16 ∷ 17 ∷ []) (numberGiven r)
-  pub move-numbers : (load : Load) (bench : Bench) (r : Moved) → NextMove load bench r
-      → OneOf (3 ∷ 4 ∷ 5 ∷ 6 ∷ 7 ∷ 10 ∷ 11 ∷ []) (toldBy (r .outcome) .number)
-  pub run-numbers : (load : Load) (r : Ran) → Runs load r
-      → OneOf (3 ∷ 4 ∷ 5 ∷ 6 ∷ 7 ∷ []) (numberGiven (r .answer))
-  pub c-numbers : (answer : View → List ℕ) (bs out : List ℕ) (r : ℕ) (after : List ℕ)
-      → ForC answer bs out r after → OneOf (1 ∷ 2 ∷ 3 ∷ 4 ∷ 5 ∷ 6 ∷ 7 ∷ 8 ∷ 9 ∷ []) r
-  pub lines-numbers : (bs out : List ℕ) (r : Printed) (after : List ℕ) → PrintLines bs out r after
-      → OneOf (9 ∷ []) (numberGiven (r .answer))
+  -- and is one of those that the call can refuse with
+  pub numbers : Numbers
+  -- a load, a state and a schedule are refused exactly when a fact of them fails
+  pub exactly : ExactlyThen
   -- a refusal is returned alone: with the all-zero load, bound 0, margins 0, verdict no, no slot
   pub no-load : (bs : List ℕ) (r : Reading) (refusal : Refusal) → ReadLoad bs r
       → r .answer ≡ Refused refusal → r .load ≡ zeroLoad

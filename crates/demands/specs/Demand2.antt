@@ -33,6 +33,8 @@ use Rattle.bench.specs.declared.Bench.{Bench}
 use Rattle.bench.specs.declared.Moved.{Moved}
 use Rattle.bench.specs.Held.{stateOf}
 use Rattle.bench.specs.Calls.{NextMove}
+use Rattle.demands.specs.HostAnswers.{HostAnswers}
+use Rattle.demands.specs.Twins.{Twins}
 
 -- the file of a load that was written into an output: so many bytes from its front
 abbrev pub fileIn : Load → List ℕ → List ℕ
@@ -81,3 +83,7 @@ pub record Demand2 : Type 0 where
   -- the schedule check says yes exactly when document 01's rules hold
   pub says-yes : (load : Load) (slots : List Slot) (r : Checked) → CheckSchedule load slots r
       → (r ≡ Good) ↔ KeepsRules load slots
+  -- what C and the program get is that load's
+  pub host : HostAnswers
+  -- and identifiers and boxes do not matter to it
+  pub twins : Twins

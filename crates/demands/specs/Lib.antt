@@ -1,7 +1,11 @@
 -- What is promised, over the very definitions that the contracts cite, and document 01's loads.
 pub mod PublicCalls
 pub mod Sameness
+pub mod Numbers
+pub mod ExactlyThen
 pub mod Demand1
+pub mod HostAnswers
+pub mod Twins
 pub mod Demand2
 pub mod Demand3
 pub mod Notation

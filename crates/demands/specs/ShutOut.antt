@@ -1,26 +1,29 @@
 -- "Four idle builds are shut out": what such a build gives does not meet a call's relation, or not
 -- demand 3. To be read after IdleBuilds and AllLoads.
-use Prim.Native.Nat.{ℕ}
+use Prim.Native.Nat.{ℕ, _<_}
 use mathlib.Core.Bool.{Bool}
 use mathlib.Core.List.{List}
 use mathlib.Core.Logic.{_≢_}
 use mathlib.Core.Path.{_≡_}
-use lib.IntN.{ℤ, pos}
+use lib.IntN.{ℤ}
 use lib.ListN.{getD}
 use Rattle.refusals.specs.declared.Refusal.{Refusal}
 use Rattle.refusals.specs.declared.Checked.the-variants.{Good, Refused}
 use Rattle.load.specs.declared.Load.{Load}
+use Rattle.load.specs.Load.{mostRows}
+use Rattle.load.specs.View.{viewOf}
 use Rattle.load.specs.Calls.{CheckLoad}
 use Rattle.load_file.specs.Calls.{ReadLoad}
 use Rattle.rules.specs.declared.Outcome.{Outcome}
+use Rattle.rules.specs.Margins.{marginAt, marginIn}
 use Rattle.bound.specs.Calls.{MarginsOf, VerdictOf}
 use Rattle.bench.specs.declared.Bench.{Bench}
 use Rattle.bench.specs.declared.Moved.{Moved}
 use Rattle.bench.specs.declared.Ran.{Ran}
+use Rattle.bench.specs.Held.{nextMove}
 use Rattle.bench.specs.Calls.{Fresh, NextMove, Runs}
 use Rattle.demands.specs.Notation.{bytesOf}
 use Rattle.demands.specs.LoadA.{loadA}
-use Rattle.demands.specs.LoadB.{loadB}
 use Rattle.demands.specs.Demand3.{Run}
 use Rattle.demands.specs.IdleBuilds.{
   refusesFile,
@@ -28,7 +31,6 @@ use Rattle.demands.specs.IdleBuilds.{
   fixedVerdict,
   movesNothing,
   onlyIdles,
-  startsAtOnce,
   inventsCount,
   inventsEnds,
   inventsMargins,
@@ -52,17 +54,19 @@ pub record ShutOut : Type 0 where
   pub moves-nothing : (outcome : Outcome) (lamps count : ℕ) (bench : Bench) → Fresh bench
       → NextMove (loadA .load) bench (movesNothing outcome lamps count (loadA .load) bench) → ⊥
   -- one that makes all starts in its first move: after A's, row 2 has finished nothing
-  pub starts-at-once : (bench : Bench) → Fresh bench
-      → NextMove (loadA .load) bench (startsAtOnce (loadA .load) bench) → ⊥
+  pub starts-at-once : (bench : Bench) (r : Moved) → Fresh bench → 0 < getD (r .bench .finished) 1 0
+      → NextMove (loadA .load) bench r → ⊥
   -- and then only idles: A's second move is a start
   pub then-idles : (bench : Bench) (r : Moved) → Fresh bench → NextMove (loadA .load) bench r
       → NextMove (loadA .load) (r .bench) (onlyIdles (r .bench)) → ⊥
-  -- one with invented lamp counts: B's first move opens one window
-  pub invents-count : (n : ℕ) (bench : Bench) → n ≢ 1 → Fresh bench
-      → NextMove (loadB .load) bench (inventsCount n (loadB .load) bench) → ⊥
-  -- or ends: A's first step ends at 2
-  pub invents-ends : (ends : List ℕ) (bench : Bench) → getD ends 0 0 ≢ 2 → Fresh bench
-      → NextMove (loadA .load) bench (inventsEnds ends (loadA .load) bench) → ⊥
-  -- or margins: A's first is 1
-  pub invents-margins : (margins : List ℤ) → getD margins 0 (pos 0) ≢ pos 1
-      → MarginsOf (loadA .load) (inventsMargins margins (loadA .load)) → ⊥
+  -- one with invented lamp counts, of any load and bench
+  pub invents-count : (load : Load) (bench : Bench) (n : ℕ) → n ≢ nextMove load bench .count
+      → NextMove load bench (inventsCount n load bench) → ⊥
+  -- or ends
+  pub invents-ends : (load : Load) (bench : Bench) (ends : List ℕ)
+      → ends ≢ nextMove load bench .bench .end
+      → NextMove load bench (inventsEnds ends load bench) → ⊥
+  -- or margins, at any place of any accepted load
+  pub invents-margins : (load : Load) → CheckLoad load Good → (given : List ℤ) (i : ℕ)
+      → i < mostRows → marginIn given i ≢ marginAt (viewOf load) i
+      → MarginsOf load (inventsMargins given load) → ⊥

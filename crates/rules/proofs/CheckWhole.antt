@@ -1,7 +1,7 @@
 -- Slots that the check passes are whole, and each row's last step ends by its deadline: each test that is not met is a
 -- fact, and the slot that a test looks up by row and step is the only one of that row and step.
 use Prim.Native.Nat.{ℕ, suc, _+_, _-_, _≤_, _<_}
-use mathlib.Core.Bool.{Bool, false, _&&_, not}
+use mathlib.Core.Bool.{Bool, false, _&&_, _||_, not}
 use mathlib.Core.List.{List, [], _∷_}
 use mathlib.Core.Path.{_≡_, ap, sym, _∙_, subst}
 use native.Mathlib.Numerals.{add-one}
@@ -10,7 +10,7 @@ use lib.Dec.{eqb, ltb}
 use lib.ListN.{length}
 use borrow.Author.Tests.{eqb-true, ltb-false, eq-eqb, not-false}
 use Rattle.counting.specs.Lists.{anyIn}
-use Rattle.counting.proofs.TestLaws.{or-left, or-right}
+use Rattle.counting.proofs.TestLaws.{or-neither}
 use Rattle.counting.proofs.MemberLaws.{anyIn-false}
 use Rattle.refusals.specs.declared.Refusal.the-variants.{SlotCount}
 use Rattle.refusals.specs.declared.Checked.{Checked}
@@ -22,7 +22,6 @@ use Rattle.load.specs.declared.Window.{Window}
 use Rattle.load.specs.Load.{lastMoment, shown, noWindow}
 use Rattle.load.specs.View.{View, stepsInAll}
 use Rattle.load.specs.Acceptable.{windowOf as windowAt}
-use Rattle.load.specs.Faults.{outside}
 use Rattle.rules.specs.declared.Slot.{Slot}
 use Rattle.rules.specs.Ready.{release}
 use Rattle.rules.specs.Slots.{slotAt, rowOf, stepOf, slotEnd, slotFor}
@@ -37,17 +36,12 @@ use Rattle.rules.specs.Check.{
   checkSlots,
 }
 use Rattle.rules.specs.ScheduleRules.{NamesStep}
-use Rattle.rules.proofs.SlotLaws.{ofRow, IsSlot}
+use Rattle.rules.proofs.SlotLaws.{IsSlot}
 use Rattle.rules.proofs.NextLaws.{EachNext, once}
 use Rattle.rules.proofs.RowCounts.{ofRow-steps, after-all}
 use Rattle.rules.proofs.SlotTests.{looked}
 use Rattle.rules.proofs.WholeLaws.{Whole}
-
-outside-false : (least most n : ℕ) → outside least most n ≡ false → (least ≤ n) × (n ≤ most)
-outside-false least most n e = (
-  ltb-false n least (or-left (ltb n least) (ltb most n) e),
-  ltb-false most n (or-right (ltb n least) (ltb most n) e),
-)
+use Rattle.rules.proofs.BrokenTests.{Named, unmet13}
 
 -- a window whose last step is the slot's ends late, by the row under which its first step is looked up
 abbrev lateIn : View → List Slot → Slot → ℕ → Window → Bool
@@ -97,26 +91,19 @@ module _ (L : View) (slots : List Slot) (e : checkSlots L slots ≡ Good) where
   met : (k : ℕ) → k < length slots → Unmet L slots k (slotAt slots k)
   met = slots-met L slots e
 
-  met-names : (k : ℕ) → k < length slots → NamesStep L (slotAt slots k)
-  met-names k l =
+  met-named : (k : ℕ) → k < length slots → Named L slots k
+  met-named k l =
       let x = slotAt slots k in
-      let a = outside 1 (L .rows) (x .row) in
-      let b = outside 1 (L .steps (rowOf x)) (x .step) in
-      let rows = outside-false 1 (L .rows) (x .row) (or-left a b (met k l .names)) in
-      let steps = outside-false 1 (L .steps (rowOf x)) (x .step) (or-right a b (met k l .names)) in
-      record {
-        row-from = rows .0;
-        row-to = rows .1;
-        step-from = steps .0;
-        step-to = steps .1;
-        start-to = ltb-false lastMoment (x .start) (met k l .start);
-      }
+      let m = met k l in
+      unmet13 L slots k
+      (or-neither (namesNoStep L x || notNext slots k x) (ltb lastMoment (x .start))
+      (or-neither (namesNoStep L x) (notNext slots k x) (m .names) (m .next)) (m .start))
+
+  met-names : (k : ℕ) → k < length slots → NamesStep L (slotAt slots k)
+  met-names k l = met-named k l .names
 
   met-next : EachNext slots
-  met-next k l =
-      let x = slotAt slots k in
-      eqb-true (x .step) (shown (ofRow slots (x .row) k))
-      (not-false (eqb (x .step) (shown (ofRow slots (x .row) k))) (met k l .next))
+  met-next k l = met-named k l .next
 
   met-overlap : (k : ℕ) → suc k < length slots → slotEnd L (slotAt slots k) ≤ slotAt slots (suc k) .start
   met-overlap k l = ltb-false (slotAt slots (suc k) .start) (slotEnd L (slotAt slots k)) (met (suc k) l .overlap)

@@ -17,7 +17,7 @@ use Rattle.rules.specs.Bound.{largestPhase, embeddedWaitAt, largestW}
 use Rattle.rules.specs.State.{State}
 use Rattle.rules.specs.Plan.{planPasses}
 use Rattle.rules.proofs.TightBound.{minima}
-use Rattle.rules.proofs.ShapeLaws.{Shape}
+use Rattle.rules.proofs.ShapeLaws.{RowsShaped}
 
 -- the costs of the steps that are finished
 unfoldable pub spent : View → State → ℕ
@@ -60,7 +60,7 @@ abbrev pub waitPlaces : ℕ
 waitPlaces = mostSteps - 1
 
 pub record Invariant (L : View) (s : State) (openTicks phaseTicks : ℕ) (waitTicks : ℕ → ℕ) : Type 0 where
-  pub shape : Shape L s
+  pub shape : RowsShaped L s
   -- the clock counts costs and idle ticks
   pub clock-sum : s .clock ≡ spent L s + openTicks + phaseTicks + sumTo waitTicks waitPlaces
   -- the plan that begins now passes

@@ -15,6 +15,8 @@ pub mod PlanLaws
 pub mod StackLaws
 pub mod PlanSooner
 pub mod StartPasses
+pub mod ShapeExact
+pub mod MoveRefused
 pub mod ShapeLaws
 pub mod Invariant
 pub mod TickLaws
@@ -36,6 +38,11 @@ pub mod RulesWhole
 pub mod RunMade
 pub mod SlotTests
 pub mod SlotsPass
+pub mod BrokenTests
+pub mod BrokenBefore
+pub mod BrokenSlot
+pub mod FirstBroken
+pub mod CheckGiven
 pub mod CheckWhole
 pub mod CheckLaws
 pub mod CutWindows

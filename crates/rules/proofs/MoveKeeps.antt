@@ -21,7 +21,8 @@ use Rattle.rules.proofs.TightBound.{tightBound}
 use Rattle.rules.proofs.Good.{Good}
 use Rattle.rules.proofs.MoveLaws.{CanStart, Turn, starts, idles, started-clock, move-done, move-turn}
 use Rattle.rules.proofs.StartPasses.{fresh-passes}
-use Rattle.rules.proofs.ShapeLaws.{shape-shaped, fresh-shape}
+use Rattle.rules.proofs.ShapeExact.{shape-shaped}
+use Rattle.rules.proofs.ShapeLaws.{rows-shape, fresh-shape}
 use Rattle.rules.proofs.Invariant.{spent, Invariant}
 use Rattle.rules.proofs.StartKeeps.{start-keeps}
 use Rattle.rules.proofs.ClockBound.{tightBound-fits, clock-in-bound, next-le}
@@ -170,7 +171,8 @@ module _ (L : View) (s : State) (g : Good L) (v : Kept L s) where
   kept-clock = clock-in-bound L s g (v .invariant)
 
   pub kept-shaped : shaped L s ≡ true
-  kept-shaped = shape-shaped L s g (v .invariant .shape) (omega (arith, kept-clock, tightBound-fits L g))
+  kept-shaped =
+      shape-shaped L s (rows-shape L s (v .invariant .shape) (omega (arith, kept-clock, tightBound-fits L g)))
 
   -- with work left the clock is below the bound
   pub kept-early : allFinished L s ≡ false → s .clock < tightBound L

@@ -2,12 +2,12 @@
 use Prim.Native.Nat.{ℕ, zero, suc, _+_, _≤_, _<_}
 use mathlib.Core.Bool.{Bool, true, false}
 use mathlib.Core.List.{List}
-use mathlib.Core.Path.{_≡_, refl, ap, sym}
+use mathlib.Core.Path.{_≡_, refl, ap, sym, _∙_}
 use native.Mathlib.Decide.{ℕ-discrete, decLt}
 use native.Mathlib.Omega.{arith}
 use lib.Dec.{eqb}
 use lib.ListN.{length}
-use borrow.Author.Tests.{eq-eqb}
+use borrow.Author.Tests.{eqb-true, eq-eqb}
 use Rattle.counting.specs.Sums.{sumTo, bit, countTo}
 use Rattle.counting.proofs.ChangeLaws.{sumTo-more, sumTo-more-term}
 use Rattle.load.specs.Load.{shown}
@@ -39,6 +39,13 @@ countTo-ranked p (suc n) j h =
     last true e q l = record { place = n; below = omega arith; has = e; rank = omega arith }
     last false e q l = absurd (omega arith)
 
+-- a slot of a row, before place n, for the step at place j
+pub record LowerSlot (slots : List Slot) (row j n : ℕ) : Type 0 where
+  pub place : ℕ
+  pub earlier : place < n
+  pub its-row : slotAt slots place .row ≡ row
+  pub its-step : slotAt slots place .step ≡ shown j
+
 -- a slot's own row and step
 pub slot-is : (L : View) (x : Slot) → NamesStep L x → IsSlot (rowOf x) (stepOf x) x
 slot-is L x e = record { its-row = omega (arith, e .row-from); its-step = omega (arith, e .step-from) }
@@ -52,22 +59,44 @@ module _ (slots : List Slot) (row : ℕ) where
       let one : bit (eqb (slotAt slots k .row) row) ≡ 1 = ap bit (eq-eqb (slotAt slots k .row) row e) in
       omega (arith, sumTo-more-term (λ y. bit (eqb (slotAt slots y .row) row)) k h l)
 
--- each slot is of its row's next step
+-- each of the first n slots is of its row's next step
+abbrev pub NextTo : List Slot → ℕ → Type 0
+NextTo slots n = (k : ℕ) → k < n → slotAt slots k .step ≡ shown (ofRow slots (slotAt slots k .row) k)
+
+-- each slot is
 abbrev pub EachNext : List Slot → Type 0
-EachNext slots =
-    (k : ℕ) → k < length slots → slotAt slots k .step ≡ shown (ofRow slots (slotAt slots k .row) k)
+EachNext slots = NextTo slots (length slots)
+
+module _ (slots : List Slot) (n : ℕ) (next : NextTo slots n) where
+  -- the steps of a row stand in order among them
+  pub order-to : (k h : ℕ) → k < h → h < n → slotAt slots k .row ≡ slotAt slots h .row
+      → slotAt slots k .step < slotAt slots h .step
+  order-to k h l below same =
+      omega (
+        arith,
+        next k (omega arith),
+        next h below,
+        ofRow-lt slots (slotAt slots k .row) k h l refl,
+        ap (λ row. ofRow slots row h) same,
+      )
+
+  -- and a step that is lower than that of the slot behind them has its slot
+  pub lower-to : (row j : ℕ) → j < ofRow slots row n → LowerSlot slots row j n
+  lower-to row j l =
+      let r = countTo-ranked (λ y. eqb (slotAt slots y .row) row) n j l in
+      let its = eqb-true (slotAt slots (r .place) .row) row (r .has) in
+      record {
+        place = r .place;
+        earlier = r .below;
+        its-row = its;
+        its-step =
+            next (r .place) (r .below) ∙ ap shown (ap (λ y. ofRow slots y (r .place)) its ∙ r .rank);
+      }
 
 module _ (slots : List Slot) (next : EachNext slots) where
   -- the steps of a row stand in order, and once
   pub in-order : (k h : ℕ) → SameRow slots k h → k < h → slotAt slots k .step < slotAt slots h .step
-  in-order k h r l =
-      omega (
-        arith,
-        next k (r .first),
-        next h (r .second),
-        ofRow-lt slots (slotAt slots k .row) k h l refl,
-        ap (λ row. ofRow slots row h) (r .same),
-      )
+  in-order k h r l = order-to slots (length slots) next k h l (r .second) (r .same)
 
   pub later : (k h : ℕ) → SameRow slots k h → slotAt slots k .step < slotAt slots h .step → k < h
   later k h r l =

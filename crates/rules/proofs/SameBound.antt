@@ -3,26 +3,12 @@
 use Prim.Native.Nat.{ℕ}
 use mathlib.Core.Path.{_≡_, ap}
 use lib.ListN.{getD, take}
-use Rattle.load.specs.declared.Row.{Row}
 use Rattle.load.specs.declared.Load.{Load}
-use Rattle.load.specs.Load.{rowAt, noStep}
+use Rattle.load.specs.Load.{noStep}
 use Rattle.load.specs.View.{viewOf}
+use Rattle.rules.specs.SameLoads.{SameLoad}
 use Rattle.rules.specs.Bound.{bound}
 use Rattle.rules.specs.Margins.{rowBound, margin, margins, marginBytes, verdict}
-
--- two rows that differ only in identifier and box number
-pub record SameRow (a b : Row) : Type 0 where
-  pub phase : a .phase ≡ b .phase
-  pub deadline : a .deadline ≡ b .deadline
-  pub steps : a .steps ≡ b .steps
-  pub windows : a .windows ≡ b .windows
-  pub step : a .step ≡ b .step
-  pub window : a .window ≡ b .window
-
--- two loads that differ only in identifiers and box numbers
-pub record SameLoad (a b : Load) : Type 0 where
-  pub rows : a .rows ≡ b .rows
-  pub row : (i : ℕ) → SameRow (rowAt a i) (rowAt b i)
 
 pub viewOf-same : (a b : Load) → SameLoad a b → viewOf a ≡ viewOf b
 unfolding viewOf

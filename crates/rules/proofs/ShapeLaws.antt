@@ -1,20 +1,19 @@
--- The shape of a bench state, as facts, which every start and tick keeps: so no move from fresh on is refused for it.
-use Prim.Native.Nat.{ℕ, suc, _+_, _-_, _≤_, _<_}
-use mathlib.Core.Bool.{Bool, true, false, cond, _&&_}
+-- What every start and tick keeps of a bench state: with it a state has the load's shape, so that no move from fresh on
+-- is refused for it.
+use Prim.Native.Nat.{ℕ, suc, _+_, _≤_, _<_}
+use mathlib.Core.Bool.{Bool, true, false}
 use mathlib.Core.Logic.{_≢_}
 use mathlib.Core.Path.{_≡_, refl, ap, sym, _∙_}
 use native.Mathlib.Decide.{ℕ-discrete}
 use native.Mathlib.Omega.{arith}
-use lib.Dec.{eqb, leb}
-use borrow.Author.Tests.{eqb-true, le-leb, eq-eqb}
-use Rattle.counting.specs.Sums.{allTo, allFrom}
-use Rattle.counting.proofs.TestLaws.{and-both, true-allTo}
-use Rattle.load.specs.Load.{lastMoment, mostRows}
+use Rattle.load.specs.Load.{lastMoment}
 use Rattle.load.specs.View.{View, embedded}
-use Rattle.rules.specs.State.{State, fresh, isOpen, opensAt, endFits, openingFits, rowShaped, rowUnused, shaped}
+use Rattle.rules.specs.State.{State, fresh, isOpen, opensAt}
+use Rattle.rules.specs.Shape.{HasOpen, Unused, Shape}
 use Rattle.rules.specs.Move.{started, ticked, openingAfter}
 use Rattle.rules.proofs.Good.{Good}
 use Rattle.rules.proofs.WindowsOpen.{opensAt-embedded}
+use Rattle.rules.proofs.ShapeExact.{hasOpen-isOpen, isOpen-hasOpen}
 use Rattle.rules.proofs.MoveLaws.{
   started-clock,
   started-finished-same,
@@ -28,13 +27,8 @@ use Rattle.rules.proofs.MoveLaws.{
   openingAfter-none,
 }
 
--- the places of row i hold nothing
-pub record Unused (s : State) (i : ℕ) : Type 0 where
-  pub no-steps : s .finished i ≡ 0
-  pub no-end : s .end i ≡ 0
-  pub no-opening : s .opening i ≡ 0
-
-pub record Shape (L : View) (s : State) : Type 0 where
+-- what a run keeps of its shape, whatever the clock: no row past the last holds anything
+pub record RowsShaped (L : View) (s : State) : Type 0 where
   pub finished-le : (i : ℕ) → i < L .rows → s .finished i ≤ L .steps i
   pub end-le : (i : ℕ) → i < L .rows → s .end i ≤ s .clock
   pub end-zero : (i : ℕ) → i < L .rows → s .finished i ≡ 0 → s .end i ≡ 0
@@ -42,47 +36,29 @@ pub record Shape (L : View) (s : State) : Type 0 where
   pub opening-zero : (i : ℕ) → i < L .rows → embedded L i (s .finished i) ≡ false → s .opening i ≡ 0
   pub unused : (i : ℕ) → L .rows ≤ i → Unused s i
 
--- from the facts to the test
-module _ (L : View) (s : State) (g : Good L) (h : Shape L s) where
-  end-fits : (i : ℕ) → i < L .rows → endFits s i ≡ true
-  end-fits i l = le-leb (s .end i) (cond (eqb (s .finished i) 0) 0 (s .clock)) (go (eqb (s .finished i) 0) refl)
+-- with a clock that goes no further than 1,000,000 it is the shape
+module _ (L : View) (s : State) (h : RowsShaped L s) where
+  closed : (i : ℕ) → i < L .rows → ¬ HasOpen L s i → s .opening i ≡ 0
+  closed i l none = go (isOpen L s i) refl
     where
-      go : (b : Bool) → eqb (s .finished i) 0 ≡ b → s .end i ≤ cond b 0 (s .clock)
-      go true e = omega (arith, h .end-zero i l (eqb-true (s .finished i) 0 e))
-      go false e = h .end-le i l
+      go : (b : Bool) → isOpen L s i ≡ b → s .opening i ≡ 0
+      go true e = absurd (none (isOpen-hasOpen L s i e))
+      go false e = h .opening-zero i l (sym (opensAt-embedded L i (s .finished i)) ∙ e)
 
-  opening-fits : (i : ℕ) → i < L .rows → openingFits L s i ≡ true
-  opening-fits i l = le-leb (s .opening i) (cond (isOpen L s i) (s .end i) 0) (go (isOpen L s i) refl)
-    where
-      is : embedded L i (s .finished i) ≡ isOpen L s i
-      is = sym (opensAt-embedded L i (s .finished i))
+  pub rows-shape : s .clock ≤ lastMoment → Shape L s
+  rows-shape c =
+      record {
+        clock-most = c;
+        finished-most = h .finished-le;
+        end-most = h .end-le;
+        end-none = h .end-zero;
+        opening-most = λ i l o.
+            h .opening-le i l (sym (opensAt-embedded L i (s .finished i)) ∙ hasOpen-isOpen L s i o);
+        opening-none = closed;
+        unused = λ i l most. h .unused i l;
+      }
 
-      go : (b : Bool) → isOpen L s i ≡ b → s .opening i ≤ cond b (s .end i) 0
-      go true e = h .opening-le i l (is ∙ e)
-      go false e = omega (arith, h .opening-zero i l (is ∙ e))
-
-  row-unused : (i : ℕ) → L .rows ≤ i → rowUnused s i ≡ true
-  row-unused i l =
-      let u = h .unused i l in
-      rw (
-        eq-eqb (s .finished i) 0 (u .no-steps),
-        eq-eqb (s .end i) 0 (u .no-end),
-        eq-eqb (s .opening i) 0 (u .no-opening),
-      )
-
-  pub shape-shaped : s .clock ≤ lastMoment → shaped L s ≡ true
-  unfolding shaped
-  shape-shaped c =
-      and-both (leb (s .clock) lastMoment && allTo (rowShaped L s) (L .rows)) (allFrom (rowUnused s) (L .rows) mostRows)
-      (and-both (leb (s .clock) lastMoment) (allTo (rowShaped L s) (L .rows)) (le-leb (s .clock) lastMoment c)
-      (true-allTo (rowShaped L s) (L .rows)
-      (λ i l. and-both (leb (s .finished i) (L .steps i) && endFits s i) (openingFits L s i)
-      (and-both (leb (s .finished i) (L .steps i)) (endFits s i)
-      (le-leb (s .finished i) (L .steps i) (h .finished-le i l)) (end-fits i l))
-      (opening-fits i l))))
-      (true-allTo (λ k. rowUnused s (L .rows + k)) (mostRows - L .rows) (λ k l. row-unused (L .rows + k) (omega arith)))
-
-pub fresh-shape : (L : View) → Good L → Shape L fresh
+pub fresh-shape : (L : View) → Good L → RowsShaped L fresh
 unfolding fresh
 fresh-shape L g =
     record {
@@ -94,7 +70,7 @@ fresh-shape L g =
       unused = λ i l. record { no-steps = refl; no-end = refl; no-opening = refl };
     }
 
-pub ticked-keeps-shape : (L : View) (s : State) → Shape L s → Shape L (ticked s)
+pub ticked-keeps-shape : (L : View) (s : State) → RowsShaped L s → RowsShaped L (ticked s)
 unfolding ticked
 ticked-keeps-shape L s h =
     record {
@@ -108,7 +84,7 @@ ticked-keeps-shape L s h =
           record { no-steps = u .no-steps; no-end = u .no-end; no-opening = u .no-opening });
     }
 
-module _ (L : View) (s : State) (k long : ℕ) (g : Good L) (h : Shape L s) (there : k < L .rows)
+module _ (L : View) (s : State) (k long : ℕ) (g : Good L) (h : RowsShaped L s) (there : k < L .rows)
     (more : s .finished k < L .steps k) where
   own-opening-le : embedded L k (suc (s .finished k)) ≡ true → openingAfter L s k ≤ s .clock + long
   own-opening-le e = go (isOpen L s k) refl
@@ -126,7 +102,7 @@ module _ (L : View) (s : State) (k long : ℕ) (g : Good L) (h : Shape L s) (the
           )
       go false o = omega (arith, openingAfter-new L s k o opened)
 
-  pub started-keeps-shape : Shape L (started L s k long)
+  pub started-keeps-shape : RowsShaped L (started L s k long)
   started-keeps-shape =
       record {
         finished-le = λ i l. elim (ℕ-discrete i k) [

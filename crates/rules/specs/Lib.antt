@@ -1,9 +1,11 @@
 -- Document 01's rules over the view of a load: bound and margins, one move of the bench, the run,
 -- and schedules.
+pub mod SameLoads
 pub mod Cut
 pub mod Bound
 pub mod Margins
 pub mod State
+pub mod Shape
 pub mod Ready
 pub mod Plan
 pub mod Lamps
@@ -13,4 +15,5 @@ pub mod Slots
 pub mod Run
 pub mod Check
 pub mod ScheduleRules
+pub mod FirstBroken
 pub mod Demand3

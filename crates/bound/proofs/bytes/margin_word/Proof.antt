@@ -1,8 +1,10 @@
 -- `margin_word` raises the margin by 2 ^ 32, so that it is not negative, and takes the lowest 32 bits.
+use Prim.Native.Nat.{_^_, _<_}
 use mathlib.Core.Path.{_≡_}
 use native.Mathlib.Omega.{arith}
 use borrow.Author.Needs.{needs}
 use lib.IntN.{ℤ, pos}
+use lib.Signed.{mag}
 use mir.Facts.{toZ-ofZ, sfits-widen}
 use mir.Syntax.{w32, w64}
 use mir.Val.{toZ, ofZ, SFits}
@@ -17,10 +19,13 @@ module _ (z : ℤ) (h : SFits w32 z) where
   wide : toZ w64 (ofZ w64 z) ≡ z
   wide = toZ-ofZ (sfits-widen tt h)
 
-  raised-fits : SFits w64 (pos (raised z))
-  raised-fits = record { sfits = omega (arith, raised-lt z (h .sfits)) }
+  narrower : mag z < 2 ^ 32
+  narrower = omega (arith, h .sfits)
 
-  kept : toZ w64 (ofZ w64 (pos (raised z))) ≡ pos (raised z)
+  raised-fits : SFits w64 (pos (raised 32 z))
+  raised-fits = record { sfits = omega (arith, raised-lt 32 z narrower) }
+
+  kept : toZ w64 (ofZ w64 (pos (raised 32 z))) ≡ pos (raised 32 z)
   kept = toZ-ofZ raised-fits
 
 cast-raised : tie.Need-cast-raised
@@ -29,19 +34,19 @@ cast-raised c = let h = c .fits .margin in rw (narrow _ h) (sfits-widen tt h)
 add-raised : tie.Need-add-raised
 add-raised c =
     let h = c .fits .margin in
-    rw (narrow _ h, wide _ h, raised-is (c .args .margin) (h .sfits)) (raised-fits _ h)
+    rw (narrow _ h, wide _ h, raised-is 32 (c .args .margin) (narrower _ h)) (raised-fits _ h)
 
 cast-result : tie.Need-cast-result
 cast-result c =
     let h = c .fits .margin in
-    rw (narrow _ h, wide _ h, raised-is (c .args .margin) (h .sfits), kept _ h)
-    (tt, omega (arith, raised-lt (c .args .margin) (h .sfits)))
+    rw (narrow _ h, wide _ h, raised-is 32 (c .args .margin) (narrower _ h), kept _ h)
+    (tt, omega (arith, raised-lt 32 (c .args .margin) (narrower _ h)))
 
 returns : tie.Need-returns
 returns c =
     let h = c .fits .margin in
-    rw (narrow _ h, wide _ h, raised-is (c .args .margin) (h .sfits), kept _ h)
-    (raised-word (c .args .margin) (h .sfits))
+    rw (narrow _ h, wide _ h, raised-is 32 (c .args .margin) (narrower _ h), kept _ h)
+    (raised-word 32 (c .args .margin) (narrower _ h))
 
 pub margin-word-spec : {M : Type 1} → statement M
 margin-word-spec =

@@ -17,7 +17,7 @@ use Rattle.lines.proofs.text.put_signed.Tie as tie
 few : (c : tie.After-signed-of) → length (signedDecimal (c .before .before .before .args .number)) ≤ 11
 few c =
     let z = c .before .before .before .args .number in
-    signedDecimal-length-le 9 z (omega (arith, natAbs-lt z (c .before .before .before .fits .number .sfits)))
+    signedDecimal-length-le 9 z (omega (arith, natAbs-lt 31 z (c .before .before .before .fits .number .sfits)))
 
 made : (c : tie.After-signed-of)
     → c .signed-of .result ≡ wordHolding (signedDecimal (c .before .before .before .args .number))

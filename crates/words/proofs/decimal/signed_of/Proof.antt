@@ -26,7 +26,7 @@ is-negative c =
     let z = c .before .before .before .args .number in
     let h = c .before .before .before .fits .number in
     let digits = decimal (natAbs z) in
-    let few = decimal-length-le 9 (natAbs z) (omega (arith, natAbs-lt z (h .sfits))) in
+    let few = decimal-length-le 9 (natAbs z) (omega (arith, natAbs-lt 31 z (h .sfits))) in
     let negative : ltZ z (pos 0) ≡ true = rw (toZ-ofZ h) at (c .before .if1 .taken) in
     c .with-digits .ensures
     ∙ ap (λ n. record { length = 1 + length (decimal n); bytes = sets (replicate wordPlaces 0) 0 (45 ∷ decimal n) })

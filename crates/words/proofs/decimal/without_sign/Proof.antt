@@ -17,7 +17,7 @@ module _ (z : ℤ) (h : SFits w32 z) where
   wide = ap (λ x. toZ w64 (ofZ w64 x)) (toZ-ofZ h) ∙ toZ-ofZ (sfits-widen tt h)
 
   without-fits : SFits w64 (pos (natAbs z))
-  without-fits = record { sfits = omega (arith, natAbs-lt z (h .sfits)) }
+  without-fits = record { sfits = omega (arith, natAbs-lt 31 z (h .sfits)) }
 
   kept : toZ w64 (ofZ w64 (pos (natAbs z))) ≡ pos (natAbs z)
   kept = toZ-ofZ without-fits
@@ -40,13 +40,13 @@ cast-result : tie.Need-cast-result
 cast-result c =
     let h = c .before .fits .number in
     rw (wide _ h, negative-without _ (is-negative c), kept _ h)
-    (tt, omega (arith, natAbs-lt (c .before .args .number) (h .sfits)))
+    (tt, omega (arith, natAbs-lt 31 (c .before .args .number) (h .sfits)))
 
 cast-result-2 : tie.Need-cast-result-2
 cast-result-2 c =
     let h = c .before .fits .number in
     rw (wide _ h, other-without (c .before .args .number) (is-other c))
-    (tt, omega (arith, natAbs-lt (c .before .args .number) (h .sfits)))
+    (tt, omega (arith, natAbs-lt 31 (c .before .args .number) (h .sfits)))
 
 returns : tie.Need-returns
 returns c =

@@ -1,0 +1,54 @@
+-- What C and the program get: a file that is read as a load is not refused, and the load that its bytes spell is that
+-- load, so that the answer given is that load's.
+use Prim.Native.Nat.{ℕ}
+use mathlib.Core.List.{List, [], _∷_}
+use mathlib.Core.Path.{_≡_, ap, sym, _∙_, subst}
+use Rattle.refusals.specs.declared.Refusal.{Refusal}
+use Rattle.refusals.specs.declared.Checked.the-variants.{Good, Refused}
+use Rattle.refusals.specs.Refusals.{numberOf, numberGiven}
+use Rattle.refusals.specs.FirstMet.{firstFault}
+use Rattle.refusals.specs.Given.{roomFor}
+use Rattle.load.specs.declared.Load.{Load}
+use Rattle.load.specs.View.{View, viewOf}
+use Rattle.load_file.specs.declared.Reading.{Reading}
+use Rattle.load_file.specs.Places.{loadIn}
+use Rattle.load_file.specs.Reading.{fileFault, loadBeside, readLoad}
+use Rattle.load_file.specs.Calls.{ReadLoad}
+use Rattle.rules.specs.Margins.{marginBytes}
+use Rattle.reading_bench.specs.Calls.{Numbered, ForC, boundBytes, verdictBytes, scheduleFile}
+use Rattle.demands.specs.HostAnswers.{Answers, HostAnswers}
+
+module _ (bs : List ℕ) (read : Reading) (m : ReadLoad bs read) where
+  fault-is : fileFault bs ≡ read .answer
+  unfolding readLoad
+  fault-is = sym (ap (λ (r : Reading). r .answer) m)
+
+  load-is : read .answer ≡ Good → loadIn bs ≡ read .load
+  unfolding readLoad
+  load-is e = sym (ap (λ (r : Reading). r .load) m ∙ ap (λ f. loadBeside f (loadIn bs)) (fault-is ∙ e))
+
+answers : (answer : View → List ℕ) → Answers (ForC answer) answer
+answers answer bs read m e out n after c =
+    subst (λ (l : Load). Numbered Good (answer (viewOf l)) out n after) (load-is bs read m e)
+    (subst (λ f. Numbered f (answer (viewOf (loadIn bs))) out n after) (fault-is bs read m ∙ e) c)
+
+refused-number : (answer : View → List ℕ) (bs : List ℕ) (read : Reading) (refusal : Refusal) → ReadLoad bs read
+    → read .answer ≡ Refused refusal → (out : List ℕ) (n : ℕ) (after : List ℕ) → ForC answer bs out n after
+    → n ≡ numberOf refusal
+refused-number answer bs read refusal m e out n after c =
+    c .number-is
+    ∙ ap numberGiven
+    (c .given .finding-is
+    ∙ ap (λ f. firstFault (f ∷ roomFor (answer (viewOf (loadIn bs))) out ∷ [])) (fault-is bs read m ∙ e))
+
+pub host-answers : HostAnswers
+host-answers =
+    record {
+      bounds = answers boundBytes;
+      verdicts = answers verdictBytes;
+      margins = answers marginBytes;
+      schedules = answers scheduleFile;
+      refused = refused-number;
+      lines = λ bs out r after p. p .given;
+      lines-counted = λ bs out r after p. p .length-is;
+    }

@@ -1,0 +1,58 @@
+-- "It lends a load file's bytes and gets the bound, margins, verdict or schedule file": what C and
+-- the program get, over any results of the calls and of the reading. To be read after PublicCalls.
+-- Rests on D47 and D49.
+use Prim.Native.Nat.{ℕ}
+use mathlib.Core.List.{List, [], _∷_}
+use mathlib.Core.Path.{_≡_}
+use Rattle.counting.specs.Sums.{bit}
+use Rattle.words.specs.LittleEndian.{littleEndian}
+use Rattle.refusals.specs.declared.Refusal.{Refusal}
+use Rattle.refusals.specs.declared.Checked.the-variants.{Good, Refused}
+use Rattle.refusals.specs.Refusals.{numberOf}
+use Rattle.refusals.specs.Given.{Given}
+use Rattle.load.specs.View.{View, viewOf}
+use Rattle.load_file.specs.declared.Reading.{Reading}
+use Rattle.load_file.specs.Calls.{ReadLoad}
+use Rattle.rules.specs.Bound.{bound}
+use Rattle.rules.specs.Margins.{marginBytes, verdict}
+use Rattle.rules.specs.Run.{schedule}
+use Rattle.schedule.specs.ScheduleFile.{scheduleBytes}
+use Rattle.reading_bench.specs.Calls.{
+  Numbered,
+  ForC,
+  BenchBound,
+  BenchVerdict,
+  BenchMargins,
+  BenchSchedule,
+}
+use Rattle.lines.specs.declared.Printed.{Printed}
+use Rattle.lines.specs.Lines.{printed}
+use Rattle.lines.specs.Calls.{PrintLines, lengthGiven}
+
+-- a call for C: of a file that is read as a load, it refuses nothing but the room, and gives that
+-- load's answer
+abbrev pub Answers : (List ℕ → List ℕ → ℕ → List ℕ → Type 0) → (View → List ℕ) → Type 0
+Answers call answer =
+    (bs : List ℕ) (read : Reading) → ReadLoad bs read → read .answer ≡ Good
+    → (out : List ℕ) (n : ℕ) (after : List ℕ) → call bs out n after
+    → Numbered Good (answer (viewOf (read .load))) out n after
+
+-- what the host gets
+pub record HostAnswers : Type 0 where
+  -- the bound, 4 bytes
+  pub bounds : Answers BenchBound (λ L. littleEndian 4 (bound L))
+  -- the verdict, 1 byte: 1 for yes and 0 for no
+  pub verdicts : Answers BenchVerdict (λ L. bit (verdict L) ∷ [])
+  -- all margins, 96 bytes
+  pub margins : Answers BenchMargins marginBytes
+  -- the schedule file of the starts from fresh to Done
+  pub schedules : Answers BenchSchedule (λ L. scheduleBytes (schedule L))
+  -- a file that is refused has the number that reading gives
+  pub refused : (answer : View → List ℕ) (bs : List ℕ) (read : Reading) (refusal : Refusal)
+      → ReadLoad bs read → read .answer ≡ Refused refusal
+      → (out : List ℕ) (n : ℕ) (after : List ℕ) → ForC answer bs out n after → n ≡ numberOf refusal
+  -- the program's lines stand in the output, and so many bytes of them are counted
+  pub lines : (bs out : List ℕ) (r : Printed) (after : List ℕ) → PrintLines bs out r after
+      → Given Good (printed bs) out (r .answer) after
+  pub lines-counted : (bs out : List ℕ) (r : Printed) (after : List ℕ) → PrintLines bs out r after
+      → r .length ≡ lengthGiven (r .answer) (printed bs)
