@@ -3,3 +3,4 @@ pub mod Refusals
 pub mod FirstMet
 pub mod Given
 pub mod Calls
+pub mod WorkedCases
