@@ -1,4 +1,4 @@
--- Laws of a load: its check, what an accepted one has, what its windows give, and sameness of results.
+-- Laws of a load: its check, what an accepted one has, what its windows give, sameness of results, and worked cases.
 pub mod ChainLaws
 pub mod TakenLaws
 pub mod AcceptableLaws
@@ -7,3 +7,4 @@ pub mod WindowChain
 pub mod WindowLaws
 pub mod WindowLeft
 pub mod CallLaws
+pub mod WorkedHold

@@ -5,3 +5,7 @@ pub mod Faults
 pub mod Check
 pub mod Acceptable
 pub mod Calls
+pub mod Notation
+pub mod WorkedRanges
+pub mod WorkedWindows
+pub mod WorkedCases

@@ -1,0 +1,71 @@
+-- The worked cases hold: each is decided by computing.
+use Prim.Native.Nat.{ℕ}
+use mathlib.Core.Path.{refl}
+use Rattle.counting.specs.Sums.{sumTo, allTo, anyTo}
+use Rattle.counting.specs.Lists.{joinTo, joinIn, anyIn}
+use Rattle.refusals.specs.FirstMet.{firstFaultTo}
+use Rattle.load.specs.Load.{zeroRow}
+use Rattle.load.specs.View.{viewOf, chain, embedded}
+use Rattle.load.specs.Faults.{rowTests, takenTests, stepTests, windowTests}
+use Rattle.load.specs.Check.{rowFault, checkLoad}
+use Rattle.load.specs.WorkedRanges.{numbersOf, five, WorkedRanges}
+use Rattle.load.specs.WorkedWindows.{WorkedWindows}
+use Rattle.load.specs.WorkedCases.{notZero, WorkedCases}
+
+-- to open this is to open all that its line names
+unfoldable computing : ℕ
+unfolding sumTo allTo anyTo joinTo joinIn anyIn firstFaultTo zeroRow viewOf chain embedded rowTests takenTests
+    stepTests windowTests rowFault checkLoad numbersOf
+computing = 0
+
+pub ranges-hold : WorkedRanges
+unfolding computing five
+ranges-hold =
+    record {
+      identifiers = refl;
+      boxes = refl;
+      phases = refl;
+      deadlines = refl;
+      steps = refl;
+      windows = refl;
+      rows = refl;
+      costs = refl;
+      waits = refl;
+      last-waits = refl;
+      limits = refl;
+      past-places = refl;
+    }
+
+pub windows-hold : WorkedWindows
+unfolding computing
+windows-hold =
+    record {
+      zeros = refl;
+      last-steps = refl;
+      in-order = refl;
+      limit-and-chain = refl;
+      first-window = refl;
+      chains = refl;
+      chains-in = refl;
+      steps-embedded = refl;
+      steps-free = refl;
+      waits-embedded = refl;
+      waits-free = refl;
+      two-windows = refl;
+      steps-in-all = refl;
+    }
+
+pub cases-hold : WorkedCases
+unfolding computing notZero
+cases-hold =
+    record {
+      shared = refl;
+      fields-then-shared = refl;
+      first-row = refl;
+      first-row-windows = refl;
+      row-order = refl;
+      load-order = refl;
+      unused-steps = refl;
+      unused-windows = refl;
+      unused-rows = refl;
+    }
