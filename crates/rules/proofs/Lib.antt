@@ -52,3 +52,5 @@ pub mod CutMoves
 pub mod CutRun
 pub mod Demand3
 pub mod BoundReached
+pub mod WorkedComputing
+pub mod WorkedBound
