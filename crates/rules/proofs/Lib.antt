@@ -54,3 +54,5 @@ pub mod Demand3
 pub mod BoundReached
 pub mod WorkedComputing
 pub mod WorkedBound
+pub mod WorkedMoves
+pub mod WorkedChecks

@@ -34,9 +34,9 @@ use Rattle.rules.specs.Check.{slotTests, checkSlots, checkSchedule}
 -- to open this is to open all that its line names
 unfoldable pub computing : ℕ
 unfolding sumTo maxTo allTo anyTo joinTo joinIn anyIn keepIn firstIn sumIn changed firstTo found inserted sorted
-    littleEndian firstFaultTo zeroRow viewOf chain embedded rowTests takenTests stepTests windowTests rowFault checkLoad
-    kept cut allCosts largestPhase allEmbeddedWaits largestW boundBy partners pairCosts smallestCosts bound rowBound
-    margin verdict margins bytesOfMargins opensAt openWindow shaped isAllowed isCandidate candidates due stack windowLeft
-    inTime lampWord lampCount started ticked passes chosen allFinished shapedMove move slotFor slotTests checkSlots
-    checkSchedule
+    littleEndian firstFaultTo zeroRow viewOf chain embedded rowTests takenTests stepTests windowTests rowFault
+    checkLoad kept cut allCosts largestPhase allEmbeddedWaits largestW boundBy partners pairCosts smallestCosts bound
+    rowBound margin verdict margins bytesOfMargins opensAt openWindow shaped isAllowed isCandidate candidates due
+    stack windowLeft inTime lampWord lampCount started ticked passes chosen allFinished shapedMove move slotFor
+    slotTests checkSlots checkSchedule
 computing = 0

@@ -20,3 +20,8 @@ pub mod Demand3
 pub mod WorkedLoads
 pub mod WorkedBound
 pub mod WorkedStates
+pub mod WorkedReady
+pub mod WorkedPlan
+pub mod WorkedShape
+pub mod WorkedMoves
+pub mod WorkedChecks

@@ -65,6 +65,10 @@ seen load s = seenOf (load .rows) (move (viewOf load) s)
 abbrev pub answer : Load → State → Outcome
 answer load s = move (viewOf load) s .outcome
 
+-- what the moves from some states answer
+abbrev pub answers : Load → List State → List Outcome
+answers load states = map (answer load) states
+
 -- the number that the move from each of some states gives, 0 where it refuses nothing
 abbrev pub numbers : Load → List State → List ℕ
 numbers load states = map (λ s. toldBy (answer load s) .number) states
