@@ -14,9 +14,11 @@ worked-bound =
       second-free = refl;
       wait-free = refl;
       largest = refl;
+      each-place = refl;
       phase-and-embedded = refl;
       followers-kept = refl;
       last-wait = refl;
+      wait-dropped = refl;
     }
 
 pub worked-margins : WorkedMargins

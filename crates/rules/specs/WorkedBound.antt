@@ -10,6 +10,7 @@ use Rattle.counting.specs.Lists.{listTo}
 use Rattle.load.specs.declared.Row.{Row}
 use Rattle.load.specs.Load.{mostRows}
 use Rattle.load.specs.View.{View, viewOf}
+use Rattle.rules.specs.Cut.{cut}
 use Rattle.rules.specs.Bound.{bound}
 use Rattle.rules.specs.Margins.{rowBound, margins, marginBytes, verdict}
 use Rattle.rules.specs.WorkedLoads.{_w_, window, padded, rowBy, row, loadOf}
@@ -36,11 +37,12 @@ pub record WorkedBound : Type 0 where
       ∷ row 3 (2 w 0 ∷ 6 w 0 ∷ []) []
       ∷ row 4 (6 w 0 ∷ 2 w 0 ∷ []) []
       ∷ []) ≡ 25
-  -- "whose steps j and j+1 both exist": row 2 gives nothing, so that r is 1 and the sum 4
+  -- "whose steps j and j+1 both exist": row 2 gives nothing, so that r is 1 and the sum 4; and none
+  -- of its steps is added, where the load is cut at 2
   pub both-exist :
-      boundOf
+      rowBoundsOf
       (row 1 (1 w 9 ∷ 1 w 0 ∷ []) [] ∷ row 2 (2 w 0 ∷ []) [] ∷ row 3 (4 w 0 ∷ 5 w 0 ∷ []) [] ∷ [])
-      ≡ 18
+      ≡ 18 ∷ 7 ∷ 18 ∷ []
   -- "the other rows": the row itself gives nothing
   pub other-rows : boundOf (row 1 (3 w 9 ∷ 1 w 0 ∷ []) [] ∷ []) ≡ 13
   -- "and are free": row 2 gives nothing at place 2, whose first step is embedded
@@ -59,6 +61,10 @@ pub record WorkedBound : Type 0 where
   pub largest :
       boundOf
       (row 1 (1 w 8 ∷ 1 w 2 ∷ 3 w 0 ∷ []) [] ∷ row 2 (1 w 7 ∷ 3 w 0 ∷ 4 w 0 ∷ []) [] ∷ []) ≡ 20
+  -- "for each place j": the seventh too
+  pub each-place :
+      boundOf
+      (row 1 (1 w 1 ∷ 1 w 1 ∷ 1 w 1 ∷ 1 w 1 ∷ 1 w 1 ∷ 1 w 1 ∷ 1 w 1 ∷ 1 w 0 ∷ []) [] ∷ []) ≡ 15
   -- "the largest phase", 7 and not 4 + 7 + 5; "all embedded waits", 3
   pub phase-and-embedded :
       boundOf
@@ -73,9 +79,11 @@ pub record WorkedBound : Type 0 where
       (row 1 (1 w 0 ∷ []) []
       ∷ row 2 (1 w 4 ∷ 1 w 0 ∷ 1 w 6 ∷ 2 w 1 ∷ 3 w 0 ∷ []) (window 1 3 7 ∷ window 4 5 6 ∷ [])
       ∷ []) ≡ 8 ∷ 20 ∷ []
-  -- "The wait after a row's last kept step is dropped": 6 counts for row 2 alone
+  -- "The wait after a row's last kept step is dropped": 6 is there for row 2 alone
   pub last-wait : rowBoundsOf (row 1 (1 w 0 ∷ []) [] ∷ row 2 (1 w 6 ∷ 2 w 0 ∷ []) [] ∷ [])
       ≡ 2 ∷ 10 ∷ []
+  pub wait-dropped :
+      cut (rowsSeen (row 1 (1 w 0 ∷ []) [] ∷ row 2 (1 w 6 ∷ 2 w 0 ∷ []) [] ∷ [])) 1 .wait 1 0 ≡ 0
 
 -- two rows with row bounds 2 and 10, and deadlines
 abbrev pub due : ℕ → ℕ → View
