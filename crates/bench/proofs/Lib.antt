@@ -17,3 +17,4 @@ pub mod QuietLaws
 pub mod RunningLaws
 pub mod StartedRun
 pub mod CallLaws
+pub mod WorkedBench

@@ -9,3 +9,4 @@ pub mod Stacks
 pub mod Choices
 pub mod Moves
 pub mod Running
+pub mod WorkedBench

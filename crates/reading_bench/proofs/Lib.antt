@@ -2,3 +2,4 @@
 pub mod ForCLaws
 pub mod ScheduleLaws
 pub mod CallLaws
+pub mod WorkedCalls
