@@ -14,8 +14,9 @@ use Rattle.refusals.specs.declared.Refusal.the-variants.{
 }
 use Rattle.load.specs.declared.Load.{Load}
 use Rattle.load.specs.Load.{mostRows}
+use Rattle.load.specs.Notation.{_w_, window, padded, row, loadOf}
 use Rattle.rules.specs.declared.Outcome.the-variants.{Start, Refused}
-use Rattle.rules.specs.WorkedLoads.{_w_, window, padded, row, loadOf, slot}
+use Rattle.rules.specs.WorkedStates.{slot}
 use Rattle.bench.specs.declared.Bench.{Bench}
 use Rattle.bench.specs.declared.Moved.{Moved}
 use Rattle.bench.specs.Held.{nextMove}

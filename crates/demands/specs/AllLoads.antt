@@ -6,13 +6,13 @@ use Rattle.refusals.specs.declared.Checked.the-variants.{Good, Refused}
 use Rattle.refusals.specs.Refusals.{numberOf}
 use Rattle.load.specs.Check.{checkLoad}
 use Rattle.load.specs.View.{viewOf}
+use Rattle.load.specs.Notation.{padded}
 use Rattle.load_file.specs.Writing.{loadBytes}
 use Rattle.load_file.specs.Reading.{readLoad}
 use Rattle.load_file.specs.RoundTrip.{accepted}
 use Rattle.rules.specs.Margins.{marginBytes}
 use Rattle.schedule.specs.ScheduleFile.{scheduleBytes}
 use Rattle.lines.specs.Lines.{printed}
-use Rattle.demands.specs.Notation.{padded, bytesOf, linesOf}
 use Rattle.demands.specs.LoadsToTry.{
   answersFor,
   glimpseAfter,
@@ -25,6 +25,7 @@ use Rattle.demands.specs.LoadB.{loadB, loadB9}
 use Rattle.demands.specs.LoadPhase.{loadPhase8, loadPhase7}
 use Rattle.demands.specs.SmallLoads.{loadUnequal, loadWaits0, loadEmpty}
 use Rattle.demands.specs.FaultyLoads.{loadB7, loadTwins, loadTwinsInOneBox}
+use Rattle.demands.specs.Notation.{bytesOf, linesOf}
 
 -- what is claimed of an acceptable load
 pub record SoundHolds (e : Sound) : Type 0 where

@@ -6,7 +6,7 @@ use mathlib.Core.List.{List, [], _∷_}
 use Rattle.refusals.specs.declared.Refusal.the-variants.{IdentifierTaken, LimitBelowChain}
 use Rattle.load.specs.declared.Load.{Load}
 use Rattle.load.specs.Load.{lastMoment}
-use Rattle.demands.specs.Notation.{_w_, rowWith, loadOf}
+use Rattle.load.specs.Notation.{_w_, rowWith, loadOf}
 use Rattle.demands.specs.LoadsToTry.{Faulty}
 use Rattle.demands.specs.LoadB.{fileB, inMemoryB}
 

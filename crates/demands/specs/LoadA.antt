@@ -3,8 +3,9 @@ use mathlib.Core.Bool.{false}
 use mathlib.Core.List.{[], _∷_}
 use lib.IntN.{pos, negsuc}
 use Rattle.refusals.specs.declared.Checked.the-variants.{Good}
+use Rattle.load.specs.Notation.{_w_, rowBy, loadOf}
 use Rattle.rules.specs.declared.Outcome.the-variants.{Start, Idle, Done}
-use Rattle.demands.specs.Notation.{_w_, rowBy, loadOf, slot}
+use Rattle.rules.specs.WorkedStates.{slot}
 use Rattle.demands.specs.LoadsToTry.{Sound}
 
 -- load A; margins 1, 0 and -1
@@ -25,9 +26,9 @@ loadA =
           ∷ [];
       load =
           loadOf
-          (rowBy 1 20 (2 w 10 ∷ 3 w 0 ∷ [])
-          ∷ rowBy 2 19 (1 w 4 ∷ 2 w 0 ∷ [])
-          ∷ rowBy 3 18 (2 w 3 ∷ 1 w 0 ∷ [])
+          (rowBy 1 0 20 (2 w 10 ∷ 3 w 0 ∷ []) []
+          ∷ rowBy 2 0 19 (1 w 4 ∷ 2 w 0 ∷ []) []
+          ∷ rowBy 3 0 18 (2 w 3 ∷ 1 w 0 ∷ []) []
           ∷ []);
       answers = record {
         bound-of = 19;

@@ -7,8 +7,9 @@ use mathlib.Core.List.{List, [], _∷_}
 use lib.IntN.{pos}
 use Rattle.refusals.specs.declared.Checked.the-variants.{Good}
 use Rattle.load.specs.declared.Load.{Load}
+use Rattle.load.specs.Notation.{_w_, window, row, loadOf}
 use Rattle.rules.specs.declared.Outcome.the-variants.{Start, Done}
-use Rattle.demands.specs.Notation.{_w_, window, row, loadOf, slot}
+use Rattle.rules.specs.WorkedStates.{slot}
 use Rattle.demands.specs.LoadsToTry.{Sound}
 
 -- B with a limit for row 1's window, which its record spells

@@ -7,8 +7,9 @@ use lib.IntN.{pos, negsuc}
 use Rattle.refusals.specs.declared.Refusal.the-variants.{RowLate}
 use Rattle.refusals.specs.declared.Checked.the-variants.{Good, Refused}
 use Rattle.load.specs.declared.Load.{Load}
+use Rattle.load.specs.Notation.{_w_, rowWith, loadOf}
 use Rattle.rules.specs.declared.Outcome.the-variants.{Start, Idle}
-use Rattle.demands.specs.Notation.{_w_, rowWith, loadOf, slot}
+use Rattle.rules.specs.WorkedStates.{slot}
 use Rattle.demands.specs.LoadsToTry.{Sound}
 
 -- one row, phase 5, cost 3, and a deadline

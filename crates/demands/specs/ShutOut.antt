@@ -22,7 +22,6 @@ use Rattle.bench.specs.declared.Moved.{Moved}
 use Rattle.bench.specs.declared.Ran.{Ran}
 use Rattle.bench.specs.Held.{nextMove}
 use Rattle.bench.specs.Calls.{Fresh, NextMove, Runs}
-use Rattle.demands.specs.Notation.{bytesOf}
 use Rattle.demands.specs.LoadA.{loadA}
 use Rattle.demands.specs.Demand3.{Run}
 use Rattle.demands.specs.IdleBuilds.{
@@ -35,6 +34,7 @@ use Rattle.demands.specs.IdleBuilds.{
   inventsEnds,
   inventsMargins,
 }
+use Rattle.demands.specs.Notation.{bytesOf}
 
 -- the idle builds are shut out
 pub record ShutOut : Type 0 where

@@ -4,8 +4,9 @@ use mathlib.Core.Bool.{true}
 use mathlib.Core.List.{[], _∷_}
 use lib.IntN.{pos}
 use Rattle.refusals.specs.declared.Checked.the-variants.{Good}
+use Rattle.load.specs.Notation.{_w_, row, loadOf}
 use Rattle.rules.specs.declared.Outcome.the-variants.{Done}
-use Rattle.demands.specs.Notation.{_w_, row, loadOf, slot}
+use Rattle.rules.specs.WorkedStates.{slot}
 use Rattle.demands.specs.LoadsToTry.{Sound}
 
 -- 1 / 2 w6 2: row bounds 3 and 11; starts 0, 1, 9; end 11

@@ -2,10 +2,10 @@
 -- and B has windows. To be read after Demand3 and AllLoads.
 use Rattle.load_file.specs.declared.Reading.{Reading}
 use Rattle.load_file.specs.Calls.{ReadLoad}
-use Rattle.demands.specs.Notation.{bytesOf}
 use Rattle.demands.specs.LoadA.{loadA}
 use Rattle.demands.specs.LoadB.{loadB}
 use Rattle.demands.specs.Demand3.{Run, RunKept}
+use Rattle.demands.specs.Notation.{bytesOf}
 
 -- demand 3 of loads A and B
 pub record WorkedRuns : Type 0 where

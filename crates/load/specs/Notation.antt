@@ -42,9 +42,13 @@ abbrev pub rowWith : ℕ → ℕ → ℕ → ℕ → List Step → List Window �
 rowWith identifier box phase deadline steps windows =
     rowPlaced identifier box phase deadline (length steps) (length windows) steps windows
 
+-- row n, counted from 1, with its phase and its deadline
+abbrev pub rowBy : ℕ → ℕ → ℕ → List Step → List Window → Row
+rowBy n phase deadline steps windows = rowWith (100 + n) (200 + n) phase deadline steps windows
+
 -- row n, counted from 1
 abbrev pub row : ℕ → List Step → List Window → Row
-row n steps windows = rowWith (100 + n) (200 + n) 0 1000000 steps windows
+row n steps windows = rowBy n 0 1000000 steps windows
 
 -- a load that uses so many rows, and what its places hold
 abbrev pub loadPlaced : ℕ → List Row → Load

@@ -17,7 +17,6 @@ pub mod Check
 pub mod ScheduleRules
 pub mod FirstBroken
 pub mod Demand3
-pub mod WorkedLoads
 pub mod WorkedBound
 pub mod WorkedStates
 pub mod WorkedReady

@@ -1,6 +1,6 @@
 -- "The bound and the margins": worked cases. The answers come from document 01 by hand and from the
--- second program; on each the nearest wrong rule gives another. To be read after Margins and
--- WorkedLoads.
+-- second program; on each the nearest wrong rule gives another. To be read after Margins; loads are
+-- written as in load's Notation.
 use Prim.Native.Nat.{ℕ}
 use mathlib.Core.Bool.{true, false}
 use mathlib.Core.List.{List, [], _∷_, map}
@@ -10,10 +10,10 @@ use Rattle.counting.specs.Lists.{listTo}
 use Rattle.load.specs.declared.Row.{Row}
 use Rattle.load.specs.Load.{mostRows}
 use Rattle.load.specs.View.{View, viewOf}
+use Rattle.load.specs.Notation.{_w_, window, padded, rowBy, row, loadOf}
 use Rattle.rules.specs.Cut.{cut}
 use Rattle.rules.specs.Bound.{bound}
 use Rattle.rules.specs.Margins.{rowBound, margins, marginBytes, verdict}
-use Rattle.rules.specs.WorkedLoads.{_w_, window, padded, rowBy, row, loadOf}
 
 -- the view of a load of some rows
 abbrev pub rowsSeen : List Row → View

@@ -6,9 +6,10 @@ use Prim.Native.Nat.{ℕ}
 use mathlib.Core.List.{List, [], _∷_}
 use mathlib.Core.Path.{_≡_}
 use Rattle.load.specs.declared.Load.{Load}
+use Rattle.load.specs.Notation.{_w_, window, rowBy, row, loadOf}
 use Rattle.rules.specs.declared.Slot.{Slot}
-use Rattle.rules.specs.WorkedLoads.{_w_, window, rowBy, row, loadOf, slot}
 use Rattle.rules.specs.WorkedStates.{findings}
+use Rattle.rules.specs.WorkedStates.{slot}
 
 -- row 1, phase 1, deadline 12: 2 w3 2 in a window of 8; row 2, deadline 5: 2
 abbrev pub pair : Load

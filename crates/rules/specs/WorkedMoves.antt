@@ -8,10 +8,11 @@ use mathlib.Core.Path.{_≡_}
 use Rattle.refusals.specs.declared.Refusal.the-variants.{StateShape, ClockFull}
 use Rattle.load.specs.declared.Load.{Load}
 use Rattle.load.specs.Load.{lastMoment}
+use Rattle.load.specs.Notation.{_w_, window, rowBy, row, loadOf}
 use Rattle.rules.specs.declared.Outcome.{Outcome}
 use Rattle.rules.specs.declared.Outcome.the-variants.{Start, Idle, Done, Refused}
-use Rattle.rules.specs.WorkedLoads.{_w_, window, rowBy, row, loadOf, slot}
 use Rattle.rules.specs.WorkedStates.{Progress, has, state, Seen, seen}
+use Rattle.rules.specs.WorkedStates.{slot}
 
 -- what is seen of a move: its answer, the lamp word and its count, the clock and the load's rows
 abbrev pub sees : Outcome → ℕ → ℕ → ℕ → List Progress → Seen

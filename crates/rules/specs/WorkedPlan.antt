@@ -6,10 +6,11 @@ use mathlib.Core.List.{[], _∷_}
 use mathlib.Core.Path.{_≡_}
 use Rattle.load.specs.declared.Row.{Row}
 use Rattle.load.specs.declared.Load.{Load}
+use Rattle.load.specs.Notation.{_w_, window, row, loadOf}
 use Rattle.rules.specs.declared.Outcome.the-variants.{Start, Idle}
 use Rattle.rules.specs.State.{State}
-use Rattle.rules.specs.WorkedLoads.{_w_, window, row, loadOf, slot}
 use Rattle.rules.specs.WorkedStates.{has, state, answer}
+use Rattle.rules.specs.WorkedStates.{slot}
 
 -- row n with two steps in a window: its costs, the wait between them and the limit
 abbrev pub held : ℕ → ℕ → ℕ → ℕ → ℕ → Row

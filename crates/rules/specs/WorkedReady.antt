@@ -4,9 +4,10 @@
 use mathlib.Core.List.{[], _∷_}
 use mathlib.Core.Path.{_≡_}
 use Rattle.load.specs.Load.{lastMoment}
+use Rattle.load.specs.Notation.{_w_, window, rowBy, row, loadOf}
 use Rattle.rules.specs.declared.Outcome.the-variants.{Start, Idle}
-use Rattle.rules.specs.WorkedLoads.{_w_, window, rowBy, row, loadOf, slot}
 use Rattle.rules.specs.WorkedStates.{has, state, answers}
+use Rattle.rules.specs.WorkedStates.{slot}
 
 -- candidates
 pub record WorkedReady : Type 0 where

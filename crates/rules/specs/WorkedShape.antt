@@ -5,7 +5,7 @@ use mathlib.Core.List.{[], _∷_, _++_}
 use mathlib.Core.Path.{_≡_}
 use lib.ListN.{replicate}
 use Rattle.load.specs.declared.Load.{Load}
-use Rattle.rules.specs.WorkedLoads.{_w_, window, row, loadOf}
+use Rattle.load.specs.Notation.{_w_, window, row, loadOf}
 use Rattle.rules.specs.WorkedStates.{has, state, numbers}
 
 -- one row of three steps, the last two of them in a window

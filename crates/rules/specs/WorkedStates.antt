@@ -1,5 +1,6 @@
--- "One move of the bench": the notation of the worked cases for states, and what is seen of a move
--- and of a check. To be read after WorkedLoads, Move, Outcomes and Check.
+-- "One move of the bench": the notation of the worked cases for slots and states, and what is seen
+-- of a move and of a check. To be read after Move, Outcomes and Check; loads are written as in
+-- load's Notation.
 use Prim.Native.Nat.{ℕ}
 use mathlib.Core.List.{List, map}
 use lib.ListN.{getD}
@@ -13,6 +14,10 @@ use Rattle.rules.specs.State.{State}
 use Rattle.rules.specs.Outcomes.{toldBy}
 use Rattle.rules.specs.Move.{Moved, move}
 use Rattle.rules.specs.Check.{checkSchedule}
+
+-- a slot line, as the program prints it: start, row, step
+abbrev pub slot : ℕ → ℕ → ℕ → Slot
+slot start row step = record { row = row; step = step; start = start }
 
 -- what a state says of a row: steps finished, the moment the last of them ended, the opening
 pub record Progress : Type 0 where
