@@ -1,4 +1,4 @@
--- Laws of load files: what stands at a place, lengths, and the two round trips.
+-- Laws of load files: what stands at a place, lengths, the two round trips, and worked cases.
 pub mod RecordLaws
 pub mod FieldLaws
 pub mod PlaceLaws
@@ -13,3 +13,4 @@ pub mod ReadingLaws
 pub mod ReadingRowsLaws
 pub mod WritingLaws
 pub mod CallLaws
+pub mod WorkedHold

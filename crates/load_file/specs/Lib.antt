@@ -6,3 +6,5 @@ pub mod Reading
 pub mod RoundTrip
 pub mod Calls
 pub mod ReadingSteps
+pub mod WorkedFile
+pub mod WorkedCases

@@ -1,0 +1,51 @@
+-- The worked cases hold: each is decided by computing.
+use Prim.Native.Nat.{ℕ}
+use mathlib.Core.Path.{refl}
+use Rattle.counting.specs.Sums.{sumTo, allTo, anyTo}
+use Rattle.counting.specs.Lists.{joinTo, joinIn}
+use Rattle.words.specs.LittleEndian.{littleEndian, numberAt}
+use Rattle.refusals.specs.FirstMet.{firstFaultTo}
+use Rattle.load.specs.Load.{zeroRow, zeroLoad}
+use Rattle.load.specs.View.{viewOf, chain}
+use Rattle.load.specs.Faults.{rowTests, takenTests, stepTests, windowTests}
+use Rattle.load.specs.Check.{rowFault, checkLoad}
+use Rattle.load_file.specs.Places.{rowWith, rowFrom, rowPlace, loadIn}
+use Rattle.load_file.specs.Reading.{
+  headerTests,
+  stepFaultIn,
+  windowFaultIn,
+  ownFault,
+  rowFaultAt,
+  endTests,
+  fileFault,
+  readLoad,
+}
+use Rattle.load_file.specs.Writing.{rowBytes, loadBytes}
+use Rattle.load_file.specs.WorkedFile.{joined, numbersRead, file, spelled}
+use Rattle.load_file.specs.WorkedCases.{WorkedCases}
+
+-- to open this is to open all that its line names
+unfoldable computing : ℕ
+unfolding sumTo allTo anyTo joinTo joinIn littleEndian numberAt firstFaultTo zeroRow zeroLoad viewOf chain rowTests
+    takenTests stepTests windowTests rowFault checkLoad rowWith rowFrom rowPlace loadIn headerTests stepFaultIn
+    windowFaultIn ownFault rowFaultAt endTests fileFault readLoad rowBytes loadBytes joined numbersRead file spelled
+computing = 0
+
+pub worked-hold : WorkedCases
+unfolding computing
+worked-hold =
+    record {
+      read = refl;
+      written = record { finding-is = refl; output-is = refl };
+      room-more = record { finding-is = refl; output-is = refl };
+      room-less = record { finding-is = refl; output-is = refl };
+      refused = refl;
+      ends-early = refl;
+      row-too-many = refl;
+      cut-before-mark = refl;
+      marks = refl;
+      versions = refl;
+      ends = refl;
+      shared = refl;
+      front-to-back = refl;
+    }

@@ -1,0 +1,106 @@
+-- "Numbers given back", 1 to 8, worked: what reading and writing small files gives. The answers are
+-- the document's, taken by hand and from the second program. To be read after WorkedFile. Rests on
+-- D1, D6 to D8, D25 and D29.
+use mathlib.Core.List.{[], _∷_, _++_}
+use mathlib.Core.Path.{_≡_}
+use lib.ListN.{replicate, take, drop}
+use Rattle.refusals.specs.declared.Refusal.the-variants.{EndDiffers, OutputShort}
+use Rattle.refusals.specs.declared.Checked.the-variants.{Good, Refused}
+use Rattle.load.specs.Load.{zeroLoad}
+use Rattle.load_file.specs.Calls.{ReadLoad, WriteLoad}
+use Rattle.load_file.specs.WorkedFile.{
+  joined,
+  numbersRead,
+  header,
+  row,
+  steps,
+  windows,
+  end,
+  file,
+  spelled,
+}
+
+-- files, by their numbers and by the load that is read
+pub record WorkedCases : Type 0 where
+  -- a file of one row is read as its load
+  pub read : ReadLoad (joined file) (record { answer = Good; load = spelled })
+  -- that load is written as its file, into a room of exactly its 46 bytes
+  pub written : WriteLoad spelled (replicate 46 7) Good (joined file)
+  -- into a room of one byte more, which stays
+  pub room-more : WriteLoad spelled (replicate 47 7) Good (joined file ++ 7 ∷ [])
+  -- and into one of a byte less it is not written
+  pub room-less : WriteLoad spelled (replicate 45 7) (Refused OutputShort) (replicate 45 7)
+  -- a refused file gives the load of zeros
+  pub refused :
+      ReadLoad (joined file ++ 0 ∷ []) (record { answer = Refused EndDiffers; load = zeroLoad })
+  -- the file ends: no byte, a header cut, a header alone, a row cut, a row with no step, a step
+  -- cut, a window cut, no end record, an end record cut
+  pub ends-early :
+      numbersRead
+      ([]
+      ∷ (take 3 (header 0) ∷ [])
+      ∷ (header 0 ∷ [])
+      ∷ (header 1 ∷ take 19 row ∷ [])
+      ∷ (header 1 ∷ row ∷ [])
+      ∷ (header 1 ∷ row ∷ take 11 steps ∷ [])
+      ∷ (header 1 ∷ row ∷ steps ∷ take 5 windows ∷ [])
+      ∷ (header 1 ∷ row ∷ steps ∷ windows ∷ [])
+      ∷ (header 0 ∷ take 3 (end 0) ∷ [])
+      ∷ [])
+      ≡ replicate 9 1
+  -- a row count one too large: 20 bytes are due where 4 are left
+  pub row-too-many : numbersRead ((header 2 ∷ drop 1 file) ∷ []) ≡ 1 ∷ []
+  -- a record that is cut is 1 whatever its mark is
+  pub cut-before-mark :
+      numbersRead (((0 ∷ 0 ∷ 0 ∷ []) ∷ []) ∷ (header 0 ∷ (0 ∷ 0 ∷ 0 ∷ []) ∷ []) ∷ [])
+      ≡ 1 ∷ 1 ∷ []
+  -- a mark differs, of each record and in each byte; and a window that stands before the steps
+  pub marks :
+      numbersRead
+      (((0x44 ∷ drop 1 (header 0)) ∷ end 0 ∷ [])
+      ∷ ((0x4C ∷ 0x4C ∷ drop 2 (header 0)) ∷ end 0 ∷ [])
+      ∷ (header 1 ∷ (0x53 ∷ drop 1 row) ∷ drop 2 file)
+      ∷ (header 1 ∷ (0x52 ∷ 0x52 ∷ drop 2 row) ∷ drop 2 file)
+      ∷ (header 1 ∷ row ∷ (0x53 ∷ 0x57 ∷ drop 2 steps) ∷ drop 3 file)
+      ∷ (header 1 ∷ row ∷ steps ∷ (0x57 ∷ 0x57 ∷ drop 2 windows) ∷ drop 4 file)
+      ∷ (header 1 ∷ row ∷ windows ∷ steps ∷ drop 4 file)
+      ∷ (header 0 ∷ (0x45 ∷ 0x45 ∷ 0 ∷ 0 ∷ []) ∷ (0 ∷ []) ∷ [])
+      ∷ [])
+      ≡ replicate 8 2
+  -- versions 0 and 2; version 2 with 25 rows is 2, and 25 rows alone are 3
+  pub versions :
+      numbersRead
+      (((0x4C ∷ 0x44 ∷ 0 ∷ 0 ∷ []) ∷ end 0 ∷ [])
+      ∷ ((0x4C ∷ 0x44 ∷ 2 ∷ 0 ∷ []) ∷ end 0 ∷ [])
+      ∷ ((0x4C ∷ 0x44 ∷ 2 ∷ 25 ∷ []) ∷ end 0 ∷ [])
+      ∷ ((0x4C ∷ 0x44 ∷ 1 ∷ 25 ∷ []) ∷ end 0 ∷ [])
+      ∷ [])
+      ≡ 2 ∷ 2 ∷ 2 ∷ 3 ∷ []
+  -- the end record: no rows and no steps, a step too many, its upper byte, too few; one byte that
+  -- follows is 8, and so it is with a wrong count
+  pub ends :
+      numbersRead
+      ((header 0 ∷ end 0 ∷ [])
+      ∷ (header 0 ∷ end 1 ∷ [])
+      ∷ (header 0 ∷ (0x45 ∷ 0x4E ∷ 0 ∷ 1 ∷ []) ∷ [])
+      ∷ (header 1 ∷ row ∷ steps ∷ windows ∷ end 1 ∷ [])
+      ∷ (header 0 ∷ end 0 ∷ (0 ∷ []) ∷ [])
+      ∷ (header 0 ∷ end 1 ∷ (0 ∷ []) ∷ [])
+      ∷ [])
+      ≡ 0 ∷ 8 ∷ 8 ∷ 8 ∷ 8 ∷ 8 ∷ []
+  -- a second row with the first's identifier is 4, before the 1 of its steps; with its box alone 5
+  pub shared :
+      numbersRead
+      ((header 2 ∷ row ∷ steps ∷ windows ∷ row ∷ [])
+      ∷ (header 2 ∷ row ∷ steps ∷ windows ∷ (take 2 row ++ 9 ∷ drop 3 row) ∷ [])
+      ∷ [])
+      ≡ 4 ∷ 5 ∷ []
+  -- the first faulty record decides: a cost of 0 before a window's mark, a window's 6 and 7 before
+  -- a wrong end count
+  pub front-to-back :
+      numbersRead
+      ((header 1 ∷ row ∷ (0x53 ∷ 0x54 ∷ 0 ∷ 0 ∷ drop 4 steps) ∷ (0 ∷ drop 1 windows) ∷ end 2 ∷ [])
+      ∷ (header 1 ∷ row ∷ steps ∷ (0x57 ∷ 0x4E ∷ 2 ∷ 2 ∷ drop 4 windows) ∷ end 9 ∷ [])
+      ∷ (header 1 ∷ row ∷ steps ∷ (take 4 windows ++ 0x0E ∷ 0x0C ∷ []) ∷ end 9 ∷ [])
+      ∷ [])
+      ≡ 3 ∷ 6 ∷ 7 ∷ []
