@@ -8,4 +8,5 @@ pub mod CheckFold
 pub mod GatheredLaws
 pub mod CheckExactly
 pub mod SlotCalls
+pub mod LentFront
 pub mod CallLaws

@@ -46,10 +46,5 @@ pub fn check_array(load: Load, slots: [Slot; PLACES], n: usize) -> Checked
     ensures { λ r. ⌜ CheckArray load slots n r ⌝ }
 {
     let count = at_most_places(n);
-    let mut seen = begin(load, count);
-    for k in 0..count {
-        let slot = slots[k];
-        seen = check_slot(load, seen, slot.row, slot.step, slot.start);
-    }
-    finish(seen)
+    check_schedule(load, &slots[..count])
 }

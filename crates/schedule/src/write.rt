@@ -117,10 +117,5 @@ pub fn write_array(slots: [Slot; PLACES], n: usize, out: &mut [u8]) -> Checked
     ensures { λ r. ⌜ WriteArray slots n (now (out .entry)) r (now (out .exit)) ⌝ }
 {
     let count = at_most_places(n);
-    let mut file = head(count);
-    for k in 0..count {
-        let slot = slots[k];
-        file = with_slot(file, slot.row, slot.step, slot.start);
-    }
-    flush(count, file, out)
+    write_schedule(&slots[..count], out)
 }
