@@ -7,6 +7,7 @@ pub mod FoldLaws
 pub mod CheckFold
 pub mod GatheredLaws
 pub mod CheckExactly
+pub mod SlotFields
 pub mod SlotCalls
 pub mod LentFront
 pub mod CallLaws

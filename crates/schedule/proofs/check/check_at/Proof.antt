@@ -44,6 +44,7 @@ use denote.Triple.Walked.{ends-at, walked, walk-meets}
 use denote.Triple.Clauses.{ensured, lasts}
 use denote.Exit.{yes}
 use Rattle.rules.specs.Slots.{noSlot}
+use Rattle.schedule.proofs.SlotFields.{field-of}
 use Rattle.schedule.specs.SeenFold.{seenOf}
 use Rattle.rules.specs.declared.Slot.{Slot}
 use Rattle.load.specs.declared.Load.{Load}
@@ -181,11 +182,11 @@ module _ {M : Type 1} (𝓤 : URA M) (H : Heap 𝓤) (A : Atoms 𝓤) (W : Given
         use0 W (raw (Callee 𝓤 H A mem run .pre to)) (goes (LL.owed T.the-type T′.the-laws slot _ g .0 .1) (LL.owed
         T.the-type T′.the-laws slot _ g .1 .0 .1) (LL.owed T.the-type T′.the-laws slot _ g .1 .1 .0 .1)) $
         calls-at ! fm (Callee 𝓤 H A mem run) known to (and-then ! (load ! (from ! (stop !)) (look ! 17 refl)) (and-then
-        ! (load ! (from ! (stop !)) (look ! 11 refl)) (and-then ! (load ! (from ! (fld ! refl (stop !))) (look-in ! 9
-        (sub ! 0 refl (whole !)))) (and-then ! (load ! (from ! (fld ! refl (stop !))) (look-in ! 9 (sub ! 1 refl (whole
-        !)))) (and-then ! (load ! (from ! (fld ! refl (stop !))) (look-in ! 9 (sub ! 2 refl (whole !)))) (no-more
-        !)))))) (λ u. use1 W (later (some (λ (r : Seen). (‵ ftrue ⊛ ‵ (S.the-row .own r (u ∷ []))) ⊛ raw (ensured 𝓤 H A
-        callee.ended (callee.clauses 𝓤 H A mem run) tt args tt r)))) (id⊢ 𝓤 _) $ await ! tt $ pick ! (λ r. split ! $
+        ! (load ! (from ! (stop !)) (look ! 11 refl)) (and-then ! (field-of ! 9 refl refl refl) (and-then ! (field-of !
+        9 refl refl refl) (and-then ! (field-of ! 9 refl refl refl) (no-more !)))))) (λ u. use1 W (later (some (λ (r :
+        Seen). (‵ ftrue ⊛ ‵ (S.the-row .own r (u ∷ []))) ⊛ raw (ensured 𝓤 H A callee.ended (callee.clauses 𝓤 H A mem
+        run) tt args tt r)))) (id⊢ 𝓤 _) $ await ! tt $
+        pick ! (λ r. split ! $
         move ! (1 ∷ []) $ use1 W (raw (fact 𝓤 (r ≡ found))) (said r) $ heard ! (r ≡ found) (λ e. split ! $ drop ! $
         peeks ! S.the-row (Is S.the-row) (shows 𝓤 H A S.the-row) r (u ∷ []) (λ is. land ! (from ! (stop !)) (init ! 19
         refl (LL.lawful S.the-type S′.the-laws 𝓤 H A W .typed r _ is .0)) $ returns ! (look ! 19 refl) $ forget ! 3 refl

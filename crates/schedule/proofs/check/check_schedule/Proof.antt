@@ -278,7 +278,7 @@ module _ {M : Type 1} (𝓤 : URA M) (H : Heap 𝓤) (A : Atoms 𝓤) (W : Given
       W .typed r _ is .0)) $ assigns ! (of-opd ! (lit ! tt)) (from ! (stop !)) (init ! 3 refl
       (tt, record { fits = lit< tt })) $ keep ! (1 ∷ 2 ∷ 3 ∷ 4 ∷ 5 ∷ 6 ∷ 7 ∷ 8 ∷ 9 ∷ 10 ∷ 11 ∷ 12 ∷ 13 ∷ 14 ∷ 15 ∷ 16
       ∷ 0 ∷ []) $ loop-on 𝓣 fm known-one known-finish l₀ l₁ l₂ l₃ l₄ l₅ l₆
-      (0, r, u, ap (foldSlots ld ys) e))))))))))))
+      (_, r, u, ap (foldSlots ld ys) e))))))))))))
 
 module _ {M : Type 1} (𝓤 : URA M) (H : Heap 𝓤) (A : Atoms 𝓤) (W : Given 𝓤 H A) (mem : Memory → SProp 𝓤) (run :
     Routine → Fun 𝓤) where

@@ -278,7 +278,7 @@ module _ {M : Type 1} (𝓤 : URA M) (H : Heap 𝓤) (A : Atoms 𝓤) (W : Given
       refl (LL.lawful S.the-type S′.the-laws 𝓤 H A W .typed r _ is .0)) $ assigns ! (of-opd ! (lit ! tt)) (from !
       (stop !)) (init ! 7 refl (tt, record { fits = lit< tt })) $ keep ! (1 ∷ 2 ∷ 3 ∷ 4 ∷ 5 ∷ 6 ∷ 7 ∷ 8 ∷ 9 ∷ 10 ∷ 11
       ∷ 12 ∷ 13 ∷ 14 ∷ 15 ∷ 16 ∷ 17 ∷ 18 ∷ 19 ∷ 20 ∷ 0 ∷ 21 ∷ 22 ∷ []) $ loop-on 𝓣 fm known-one known-flush l₀ l₁ l₂
-      l₃ l₄ l₅ l₆ l₇ l₈ (0, r, u, ap (gathered ys) e))))))))))))))
+      l₃ l₄ l₅ l₆ l₇ l₈ (_, r, u, ap (gathered ys) e))))))))))))))
 
 module _ {M : Type 1} (𝓤 : URA M) (H : Heap 𝓤) (A : Atoms 𝓤) (W : Given 𝓤 H A) (mem : Memory → SProp 𝓤) (run :
     Routine → Fun 𝓤) where
