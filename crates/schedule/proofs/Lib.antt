@@ -11,3 +11,4 @@ pub mod SlotFields
 pub mod SlotCalls
 pub mod LentFront
 pub mod CallLaws
+pub mod WorkedHold

@@ -1,4 +1,5 @@
--- A field of a struct that lies in a local, read by the walks by hand: whichever field the code names, its value.
+-- A field of a struct that lies in a local, read by the walks by hand: whichever field the code names, it holds what
+-- the last argument says.
 use mathlib.Core.List.{List, [], _∷_}
 use mathlib.Core.Option.{some}
 use mathlib.Core.Path.{_≡_, sym, subst}
@@ -18,14 +19,15 @@ use types.Run.{Walks, Opd, stop, fld, from, load}
 module _ {M : Type 1} {𝓤 : URA M} {H : Heap 𝓤} {A : Atoms 𝓤} {K : Type 0} {W : Given 𝓤 H A} {Γ : List (Item 𝓤)}
     {E : Env 𝓤 H} where
   pub field-of : K → (n : ℕ) {i k : ℕ} {q : Share} {ν : Sym} {τs : Tys} {b o : ℕ} {vs : Vals} {τ : Ty} {d : ℕ}
+      {v : Val}
       → spotOf 𝓤 H E i ≡ (tyStruct ν τs, b, o)
       → nth 𝓤 H A n Γ ≡ ‵ (fat q (tyStruct ν τs) b o (vstruct vs))
-      → fieldAt zero τs k ≡ some (τ, d)
-      → Opd K W Γ E (copy (place i (field k ∷ []))) (getV vs k)
-  field-of t n {k = k} {q = q} {ν = ν} {τs = τs} {b = b} {o = o} {vs = vs} {τ = τ} {d = d} at-i at-n e =
-      load t
+      → fieldAt zero τs k ≡ some (τ, d) → getV vs k ≡ v → Opd K W Γ E (copy (place i (field k ∷ []))) v
+  field-of t n {i = i} {k = k} {q = q} {ν = ν} {τs = τs} {b = b} {o = o} {vs = vs} {τ = τ} {d = d} at-i at-n e holds =
+      subst (Opd K W Γ E (copy (place i (field k ∷ [])))) holds
+      (load t
       (from t
       (subst (λ (sp : Spot 𝓤 H). Walks K W Γ E sp (field k ∷ []) (τ, b, o + d)) (sym at-i) (fld t e (stop t))))
       (look-in t n (sub t k e
       (subst (λ (j : Item 𝓤). Part K W j q (tyStruct ν τs) b o (vstruct vs) (λ (u : Val). ‵ (fat q (tyStruct ν τs) b o
-      u))) (sym at-n) (whole t))))
+      u))) (sym at-n) (whole t)))))

@@ -1,6 +1,6 @@
 // The check of a schedule against its load. The slots are lent as a slice of slot records, the form
-// that the scope asks for by name; a function over it is proved by a walk by hand, so there are
-// two: one that takes a slot apart, and one loop.
+// that the scope asks for by name; a function over it is proved by a walk by hand, so each of the
+// three does little: one takes a slot apart, one is the loop, and one lends the front of an array.
 use crate::PLACES;
 use crate::Seen;
 use crate::before::at_most_places;

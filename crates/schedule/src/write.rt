@@ -1,6 +1,7 @@
 // The writing of a schedule file. The slots are lent as a slice of slot records, their numbers
-// unchecked; a function over it is proved by a walk by hand, so there are two: one that takes a
-// slot apart, and one loop. The file is gathered by value, and written where it fits.
+// unchecked; a function over it is proved by a walk by hand, so each of the three does little: one
+// takes a slot apart, one is the loop, and one lends the front of an array. The file is gathered by
+// value, and written where it fits.
 use crate::Gathered;
 use crate::PLACES;
 use crate::before::at_most_places;

@@ -24,7 +24,7 @@ use ghost.Atoms.{Atoms, sem}
 use contract.Monad.{Fun, fact}
 use contract.Running.{givenOf, tables, tablesOf}
 use types.Kit.{Given, Item, Sq, ‵, raw, runs, anyQ, atRet, _⊛_, ⋆, some, later, _$_, _∵_, !, qed, by, move, keep}
-use types.Kit.{drop}
+use types.Kit.{drop, rewrite}
 use types.Kit.{use0, use1, use3, split, join, pick, fsplit, fjoin, suffices, frame, await, done}
 use types.Part.{whole, sub, look-in}
 use types.Run.{look, store, init, forget, stop, fld, from, load, lit, of-opd, bin, and-then, no-more, assigns}
@@ -277,8 +277,10 @@ module _ {M : Type 1} (𝓤 : URA M) (H : Heap 𝓤) (A : Atoms 𝓤) (W : Given
       A S.the-row) r (u ∷ []) (λ is. land ! (from ! (stop !)) (init ! 5 refl (LL.lawful S.the-type S′.the-laws 𝓤 H A
       W .typed r _ is .0)) $ assigns ! (of-opd ! (lit ! tt)) (from ! (stop !)) (init ! 3 refl
       (tt, record { fits = lit< tt })) $ keep ! (1 ∷ 2 ∷ 3 ∷ 4 ∷ 5 ∷ 6 ∷ 7 ∷ 8 ∷ 9 ∷ 10 ∷ 11 ∷ 12 ∷ 13 ∷ 14 ∷ 15 ∷ 16
-      ∷ 0 ∷ []) $ loop-on 𝓣 fm known-one known-finish l₀ l₁ l₂ l₃ l₄ l₅ l₆
-      (_, r, u, ap (foldSlots ld ys) e))))))))))))
+      ∷ 0 ∷ []) $
+      -- the loop begins at the first slot
+      rewrite ! 2 (λ (k : ℕ). ‵ (fat fullShare word l₅ 0 (vint w64 k))) (refl {a = 0}) refl $
+      loop-on 𝓣 fm known-one known-finish l₀ l₁ l₂ l₃ l₄ l₅ l₆ (0, r, u, ap (foldSlots ld ys) e))))))))))))
 
 module _ {M : Type 1} (𝓤 : URA M) (H : Heap 𝓤) (A : Atoms 𝓤) (W : Given 𝓤 H A) (mem : Memory → SProp 𝓤) (run :
     Routine → Fun 𝓤) where

@@ -1,0 +1,24 @@
+-- The worked cases of the schedule file hold: each is decided by computing.
+use mathlib.Core.Path.{refl}
+use Rattle.counting.specs.Lists.{joinIn}
+use Rattle.words.specs.LittleEndian.{littleEndian}
+use Rattle.schedule.specs.ScheduleFile.{scheduleBytes}
+use Rattle.schedule.specs.WorkedCases.{WorkedCases}
+
+pub worked-hold : WorkedCases
+unfolding joinIn littleEndian scheduleBytes
+worked-hold =
+    record {
+      none = refl;
+      one = refl;
+      two = refl;
+      most = refl;
+      one-more = refl;
+      most-fit = record { finding-is = refl; output-is = refl };
+      three-first = record { finding-is = refl; output-is = refl };
+      three-leaves = record { finding-is = refl; output-is = refl };
+      short = record { finding-is = refl; output-is = refl };
+      exact = record { finding-is = refl; output-is = refl };
+      longer = record { finding-is = refl; output-is = refl };
+      front = refl;
+    }
