@@ -182,10 +182,11 @@ module _ {M : Type 1} (𝓤 : URA M) (H : Heap 𝓤) (A : Atoms 𝓤) (W : Given
         use0 W (raw (Callee 𝓤 H A mem run .pre to)) (goes (LL.owed T.the-type T′.the-laws slot _ g .0 .1) (LL.owed
         T.the-type T′.the-laws slot _ g .1 .0 .1) (LL.owed T.the-type T′.the-laws slot _ g .1 .1 .0 .1)) $
         calls-at ! fm (Callee 𝓤 H A mem run) known to (and-then ! (load ! (from ! (stop !)) (look ! 17 refl)) (and-then
-        ! (load ! (from ! (stop !)) (look ! 11 refl)) (and-then ! (field-of ! 9 refl refl refl refl) (and-then !
-        (field-of ! 9 refl refl refl refl) (and-then ! (field-of ! 9 refl refl refl refl) (no-more !)))))) (λ u. use1 W
-        (later (some (λ (r : Seen). (‵ ftrue ⊛ ‵ (S.the-row .own r (u ∷ []))) ⊛ raw (ensured 𝓤 H A callee.ended
-        (callee.clauses 𝓤 H A mem run) tt args tt r)))) (id⊢ 𝓤 _) $ await ! tt $
+        ! (load ! (from ! (stop !)) (look ! 11 refl)) (and-then ! (field-of ! 9 refl refl refl refl (omega arith))
+        (and-then ! (field-of ! 9 refl refl refl refl (omega arith)) (and-then ! (field-of ! 9 refl refl refl refl
+        (omega arith)) (no-more !)))))) (λ u. use1 W (later (some (λ (r : Seen). (‵ ftrue ⊛ ‵ (S.the-row .own r (u ∷
+        []))) ⊛ raw (ensured 𝓤 H A callee.ended (callee.clauses 𝓤 H A mem run) tt args tt r)))) (id⊢ 𝓤 _) $ await ! tt
+        $
         pick ! (λ r. split ! $
         move ! (1 ∷ []) $ use1 W (raw (fact 𝓤 (r ≡ found))) (said r) $ heard ! (r ≡ found) (λ e. split ! $ drop ! $
         peeks ! S.the-row (Is S.the-row) (shows 𝓤 H A S.the-row) r (u ∷ []) (λ is. land ! (from ! (stop !)) (init ! 19

@@ -24,7 +24,7 @@ use ghost.Atoms.{Atoms, sem}
 use contract.Monad.{Fun, fact}
 use contract.Running.{givenOf, tables, tablesOf}
 use types.Kit.{Given, Item, Sq, ‵, raw, runs, anyQ, atRet, _⊛_, ⋆, some, later, _$_, _∵_, !, qed, by, move, keep}
-use types.Kit.{drop, rewrite}
+use types.Kit.{drop}
 use types.Kit.{use0, use1, use3, split, join, pick, fsplit, fjoin, suffices, frame, await, done}
 use types.Part.{whole, sub, look-in}
 use types.Run.{look, store, init, forget, stop, fld, from, load, lit, of-opd, bin, and-then, no-more, assigns}
@@ -181,6 +181,10 @@ module _ {M : Type 1} (𝓤 : URA M) (H : Heap 𝓤) (A : Atoms 𝓤) (W : Given
       []) $ fjoin ! $ owned ! D.the-row (Is D.the-row) (LL.makes D.the-type D′.the-plain 𝓤 H A) ld _ isD $ fjoin ! $
       frame ! $ done !
 
+  -- the loop begins at the first slot
+  begins : (i : ℕ) (r : Seen) → i ≡ 0 → r ≡ begun ld n → foldSlots ld (dropped i ys) r ≡ total
+  begins i r l e = ap (λ (k : ℕ). foldSlots ld (dropped k ys) r) l ∙ ap (foldSlots ld ys) e
+
   -- gives the whole's result
   abbrev Here : Type 0
   Here = (i : ℕ) × (acc : Seen) × (u : Val) × (foldSlots ld (dropped i ys) acc ≡ total)
@@ -253,8 +257,9 @@ module _ {M : Type 1} (𝓤 : URA M) (H : Heap 𝓤) (A : Atoms 𝓤) (W : Given
           (λ (seen : Seen). seen .found) (sym (foldSlots-end ld ys (h .0) (h .1) (nltb→le (h .0) n over)) ∙ h .3) ∙
           fold-checks ld ys)))))))
 
-      loop-on : (h : Here) → Sq W (At h) (runs C Λ En body.t-4 (atRet En Post))
-      loop-on h = first ! $ blocks ! $ loops ! 𝓣 Nearer Nearer-wf At turns h
+      loop-on : {i : ℕ} (r : Seen) (u : Val) (l : i ≡ 0) (e : r ≡ begun ld n)
+          → Sq W (At (i, r, u, begins i r l e)) (runs C Λ En body.t-4 (atRet En Post))
+      loop-on r u l e = first ! $ blocks ! $ loops ! 𝓣 Nearer Nearer-wf At turns (_, r, u, begins _ r l e)
 
   walk : (𝓣 : Tables 𝓤 H) (fm : FmC 𝓤 H (W .laws) (𝓣 .C)) → Triple 𝓤 (𝓣 .C #schedule·begin) (Begin 𝓤 H A mem run) →
       Triple 𝓤 (𝓣 .C #schedule·check-at) (One 𝓤 H A mem run) → Triple 𝓤 (𝓣 .C #schedule·finish) (Finish 𝓤 H A mem
@@ -277,10 +282,7 @@ module _ {M : Type 1} (𝓤 : URA M) (H : Heap 𝓤) (A : Atoms 𝓤) (W : Given
       A S.the-row) r (u ∷ []) (λ is. land ! (from ! (stop !)) (init ! 5 refl (LL.lawful S.the-type S′.the-laws 𝓤 H A
       W .typed r _ is .0)) $ assigns ! (of-opd ! (lit ! tt)) (from ! (stop !)) (init ! 3 refl
       (tt, record { fits = lit< tt })) $ keep ! (1 ∷ 2 ∷ 3 ∷ 4 ∷ 5 ∷ 6 ∷ 7 ∷ 8 ∷ 9 ∷ 10 ∷ 11 ∷ 12 ∷ 13 ∷ 14 ∷ 15 ∷ 16
-      ∷ 0 ∷ []) $
-      -- the loop begins at the first slot
-      rewrite ! 2 (λ (k : ℕ). ‵ (fat fullShare word l₅ 0 (vint w64 k))) (refl {a = 0}) refl $
-      loop-on 𝓣 fm known-one known-finish l₀ l₁ l₂ l₃ l₄ l₅ l₆ (0, r, u, ap (foldSlots ld ys) e))))))))))))
+      ∷ 0 ∷ []) $ loop-on 𝓣 fm known-one known-finish l₀ l₁ l₂ l₃ l₄ l₅ l₆ r u (omega arith) e)))))))))))
 
 module _ {M : Type 1} (𝓤 : URA M) (H : Heap 𝓤) (A : Atoms 𝓤) (W : Given 𝓤 H A) (mem : Memory → SProp 𝓤) (run :
     Routine → Fun 𝓤) where

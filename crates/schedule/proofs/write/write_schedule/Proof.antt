@@ -25,7 +25,7 @@ use ghost.Atoms.{Atoms, sem}
 use contract.Monad.{Fun, fact}
 use contract.Running.{givenOf, tables, tablesOf}
 use types.Kit.{Given, Item, Sq, ‵, raw, runs, anyQ, atRet, _⊛_, ⋆, some, later, _$_, _∵_, !, qed, by, move, keep}
-use types.Kit.{drop, rewrite}
+use types.Kit.{drop}
 use types.Kit.{use0, use1, use3, split, split3, join, pick, fsplit, fjoin, feqL, suffices, frame, await, done}
 use types.Part.{whole, sub, look-in, agg}
 use types.Run.{look, store, init, forget, stop, hop, fld, from, load, lit, of-opd, addr, bin, and-then, no-more}
@@ -164,6 +164,10 @@ module _ {M : Type 1} (𝓤 : URA M) (H : Heap 𝓤) (A : Atoms 𝓤) (W : Given
       ! (4 ∷ 1 ∷ []) $ join ! $ frame ! $ nothing ! $ move ! (2 ∷ 0 ∷ []) $ fjoin ! $ move ! (2 ∷ 0 ∷ []) $ fjoin ! $
       frame ! $ done !
 
+  -- the loop begins at the first slot
+  begins : (i : ℕ) (r : Gathered) → i ≡ 0 → r ≡ headed n → gathered (dropped i ys) r ≡ total
+  begins i r l e = ap (λ (k : ℕ). gathered (dropped k ys) r) l ∙ ap (gathered ys) e
+
   -- gives the whole's result
   abbrev Here : Type 0
   Here = (i : ℕ) × (acc : Gathered) × (u : Val) × (gathered (dropped i ys) acc ≡ total)
@@ -252,8 +256,9 @@ module _ {M : Type 1} (𝓤 : URA M) (H : Heap 𝓤) (A : Atoms 𝓤) (W : Given
           Gathered). Says a r (ws .1 .1 .0)) (sym (gathered-end ys (h .0) (h .1) (nltb→le (h .0) n over)) ∙ h .3) e))
           l))))))))
 
-      loop-on : (h : Here) → Sq W (At h) (runs C Λ En body.t-4 (atRet En Post))
-      loop-on h = first ! $ blocks ! $ loops ! 𝓣 Nearer Nearer-wf At turns h
+      loop-on : {i : ℕ} (r : Gathered) (u : Val) (l : i ≡ 0) (e : r ≡ headed n)
+          → Sq W (At (i, r, u, begins i r l e)) (runs C Λ En body.t-4 (atRet En Post))
+      loop-on r u l e = first ! $ blocks ! $ loops ! 𝓣 Nearer Nearer-wf At turns (_, r, u, begins _ r l e)
 
   walk : (𝓣 : Tables 𝓤 H) (fm : FmC 𝓤 H (W .laws) (𝓣 .C)) → Triple 𝓤 (𝓣 .C #schedule·head) (Begin 𝓤 H A mem run) →
       Triple 𝓤 (𝓣 .C #schedule·write-at) (One 𝓤 H A mem run) → Triple 𝓤 (𝓣 .C #schedule·flush) (Flush 𝓤 H A mem run)
@@ -277,10 +282,8 @@ module _ {M : Type 1} (𝓤 : URA M) (H : Heap 𝓤) (A : Atoms 𝓤) (W : Given
       peeks ! S.the-row (Is S.the-row) (shows 𝓤 H A S.the-row) r (u ∷ []) (λ is. land ! (from ! (stop !)) (init ! 9
       refl (LL.lawful S.the-type S′.the-laws 𝓤 H A W .typed r _ is .0)) $ assigns ! (of-opd ! (lit ! tt)) (from !
       (stop !)) (init ! 7 refl (tt, record { fits = lit< tt })) $ keep ! (1 ∷ 2 ∷ 3 ∷ 4 ∷ 5 ∷ 6 ∷ 7 ∷ 8 ∷ 9 ∷ 10 ∷ 11
-      ∷ 12 ∷ 13 ∷ 14 ∷ 15 ∷ 16 ∷ 17 ∷ 18 ∷ 19 ∷ 20 ∷ 0 ∷ 21 ∷ 22 ∷ []) $
-      -- the loop begins at the first slot
-      rewrite ! 6 (λ (k : ℕ). ‵ (fat fullShare word l₅ 0 (vint w64 k))) (refl {a = 0}) refl $
-      loop-on 𝓣 fm known-one known-flush l₀ l₁ l₂ l₃ l₄ l₅ l₆ l₇ l₈ (0, r, u, ap (gathered ys) e))))))))))))))
+      ∷ 12 ∷ 13 ∷ 14 ∷ 15 ∷ 16 ∷ 17 ∷ 18 ∷ 19 ∷ 20 ∷ 0 ∷ 21 ∷ 22 ∷ []) $ loop-on 𝓣 fm known-one known-flush l₀ l₁ l₂
+      l₃ l₄ l₅ l₆ l₇ l₈ r u (omega arith) e)))))))))))))
 
 module _ {M : Type 1} (𝓤 : URA M) (H : Heap 𝓤) (A : Atoms 𝓤) (W : Given 𝓤 H A) (mem : Memory → SProp 𝓤) (run :
     Routine → Fun 𝓤) where
