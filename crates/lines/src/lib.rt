@@ -2,7 +2,7 @@
 // only refusal is that the lent output is too short (9).
 mod gather;
 mod line;
-mod text;
+mod word;
 
 use gather::put_printed;
 use refusals::Checked;

@@ -1,9 +1,9 @@
 // The lines of the program, each put into a text from a place on; a call gives the place behind its
 // line. No call refuses.
-use crate::text::put_bytes;
-use crate::text::put_number;
-use crate::text::put_signed;
-use crate::text::put_verdict;
+use crate::word::put_bytes;
+use crate::word::put_number;
+use crate::word::put_signed;
+use crate::word::put_verdict;
 use load::Row;
 use refusals::Refusal;
 use refusals::number_of;

@@ -1,4 +1,4 @@
--- `lines::text::put_signed` puts the word of the whole number: at most ten digits, and a sign.
+-- `lines::word::put_signed` puts the word of the whole number: at most ten digits, and a sign.
 use borrow.Author.Needs.{needs}
 use native.Mathlib.Omega.{arith}
 use mathlib.Core.Path.{_≡_, ap}
@@ -11,8 +11,8 @@ use Rattle.words.specs.Calls.{wordHolding}
 use Rattle.words.proofs.DecimalLaws.{signedDecimal-length-le}
 use Rattle.words.proofs.SignLaws.{natAbs-lt}
 use Rattle.lines.proofs.PutLaws.{put-held}
-use Rattle.lines.proofs.text.put_signed.Statement.{statement}
-use Rattle.lines.proofs.text.put_signed.Tie as tie
+use Rattle.lines.proofs.word.put_signed.Statement.{statement}
+use Rattle.lines.proofs.word.put_signed.Tie as tie
 
 few : (c : tie.After-signed-of) → length (signedDecimal (c .before .before .before .args .number)) ≤ 11
 few c =

@@ -1,12 +1,12 @@
--- `lines::text::put_word` puts a space, and behind it the word's bytes.
+-- `lines::word::put_word` puts a space, and behind it the word's bytes.
 use mathlib.Core.Path.{_≡_, sym}
 use native.Mathlib.Omega.{arith}
 use borrow.Author.Needs.{needs}
 use lib.ListN.{length, take, length-map}
 use lib.Seq.{length-take-le}
 use Rattle.lines.proofs.PutLaws.{put-more}
-use Rattle.lines.proofs.text.put_word.Statement.{statement}
-use Rattle.lines.proofs.text.put_word.Tie as tie
+use Rattle.lines.proofs.word.put_word.Statement.{statement}
+use Rattle.lines.proofs.word.put_word.Tie as tie
 
 -- a word has 11 places, which its own field tells
 size : (c : tie.Start) → length (c .args .word .bytes) ≡ 11

@@ -1,4 +1,4 @@
--- `lines::text::put_number` puts the word of the number, which has at most ten digits.
+-- `lines::word::put_number` puts the word of the number, which has at most ten digits.
 use borrow.Author.Needs.{needs}
 use native.Mathlib.Omega.{arith}
 use mathlib.Core.Path.{ap}
@@ -8,8 +8,8 @@ use Rattle.words.specs.declared.Word.{Word}
 use Rattle.words.specs.Decimal.{decimal}
 use Rattle.words.proofs.DecimalLaws.{decimal-length-le}
 use Rattle.lines.proofs.PutLaws.{put-held}
-use Rattle.lines.proofs.text.put_number.Statement.{statement}
-use Rattle.lines.proofs.text.put_number.Tie as tie
+use Rattle.lines.proofs.word.put_number.Statement.{statement}
+use Rattle.lines.proofs.word.put_number.Tie as tie
 
 few : (c : tie.After-decimal-of) → length (decimal (c .before .before .before .args .number)) ≤ 10
 few c = decimal-length-le 9 (c .before .before .before .args .number) (search needs)

@@ -1,4 +1,4 @@
--- `lines::text::put_verdict` puts one of two words.
+-- `lines::word::put_verdict` puts one of two words.
 use mathlib.Core.Bool.{Bool, true, false}
 use mathlib.Core.List.{[], _∷_}
 use mathlib.Core.Path.{_≡_, ap, sym}
@@ -7,8 +7,8 @@ use borrow.Author.Needs.{needs}
 use Rattle.words.specs.Decimal.{text}
 use Rattle.lines.specs.Lines.{yesOrNo}
 use Rattle.lines.proofs.PutLaws.{put-same}
-use Rattle.lines.proofs.text.put_verdict.Statement.{statement}
-use Rattle.lines.proofs.text.put_verdict.Tie as tie
+use Rattle.lines.proofs.word.put_verdict.Statement.{statement}
+use Rattle.lines.proofs.word.put_verdict.Tie as tie
 
 is-yes : (verdict : Bool) → verdict ≡ true → 32 ∷ 121 ∷ 101 ∷ 115 ∷ [] ≡ 32 ∷ yesOrNo verdict
 unfolding text
