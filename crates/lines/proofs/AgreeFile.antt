@@ -46,6 +46,7 @@ use Rattle.load_file.proofs.ReadingLaws.{
   own-steps-le,
   own-windows-le,
 }
+use Rattle.lines.specs.Lines.{filePlaces}
 use Rattle.lines.proofs.AgreeLaws.{
   Agree,
   dueTests-agree,
@@ -80,7 +81,7 @@ pub record Placed (bs cs : List ℕ) (i : ℕ) : Type 0 where
   pub place-same : rowPlace bs i ≡ rowPlace cs i
   pub place-le : rowPlace bs i ≤ 4 + 92 * i
 
-module _ (bs cs : List ℕ) (a : Agree 2217 bs cs) where
+module _ (bs cs : List ℕ) (a : Agree filePlaces bs cs) where
   pub said : rowsSaid bs ≡ rowsSaid cs
   said = a .same 3 (omega arith)
 
@@ -92,8 +93,8 @@ module _ (bs cs : List ℕ) (a : Agree 2217 bs cs) where
       let own = andThen-good-first (ownFault bs i at) _ (sym (rowFaultAt-parts bs at i) ∙ good) in
       let steps = own-steps-le bs at i own in
       let windows = own-windows-le bs at i own in
-      let same-steps = stepsSaid-agree 2217 bs cs a at (omega arith) in
-      let same-windows = windowsSaid-agree 2217 bs cs a at (omega arith) in
+      let same-steps = stepsSaid-agree filePlaces bs cs a at (omega arith) in
+      let same-windows = windowsSaid-agree filePlaces bs cs a at (omega arith) in
       record {
         place-same =
             ap₂ (λ s w. at + 20 + 6 * s + 6 * w) same-steps same-windows
@@ -129,7 +130,7 @@ module _ (bs cs : List ℕ) (a : Agree 2217 bs cs) where
           let e = earlier k h in
           let le = e .place-le in
           ap (λ (row : Row). row .identifier) (rowAt-read bs k (omega arith))
-          ∙ identifier-agree 2217 bs cs a (rowPlace bs k) (omega arith)
+          ∙ identifier-agree filePlaces bs cs a (rowPlace bs k) (omega arith)
           ∙ ap (λ p. rowFrom cs p .identifier) (e .place-same)
           ∙ sym (ap (λ (row : Row). row .identifier) (rowAt-read cs k (omega (arith, said))))
 
@@ -138,7 +139,7 @@ module _ (bs cs : List ℕ) (a : Agree 2217 bs cs) where
           let e = earlier k h in
           let le = e .place-le in
           ap (λ (row : Row). row .«box_number») (rowAt-read bs k (omega arith))
-          ∙ box-agree 2217 bs cs a (rowPlace bs k) (omega arith)
+          ∙ box-agree filePlaces bs cs a (rowPlace bs k) (omega arith)
           ∙ ap (λ p. rowFrom cs p .«box_number») (e .place-same)
           ∙ sym (ap (λ (row : Row). row .«box_number») (rowAt-read cs k (omega (arith, said))))
 
@@ -149,17 +150,18 @@ module _ (bs cs : List ℕ) (a : Agree 2217 bs cs) where
           ap₂ (λ x y. (x, IdentifierTaken) ∷ (y, BoxTaken) ∷ [])
           (anyTo-ext _ _ i
           (λ k h.
-          ap₂ (λ x y. eqb (x .0) (y .0)) (identifier-earlier k h) (identifier-agree 2217 bs cs a at (omega arith))))
+          ap₂ (λ x y. eqb (x .0) (y .0)) (identifier-earlier k h)
+          (identifier-agree filePlaces bs cs a at (omega arith))))
           (anyTo-ext _ _ i
-          (λ k h. ap₂ (λ x y. eqb (x .0) (y .0)) (box-earlier k h) (box-agree 2217 bs cs a at (omega arith))))
+          (λ k h. ap₂ (λ x y. eqb (x .0) (y .0)) (box-earlier k h) (box-agree filePlaces bs cs a at (omega arith))))
 
       own-agree : ownFault bs i at ≡ ownFault cs i at
       unfolding ownFault at
       own-agree =
           let le = here .place-le in
           ap₂ (λ d t. firstMet (d ++ t))
-          (ap₂ _++_ (dueTests-agree 2217 bs cs a rowKind at (omega arith) (omega arith))
-          (rowTests-agree 2217 bs cs a at (omega arith)))
+          (ap₂ _++_ (dueTests-agree filePlaces bs cs a rowKind at (omega arith) (omega arith))
+          (rowTests-agree filePlaces bs cs a at (omega arith)))
           taken-agree
 
       -- the steps and windows of a row whose own record is Good
@@ -170,12 +172,12 @@ module _ (bs cs : List ℕ) (a : Agree 2217 bs cs) where
         windows-most : windowsSaid bs at ≤ mostWindows
         windows-most = own-windows-le bs at i good
 
-        whole : at + 92 ≤ 2217
+        whole : at + 92 ≤ filePlaces
         unfolding at
         whole = let le = here .place-le in omega arith
 
         row-agree : rowFrom bs at ≡ rowFrom cs at
-        row-agree = rowFrom-agree 2217 bs cs a at whole steps-most windows-most
+        row-agree = rowFrom-agree filePlaces bs cs a at whole steps-most windows-most
 
         steps-agree : stepsFault bs at ≡ stepsFault cs at
         unfolding stepFaultIn
@@ -185,8 +187,8 @@ module _ (bs cs : List ℕ) (a : Agree 2217 bs cs) where
             firstFaultTo-ext (stepFaultIn bs at) (stepFaultIn cs at) (stepsSaid bs at)
             (λ j h.
             ap₂ (λ d row. firstMet (d ++ stepTests row j))
-            (dueTests-agree 2217 bs cs a stepKind (stepPlace at j) (omega arith) (omega arith)) row-agree)
-            ∙ ap (firstFaultTo (stepFaultIn cs at)) (stepsSaid-agree 2217 bs cs a at (omega arith))
+            (dueTests-agree filePlaces bs cs a stepKind (stepPlace at j) (omega arith) (omega arith)) row-agree)
+            ∙ ap (firstFaultTo (stepFaultIn cs at)) (stepsSaid-agree filePlaces bs cs a at (omega arith))
 
         windows-agree : windowsFault bs at ≡ windowsFault cs at
         unfolding windowFaultIn
@@ -197,10 +199,10 @@ module _ (bs cs : List ℕ) (a : Agree 2217 bs cs) where
             firstFaultTo-ext (windowFaultIn bs at) (windowFaultIn cs at) (windowsSaid bs at)
             (λ k h.
             ap₂ (λ d row. firstMet (d ++ windowTests row k))
-            (dueTests-agree 2217 bs cs a windowKind (windowPlace bs at k) (omega arith) (omega arith)
-            ∙ ap (dueTests windowKind cs) (windowPlace-agree 2217 bs cs a at whole steps-most windows-most k))
+            (dueTests-agree filePlaces bs cs a windowKind (windowPlace bs at k) (omega arith) (omega arith)
+            ∙ ap (dueTests windowKind cs) (windowPlace-agree filePlaces bs cs a at whole steps-most windows-most k))
             row-agree)
-            ∙ ap (firstFaultTo (windowFaultIn cs at)) (windowsSaid-agree 2217 bs cs a at (omega arith))
+            ∙ ap (firstFaultTo (windowFaultIn cs at)) (windowsSaid-agree filePlaces bs cs a at (omega arith))
 
       pub row-fault-agree : faultOf bs i ≡ faultOf cs i
       unfolding at

@@ -1,12 +1,12 @@
--- Any two results that meet `print_lines`' contract are equal: what the call gives, and what the output holds after
--- it. Also: no more bytes are said to be written than the output has.
-use Prim.Native.Nat.{ℕ, _≤_}
+-- Any two results that meet a call's contract are equal: what the call gives, and what the output holds after it.
+-- Also: no more bytes are counted than a text has, or said to be written than the output has.
+use Prim.Native.Nat.{ℕ, _-_, _≤_}
 use mathlib.Core.List.{List, []}
 use mathlib.Core.Path.{_≡_, ap, ap₂, sym, _∙_}
 use native.Mathlib.Omega.{arith}
 use borrow.Author.Tests.{ltb-false}
 use lib.Dec.{ltb}
-use lib.ListN.{length}
+use lib.ListN.{length, replicate, length-append}
 use Rattle.refusals.specs.declared.Refusal.the-variants.{OutputShort}
 use Rattle.refusals.specs.declared.Checked.{Checked}
 use Rattle.refusals.specs.declared.Checked.the-variants.{Good, Refused}
@@ -15,8 +15,20 @@ use Rattle.refusals.specs.Given.{roomFor}
 use Rattle.refusals.proofs.FirstMetLaws.{andThen-good-first, firstMet-good-first}
 use Rattle.refusals.proofs.CallLaws.{Given-unique-finding, Given-unique-output}
 use Rattle.lines.specs.declared.Printed.{Printed}
+use Rattle.lines.specs.declared.Text.{Text}
 use Rattle.lines.specs.Lines.{printed}
-use Rattle.lines.specs.Calls.{lengthGiven, PrintLines}
+use Rattle.lines.specs.Calls.{textPlaces, TextOf, lengthGiven, PrintLines}
+
+pub TextOf-unique : (bs : List ℕ) (r s : Text) → TextOf bs r → TextOf bs s → r ≡ s
+TextOf-unique bs r s p q = p ∙ sym q
+
+pub TextOf-length-le : (bs : List ℕ) (r : Text) → TextOf bs r → r .length ≤ length (r .bytes)
+TextOf-length-le bs r e =
+    let size = ap (λ (t : Text). t .length) e in
+    let long =
+    ap (λ (t : Text). length (t .bytes)) e
+    ∙ length-append (printed bs) (replicate (textPlaces - length (printed bs)) 0) in
+    omega arith
 
 pub PrintLines-unique : (bs out : List ℕ) (r s : Printed) (after later : List ℕ)
     → PrintLines bs out r after → PrintLines bs out s later → (r ≡ s) × (after ≡ later)

@@ -5,6 +5,7 @@ pub mod LineLaws
 pub mod ScheduledLaws
 pub mod AnswerLaws
 pub mod PrintedLaws
+pub mod LengthLaws
 pub mod AgreeLaws
 pub mod AgreeFile
 pub mod PrintedFront

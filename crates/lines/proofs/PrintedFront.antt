@@ -30,7 +30,7 @@ use Rattle.load_file.specs.Records.{headerKind, endKind, version}
 use Rattle.load_file.specs.Places.{stepsSaid, rowPlace, rowsSaid, loadIn}
 use Rattle.load_file.specs.Reading.{dueTests, headerTests, endTests, fileFault}
 use Rattle.load_file.proofs.ReadingLaws.{stepsInAll-read}
-use Rattle.lines.specs.Lines.{linesBeside, printed}
+use Rattle.lines.specs.Lines.{linesBeside, printed, filePlaces}
 use Rattle.lines.proofs.AgreeLaws.{Agree, numberAt-agree, dueTests-agree, stepsSaid-agree}
 use Rattle.lines.proofs.AgreeFile.{
   andThen-agree,
@@ -42,12 +42,12 @@ use Rattle.lines.proofs.AgreeFile.{
   row-fault-agree,
 }
 
-module _ (bs cs : List ℕ) (a : Agree 2217 bs cs) where
+module _ (bs cs : List ℕ) (a : Agree filePlaces bs cs) where
   header-agree : headerTests bs ≡ headerTests cs
   unfolding headerTests
   header-agree =
       ap (λ due. due ++ (not (eqb (byteAt bs 2) version), MarkDiffers) ∷ (ltb mostRows (rowsSaid bs), OutOfRange) ∷ [])
-      (dueTests-agree 2217 bs cs a headerKind 0 (omega arith) (omega arith))
+      (dueTests-agree filePlaces bs cs a headerKind 0 (omega arith) (omega arith))
       ∙ ap₂
       (λ v r. dueTests headerKind cs 0 ++ (not (eqb v version), MarkDiffers) ∷ (ltb mostRows r, OutOfRange) ∷ [])
       (a .same 2 (omega arith)) (said bs cs a)
@@ -83,7 +83,7 @@ module _ (bs cs : List ℕ) (a : Agree 2217 bs cs) where
             (λ j h. firstFaultTo-good (faultOf bs) (rowsSaid bs) good j (omega arith)) in
             let p = placed bs cs a i (omega arith) so-far in
             let le = p .place-le in
-            stepsSaid-agree 2217 bs cs a (rowPlace bs i) (omega arith) ∙ ap (stepsSaid cs) (p .place-same)
+            stepsSaid-agree filePlaces bs cs a (rowPlace bs i) (omega arith) ∙ ap (stepsSaid cs) (p .place-same)
 
     ends-agree : endTests bs (rowPlace bs (rowsSaid bs)) ≡ endTests cs (rowPlace cs (rowsSaid cs))
     unfolding endTests
@@ -95,8 +95,8 @@ module _ (bs cs : List ℕ) (a : Agree 2217 bs cs) where
         let count = stepsInAll (viewOf (loadIn bs)) in
         let more = ltb (at + 4) (length bs) in
         ap₂ (λ due n. due ++ (not (eqb n count), EndDiffers) ∷ (more, EndDiffers) ∷ [])
-        (dueTests-agree 2217 bs cs a endKind at (omega arith) (omega arith))
-        (numberAt-agree 2217 bs cs a 2 (at + 2) (omega arith))
+        (dueTests-agree filePlaces bs cs a endKind at (omega arith) (omega arith))
+        (numberAt-agree filePlaces bs cs a 2 (at + 2) (omega arith))
         ∙ ap₂
         (λ n t. dueTests endKind cs at ++ (not (eqb (numberAt 2 cs (at + 2)) n), EndDiffers) ∷ (t, EndDiffers) ∷ [])
         counts-agree (first-more ∙ sym second-more)
@@ -137,13 +137,13 @@ module _ (bs cs : List ℕ) (a : Agree 2217 bs cs) where
           ap (λ c. linesBeside c (loadIn bs)) e ∙ sym (ap (λ c. linesBeside c (loadIn cs)) (sym file-agree ∙ e))
 
 -- the first 2,217 bytes are enough
-pub printed-front : (bs : List ℕ) → printed bs ≡ printed (take 2217 bs)
+pub printed-front : (bs : List ℕ) → printed bs ≡ printed (take filePlaces bs)
 printed-front bs =
-    elim (decLt 2217 (length bs)) [
-      | yes l ↦ printed-agree bs (take 2217 bs) (record {
-        same = λ k h. sym (getD-take 2217 bs k 0 h);
+    elim (decLt filePlaces (length bs)) [
+      | yes l ↦ printed-agree bs (take filePlaces bs) (record {
+        same = λ k h. sym (getD-take filePlaces bs k 0 h);
         first-long = omega arith;
-        second-long = omega (arith, length-take-le 2217 bs (omega arith));
+        second-long = omega (arith, length-take-le filePlaces bs (omega arith));
       })
-      | no l ↦ ap printed (sym (take-all 2217 bs (omega arith)))
+      | no l ↦ ap printed (sym (take-all filePlaces bs (omega arith)))
     ]

@@ -1,11 +1,11 @@
 -- What is printed for a file, by what its reading finds: the lines of its load, which its check then accepts, or the
--- one line of its refusal. A text that was put at the front is what stands there.
-use Prim.Native.Nat.{ℕ, _≤_}
-use mathlib.Core.List.{List}
+-- one line of its refusal. What was put at the front of zeros is held there as a text.
+use Prim.Native.Nat.{ℕ, _+_, _-_, _≤_}
+use mathlib.Core.List.{List, _++_}
 use mathlib.Core.Path.{_≡_, ap, ap₂, sym, _∙_}
 use native.Mathlib.Omega.{arith}
-use lib.ListN.{length, take, drop}
-use lib.Seq.{sets, length-sets, take-append-seam}
+use lib.ListN.{length, take, drop, replicate, length-replicate, replicate-append-replicate}
+use lib.Seq.{sets, take-append-seam, drop-at}
 use Rattle.words.specs.LittleEndian.{Bytes}
 use Rattle.words.proofs.OverwriteLaws.{sets-front}
 use Rattle.refusals.specs.declared.Refusal.{Refusal}
@@ -18,7 +18,9 @@ use Rattle.load_file.specs.Calls.{ReadLoad}
 use Rattle.load_file.proofs.CheckLaws.{good-checkLoad}
 use Rattle.load_file.proofs.FaultLaws.{fileFault-good}
 use Rattle.load_file.proofs.ReadFile.{read-good}
+use Rattle.lines.specs.declared.Text.{Text}
 use Rattle.lines.specs.Lines.{loadLines, refusedLine, linesBeside, printed}
+use Rattle.lines.specs.Calls.{textPlaces, textHolding}
 
 module _ (bs : List ℕ) (r : Reading) (e : ReadLoad bs r) where
   finding : r .answer ≡ fileFault bs
@@ -48,9 +50,23 @@ module _ (bs : List ℕ) (r : Reading) (e : ReadLoad bs r) where
   unfolding printed
   printed-refused refusal refused = sym (ap (λ t. linesBeside t (loadIn bs)) (sym finding ∙ refused))
 
--- what was put at the front of a text that is long enough stands there
-pub front-taken : (text after bs : List ℕ) (n : ℕ) → after ≡ sets text 0 bs → n ≡ length bs → n ≤ length after
-    → take n after ≡ bs
-front-taken text after bs n e size h =
-    let long : length after ≡ length text = ap length e ∙ length-sets text 0 bs in
-    ap₂ take size (e ∙ sets-front text bs (omega arith)) ∙ take-append-seam bs (drop (length bs) text)
+-- bytes at the front of a list of one number alone, and what is left of that list
+alone-front : (n a : ℕ) (bs : List ℕ) → length bs ≤ n → sets (replicate n a) 0 bs ≡ bs ++ replicate (n - length bs) a
+alone-front n a bs h =
+    let k = length bs in
+    let e : k + (n - k) ≡ n = omega arith in
+    let parts = replicate-append-replicate k (n - k) a ∙ ap (λ m. replicate m a) e in
+    sets-front (replicate n a) bs (omega (arith, length-replicate n a))
+    ∙ ap (λ l. bs ++ l)
+    (ap (drop k) (sym parts) ∙ drop-at (replicate k a) (replicate (n - k) a) k (length-replicate k a))
+
+-- what was put at the front of zeros is held there, with its length
+pub text-held : (bs after : List ℕ) (n : ℕ) → after ≡ sets (replicate textPlaces 0) 0 bs → n ≡ length bs
+    → length bs ≤ textPlaces → _≡_ {A = Text} (record { length = n; bytes = after }) (textHolding bs)
+text-held bs after n e size h =
+    ap₂ (λ l held. record { length = l; bytes = held }) size (e ∙ alone-front textPlaces 0 bs h)
+
+-- the bytes that a text counts are those that it holds
+pub text-taken : (bs : List ℕ) (t : Text) → t ≡ textHolding bs → take (t .length) (t .bytes) ≡ bs
+text-taken bs t e =
+    ap (λ (a : Text). take (a .length) (a .bytes)) e ∙ take-append-seam bs (replicate (textPlaces - length bs) 0)

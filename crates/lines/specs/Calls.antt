@@ -1,14 +1,42 @@
 -- What each public call's contract says: one relation a call, over what it takes, what it gives,
--- and what the lent bytes hold afterwards. To be read after Lines.
-use Prim.Native.Nat.{ℕ}
-use mathlib.Core.List.{List}
+-- and what the lent bytes hold afterwards. To be read after Lines. Rests on D45.
+use Prim.Native.Nat.{ℕ, _+_, _-_, _*_}
+use mathlib.Core.List.{List, _++_}
 use mathlib.Core.Path.{_≡_}
-use lib.ListN.{length}
+use lib.ListN.{length, replicate}
 use Rattle.refusals.specs.declared.Checked.{Checked}
 use Rattle.refusals.specs.declared.Checked.the-variants.{Good, Refused}
 use Rattle.refusals.specs.Given.{Given}
+use Rattle.load.specs.Load.{mostRows, mostSteps}
 use Rattle.lines.specs.declared.Printed.{Printed}
+use Rattle.lines.specs.declared.Text.{Text}
 use Rattle.lines.specs.Lines.{printed}
+
+-- the most bytes of a first line: `load`, four numbers of at most ten digits and `yes`, with a
+-- space before each, and a line feed
+abbrev pub firstMost : ℕ
+firstMost = 4 + 4 * (1 + 10) + 4 + 1
+
+-- the most bytes of a row line: `row`, three such numbers, one with a sign, and a line feed
+abbrev pub rowMost : ℕ
+rowMost = 3 + 3 * (1 + 10) + 12 + 1
+
+-- the most bytes of a slot line: `slot`, three such numbers, and a line feed
+abbrev pub slotMost : ℕ
+slotMost = 4 + 3 * (1 + 10) + 1
+
+-- how many places a text has: enough for the first line, 24 row lines and the lines of 192 slots
+abbrev pub textPlaces : ℕ
+textPlaces = firstMost + mostRows * rowMost + mostRows * mostSteps * slotMost
+
+-- what is printed as a text: its length, its bytes, and 0 in the places past them
+abbrev pub textHolding : List ℕ → Text
+textHolding bs =
+    record { length = length bs; bytes = bs ++ replicate (textPlaces - length bs) 0 }
+
+-- text_of(bytes): all that the program prints for the file
+abbrev pub TextOf : List ℕ → Text → Type 0
+TextOf bs r = r ≡ textHolding (printed bs)
 
 -- how many bytes of an answer are written: all, or none with a refusal
 abbrev pub lengthGiven : Checked → List ℕ → ℕ

@@ -7,35 +7,20 @@ use lib.ListN.{length, take}
 use lib.Seq.{sets}
 use Rattle.refusals.specs.declared.Checked.the-variants.{Good}
 use Rattle.load.specs.declared.Load.{Load}
-use Rattle.load.specs.Load.{mostRows}
+use Rattle.load.specs.Load.{mostRows, mostSteps}
 use Rattle.load.specs.View.{viewOf, stepsInAll}
 use Rattle.load.specs.Check.{checkLoad}
 use Rattle.rules.specs.declared.Slot.{Slot}
 use Rattle.rules.specs.Run.{schedule}
+use Rattle.lines.specs.Calls.{firstMost, rowMost}
 
 -- 24 rows of 8 steps have at most 192 slots
 abbrev pub mostSlots : ℕ
-mostSlots = 192
-
--- the most bytes of a first line
-abbrev pub firstMost : ℕ
-firstMost = 53
-
--- the most bytes of a row line
-abbrev pub rowMost : ℕ
-rowMost = 49
-
--- the most bytes of a slot line
-abbrev pub slotMost : ℕ
-slotMost = 38
+mostSlots = mostRows * mostSteps
 
 -- the place behind the row lines is no further
 abbrev pub rowsEnd : ℕ
 rowsEnd = firstMost + mostRows * rowMost
-
--- how many bytes the gathered text may have: the place behind the slot lines is no further
-abbrev pub textPlaces : ℕ
-textPlaces = rowsEnd + mostSlots * slotMost
 
 -- slots in places, the first of which are the schedule of an accepted load
 pub record Scheduled (load : Load) (slots : List Slot) (count : ℕ) : Type 0 where

@@ -34,14 +34,8 @@ ghost use Rattle.lines.specs.Lines.{
   printed,
   rowLineOf,
 };
-ghost use Rattle.lines.specs.Parts.{
-  Put,
-  Scheduled,
-  firstMost,
-  mostSlots,
-  rowsEnd,
-  textPlaces,
-};
+ghost use Rattle.lines.specs.Calls.{firstMost, textPlaces};
+ghost use Rattle.lines.specs.Parts.{Put, Scheduled, mostSlots, rowsEnd};
 
 // Gives when a slot ends that names a step of the load.
 fn end_of(load: Load, slot: Slot) -> u32

@@ -8,11 +8,17 @@ use gather::put_printed;
 use refusals::Checked;
 use refusals::Refusal;
 use words::overwrite;
-ghost use Rattle.lines.specs.Calls.{PrintLines};
+ghost use Rattle.lines.specs.Calls.{PrintLines, TextOf};
 
-// How many bytes are enough for what is printed: a first line of at most 53 bytes, 24 row lines of
-// at most 49, and 192 slot lines of at most 38.
+// How many places a text has: a first line of at most 53 bytes, 24 row lines of at most 49, and 192
+// slot lines of at most 38.
 pub const TEXT_PLACES: usize = 8525;
+
+// What is printed: so many bytes, and 0 in the places past them.
+pub struct Text {
+    pub length: usize,
+    pub bytes: [u8; TEXT_PLACES],
+}
 
 // What a printing gives: Good and how many bytes were written, or the refusal and 0.
 pub struct Printed {
@@ -20,20 +26,34 @@ pub struct Printed {
     pub length: usize,
 }
 
+// Gives all that the program prints for a load file. It refuses nothing, as there is room for every
+// text.
+pub fn text_of(bytes: &[u8]) -> Text
+    ensures { λ r. ⌜ TextOf (now (bytes .entry)) r ⌝ }
+{
+    let mut text = [0u8; TEXT_PLACES];
+    let length = put_printed(&mut text, bytes);
+    Text {
+        length,
+        bytes: text,
+    }
+}
+
 // Writes what the program prints for a load file at the output's front. Refuses an output that is
 // shorter (9), and then alters no byte. Bytes past what is printed stay.
 pub fn print_lines(bytes: &[u8], out: &mut [u8]) -> Printed
     ensures { λ r. ⌜ PrintLines (now (bytes .entry)) (now (out .entry)) r (now (out .exit)) ⌝ }
 {
-    let mut text = [0u8; TEXT_PLACES];
-    let length = put_printed(&mut text, bytes);
+    let text = text_of(bytes);
+    let length = text.length;
     if out.len() < length {
         return Printed {
             answer: Checked::Refused(Refusal::OutputShort),
             length: 0,
         };
     }
-    overwrite(out, 0, &text[..length]);
+    let held = text.bytes;
+    overwrite(out, 0, &held[..length]);
     Printed {
         answer: Checked::Good,
         length,

@@ -10,7 +10,8 @@ use refusals::number_of;
 use rules::Slot;
 ghost use Prim.Native.Nat.{_+_, _≤_};
 ghost use Rattle.lines.specs.Lines.{slotLine, refusedLine, firstLineOf, rowLineOf};
-ghost use Rattle.lines.specs.Parts.{Put, firstMost, rowMost, slotMost, textPlaces};
+ghost use Rattle.lines.specs.Calls.{firstMost, rowMost, slotMost, textPlaces};
+ghost use Rattle.lines.specs.Parts.{Put};
 
 // Puts the first line: rows, steps, end of the last step, bound, verdict.
 pub fn put_first(
