@@ -3,21 +3,32 @@
 // standard error.
 use libc::STDIN_FILENO;
 use libc::STDOUT_FILENO;
-use lines::TEXT_PLACES;
-use lines::print_lines;
+use lines::Text;
+use lines::text_of;
+ghost use Prim.Native.Nat.{_≤_};
+ghost use lib.ListN.{length};
+ghost use Rattle.report.specs.Program.{Answer};
 
 // One byte more than the longest load file has: for a longer file the same is printed as for so
 // many of its bytes.
 const FILE_PLACES: usize = 2217;
 
+// Gives all that is printed for the input of which so many first bytes were read.
+fn answer(file: [u8; FILE_PLACES], size: usize) -> Text
+    requires { ⌜ size ≤ length file ⌝ }
+    ensures { λ r. ⌜ Answer file size r ⌝ }
+{
+    text_of(&file[..size])
+}
+
 // Reads, prints and writes.
 fn main() {
     let mut file = [0u8; FILE_PLACES];
     let size = io::read_full(STDIN_FILENO, &mut file);
-    let mut out = [0u8; TEXT_PLACES];
-    let printed = print_lines(&file[..size], &mut out);
-    let length = printed.length;
-    if !io::write_all(STDOUT_FILENO, &out[..length]) {
+    let text = answer(file, size);
+    let length = text.length;
+    let bytes = text.bytes;
+    if !io::write_all(STDOUT_FILENO, &bytes[..length]) {
         os::fail(b"report: standard output");
     }
 }
