@@ -1,5 +1,7 @@
 -- Why the promises hold.
 pub mod CallsDecided
+pub mod Joined
+pub mod JoinedHolds
 pub mod NumberLaws
 pub mod CallNumbers
 pub mod TableLaws

@@ -1,6 +1,7 @@
 -- What is promised, over the very definitions that the contracts cite, and document 01's loads.
 pub mod PublicCalls
 pub mod Sameness
+pub mod JoinedContract
 pub mod Numbers
 pub mod ExactlyThen
 pub mod Demand1

@@ -55,7 +55,7 @@ abbrev pub Writes : {A : Type 0} → (A → List ℕ → Type 0) → Wrote A →
 Writes meets wrote = meets (wrote .gives) (wrote .after)
 
 -- what is claimed of the relation of each public call, for all that the call is given
-pub record EveryCall (Claim : (A : Type 0) → (A → Type 0) → Type 0) : Type 0 where
+pub record EveryCall {ℓ} (Claim : (A : Type 0) → (A → Type 0) → Type ℓ) : Type ℓ where
   -- words
   pub byte-at : (bs : List ℕ) (at : ℕ) → Claim ℕ (ByteAt bs at)
   pub number16-at : (bs : List ℕ) (at : ℕ) → Claim ℕ (NumberAt 2 bs at)
