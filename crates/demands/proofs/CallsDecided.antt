@@ -58,7 +58,7 @@ use Rattle.reading_bench.proofs.CallLaws.{
 use Rattle.lines.specs.declared.Printed.{Printed}
 use Rattle.lines.specs.Lines.{printed}
 use Rattle.lines.specs.Calls.{lengthGiven, PrintLines}
-use Rattle.lines.proofs.CallLaws.{PrintLines-unique}
+use Rattle.lines.proofs.CallLaws.{TextOf-unique, PrintLines-unique}
 use Rattle.demands.specs.PublicCalls.{Wrote, Writes, EveryCall}
 use Rattle.demands.specs.Sameness.{OneResult, Sameness}
 use Rattle.demands.specs.Demand1.{Answer}
@@ -112,6 +112,7 @@ sameness =
       bench-verdict = λ bs out. both _ (BenchVerdict-unique bs out);
       bench-margins = λ bs out. both _ (BenchMargins-unique bs out);
       bench-schedule = λ bs out. both _ (BenchSchedule-unique bs out);
+      text-of = TextOf-unique;
       print-lines = λ bs out. both _ (PrintLines-unique bs out);
     }
 
@@ -191,5 +192,6 @@ every-answer =
       bench-verdict = for-c verdictBytes;
       bench-margins = for-c marginBytes;
       bench-schedule = for-c scheduleFile;
+      text-of = λ bs. is _;
       print-lines = printing;
     }

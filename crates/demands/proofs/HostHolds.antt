@@ -16,6 +16,10 @@ use Rattle.load_file.specs.Reading.{fileFault, loadBeside, readLoad}
 use Rattle.load_file.specs.Calls.{ReadLoad}
 use Rattle.rules.specs.Margins.{marginBytes}
 use Rattle.reading_bench.specs.Calls.{Numbered, ForC, boundBytes, verdictBytes, scheduleFile}
+use Rattle.lines.specs.Lines.{printed}
+use Rattle.lines.specs.Calls.{textHolding}
+use Rattle.lines.proofs.PrintedLaws.{text-taken}
+use Rattle.lines.proofs.PrintedFront.{printed-front}
 use Rattle.demands.specs.HostAnswers.{Answers, HostAnswers}
 
 module _ (bs : List ℕ) (read : Reading) (m : ReadLoad bs read) where
@@ -49,6 +53,8 @@ host-answers =
       margins = answers marginBytes;
       schedules = answers scheduleFile;
       refused = refused-number;
+      texts = λ bs r e. text-taken (printed bs) r e;
+      fronts = λ bs r e. e ∙ ap textHolding (sym (printed-front bs));
       lines = λ bs out r after p. p .given;
       lines-counted = λ bs out r after p. p .length-is;
     }

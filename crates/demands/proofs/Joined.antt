@@ -104,5 +104,7 @@ pub record Joined : Type 2 where
   pub bench-schedule : Says reading_bench.bench_schedule.ended (λ M. reading_bench.bench_schedule.spec)
       (λ κs a r s. relation .bench-schedule (a .0 .now) (a .1 .0 .now) .meets (wrote r (s .1 .0 .now)))
   -- lines
+  pub text-of : Says lines.text_of.ended (λ M. lines.text_of.spec)
+      (λ κs a r s. relation .text-of (a .0 .now) .meets r)
   pub print-lines : Says lines.print_lines.ended (λ M. lines.print_lines.spec)
       (λ κs a r s. relation .print-lines (a .0 .now) (a .1 .0 .now) .meets (wrote r (s .1 .0 .now)))

@@ -50,6 +50,7 @@ relations =
       bench-verdict = λ bs out. listed;
       bench-margins = λ bs out. listed;
       bench-schedule = λ bs out. listed;
+      text-of = λ bs. listed;
       print-lines = λ bs out. listed;
     }
 
@@ -95,5 +96,6 @@ joined =
       bench-verdict = refl;
       bench-margins = refl;
       bench-schedule = refl;
+      text-of = refl;
       print-lines = refl;
     }

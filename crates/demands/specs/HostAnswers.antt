@@ -4,6 +4,7 @@
 use Prim.Native.Nat.{ℕ}
 use mathlib.Core.List.{List, [], _∷_}
 use mathlib.Core.Path.{_≡_}
+use lib.ListN.{take}
 use Rattle.counting.specs.Sums.{bit}
 use Rattle.words.specs.LittleEndian.{littleEndian}
 use Rattle.refusals.specs.declared.Refusal.{Refusal}
@@ -26,8 +27,9 @@ use Rattle.reading_bench.specs.Calls.{
   BenchSchedule,
 }
 use Rattle.lines.specs.declared.Printed.{Printed}
-use Rattle.lines.specs.Lines.{printed}
-use Rattle.lines.specs.Calls.{PrintLines, lengthGiven}
+use Rattle.lines.specs.declared.Text.{Text}
+use Rattle.lines.specs.Lines.{printed, filePlaces}
+use Rattle.lines.specs.Calls.{TextOf, PrintLines, lengthGiven}
 
 -- a call for C: of a file that is read as a load, it refuses nothing but the room, and gives that
 -- load's answer
@@ -51,6 +53,10 @@ pub record HostAnswers : Type 0 where
   pub refused : (answer : View → List ℕ) (bs : List ℕ) (read : Reading) (refusal : Refusal)
       → ReadLoad bs read → read .answer ≡ Refused refusal
       → (out : List ℕ) (n : ℕ) (after : List ℕ) → ForC answer bs out n after → n ≡ numberOf refusal
+  -- the text of any bytes is all that the program prints for them, and its first places hold it
+  pub texts : (bs : List ℕ) (r : Text) → TextOf bs r → take (r .length) (r .bytes) ≡ printed bs
+  -- which the first bytes decide: one more than the longest load file has
+  pub fronts : (bs : List ℕ) (r : Text) → TextOf (take filePlaces bs) r → TextOf bs r
   -- the program's lines stand in the output, and so many bytes of them are counted
   pub lines : (bs out : List ℕ) (r : Printed) (after : List ℕ) → PrintLines bs out r after
       → Given Good (printed bs) out (r .answer) after

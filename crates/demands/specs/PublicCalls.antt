@@ -43,7 +43,8 @@ use Rattle.bench.specs.declared.Ran.{Ran}
 use Rattle.bench.specs.Calls.{Fresh, NextMove, Runs}
 use Rattle.reading_bench.specs.Calls.{BenchBound, BenchVerdict, BenchMargins, BenchSchedule}
 use Rattle.lines.specs.declared.Printed.{Printed}
-use Rattle.lines.specs.Calls.{PrintLines}
+use Rattle.lines.specs.declared.Text.{Text}
+use Rattle.lines.specs.Calls.{TextOf, PrintLines}
 
 -- what a writing call gives, and what its output holds afterwards
 pub record Wrote (A : Type 0) : Type 0 where
@@ -109,4 +110,5 @@ pub record EveryCall {ℓ} (Claim : (A : Type 0) → (A → Type 0) → Type ℓ
   pub bench-margins : (bs out : List ℕ) → Claim (Wrote ℕ) (Writes (BenchMargins bs out))
   pub bench-schedule : (bs out : List ℕ) → Claim (Wrote ℕ) (Writes (BenchSchedule bs out))
   -- lines
+  pub text-of : (bs : List ℕ) → Claim Text (TextOf bs)
   pub print-lines : (bs out : List ℕ) → Claim (Wrote Printed) (Writes (PrintLines bs out))
