@@ -1,8 +1,8 @@
 -- "Each public call's contract decides the result and every lent byte and slot afterwards, for all inputs and each
 -- refusal": each public call's contract is its relation in PublicCalls, at the call's own parameters, and asks nothing.
--- This is what is claimed, and JoinedHolds shows it; it stands in proofs since what is generated of a contract bears
--- that name. A call's parameters are `a .0`, `a .1 .0` and so on, and `.now` is what is lent; tests/contracts compares
--- each field with the call's own line. To be read after JoinedContract.
+-- This is a statement, and JoinedHolds proves it. It stands here since a contract is generated under its crate's
+-- proofs, which no specs file cites. A call's parameters are `a .0`, `a .1 .0` and so on, and `.now` is what is lent;
+-- tests/contracts compares each field with the line of its function. To be read after JoinedContract.
 use Rattle.words.proofs as words
 use Rattle.refusals.proofs as refusals
 use Rattle.load.proofs as load
