@@ -1,5 +1,7 @@
 #include "asked.h"
 
+#include <string.h>
+
 #include "little_endian.h"
 
 enum {
@@ -15,7 +17,7 @@ static bool take_bytes(FILE *questions, uint8_t *bytes, size_t length)
     return fread(bytes, 1, length, questions) == length;
 }
 
-/* A length or count of two bytes; false when it is above `most`. */
+/* A length, count or room of two bytes; false when it is above `most`. */
 static bool take_count(FILE *questions, size_t most, size_t *count)
 {
     uint8_t bytes[2];
@@ -29,6 +31,12 @@ bool take_asked_file(FILE *questions, struct asked_file *file)
 {
     return take_count(questions, MOST_ASKED_BYTES, &file->length)
         && take_bytes(questions, file->bytes, file->length);
+}
+
+bool take_asked_room(FILE *questions, struct asked_room *room)
+{
+    memset(room->bytes, ROOM_BYTE, sizeof room->bytes);
+    return take_count(questions, MOST_ASKED_BYTES, &room->length);
 }
 
 bool take_asked_slots(FILE *questions, struct asked_slots *list)

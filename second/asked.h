@@ -1,5 +1,5 @@
 /* What a trial's question lends, taken from its bytes (trials.h says which); each is false when
-   the question is cut short or a length or count is too large. */
+   the question is cut short or a length, count or room is too large. */
 #ifndef ASKED_H
 #define ASKED_H
 
@@ -7,9 +7,15 @@
 
 #include "schedule.h"
 
-enum { MOST_ASKED_BYTES = 4096, MOST_ASKED_SLOTS = 256 };
+enum { MOST_ASKED_BYTES = 4096, MOST_ASKED_SLOTS = 256, ROOM_BYTE = 0xA5 };
 
 struct asked_file {
+    size_t length;
+    uint8_t bytes[MOST_ASKED_BYTES];
+};
+
+/* An output to be lent; every byte is A5. */
+struct asked_room {
     size_t length;
     uint8_t bytes[MOST_ASKED_BYTES];
 };
@@ -20,6 +26,7 @@ struct asked_slots {
 };
 
 bool take_asked_file(FILE *questions, struct asked_file *file);
+bool take_asked_room(FILE *questions, struct asked_room *room);
 bool take_asked_slots(FILE *questions, struct asked_slots *list);
 bool take_asked_state(FILE *questions, struct bench *state);
 

@@ -32,13 +32,14 @@ static void print_outcome(FILE *answers, const struct move *move)
         fputs(move->outcome == IDLE ? "idle" : "done", answers);
 }
 
-static void print_moved(FILE *answers, const struct move *move)
+static void print_move_of(FILE *answers, const struct load *load, struct bench state)
 {
-    print_outcome(answers, move);
-    fprintf(answers, " lamps %lu count %lu clock %lu", (unsigned long)move->lamps,
-            (unsigned long)move->lamp_count, (unsigned long)move->state.clock);
+    struct move move = move_of(load, state);
+    print_outcome(answers, &move);
+    fprintf(answers, " lamps %lu count %lu clock %lu", (unsigned long)move.lamps,
+            (unsigned long)move.lamp_count, (unsigned long)move.state.clock);
     for (unsigned row = 1; row <= MOST_ROWS; row++) {
-        const struct progress *progress = progress_of(&move->state, row);
+        const struct progress *progress = progress_of(&move.state, row);
         fprintf(answers, " %u:%lu:%lu", progress->finished, (unsigned long)progress->end,
                 (unsigned long)progress->opening);
     }
@@ -53,13 +54,26 @@ static bool answer_move(FILE *questions, FILE *answers)
     if (!take_asked_file(questions, &file) || !take_asked_state(questions, &state))
         return false;
     enum refusal refusal = read_load(file.bytes, file.length, &load);
-    if (refusal != ACCEPTED) {
+    if (refusal != ACCEPTED)
         fprintf(answers, "refused %d\n", (int)refusal);
-        return true;
-    }
-    struct move move = move_of(&load, state);
-    print_moved(answers, &move);
+    else
+        print_move_of(answers, &load, state);
     return true;
+}
+
+static bool answer_move_in_memory(FILE *questions, FILE *answers)
+{
+    struct load load;
+    struct bench state;
+    if (!take_asked_load(questions, &load) || !take_asked_state(questions, &state))
+        return false;
+    print_move_of(answers, &load, state);
+    return true;
+}
+
+static void print_check_of(FILE *answers, const struct load *load, const struct asked_slots *list)
+{
+    fprintf(answers, "check %d\n", (int)check_schedule(load, list->slots, list->count));
 }
 
 static bool answer_check(FILE *questions, FILE *answers)
@@ -73,8 +87,28 @@ static bool answer_check(FILE *questions, FILE *answers)
     if (refusal != ACCEPTED)
         fprintf(answers, "refused %d\n", (int)refusal);
     else
-        fprintf(answers, "check %d\n", (int)check_schedule(&load, list.slots, list.count));
+        print_check_of(answers, &load, &list);
     return true;
+}
+
+static bool answer_check_in_memory(FILE *questions, FILE *answers)
+{
+    struct load load;
+    struct asked_slots list;
+    if (!take_asked_load(questions, &load) || !take_asked_slots(questions, &list))
+        return false;
+    print_check_of(answers, &load, &list);
+    return true;
+}
+
+/* The number, and where it is 0 so many bytes. */
+static void print_written(FILE *answers, const char *what, enum refusal refusal,
+                          const uint8_t *bytes, size_t length)
+{
+    fprintf(answers, "%s %d", what, (int)refusal);
+    if (refusal == ACCEPTED)
+        print_hex(answers, bytes, length);
+    fputc('\n', answers);
 }
 
 static bool answer_load(FILE *questions, FILE *answers)
@@ -85,10 +119,19 @@ static bool answer_load(FILE *questions, FILE *answers)
     if (!take_asked_load(questions, &load))
         return false;
     enum refusal refusal = write_load(&load, bytes, sizeof bytes, &written);
-    fprintf(answers, "load %d", (int)refusal);
-    if (refusal == ACCEPTED)
-        print_hex(answers, bytes, written);
-    fputc('\n', answers);
+    print_written(answers, "load", refusal, bytes, written);
+    return true;
+}
+
+static bool answer_load_in_room(FILE *questions, FILE *answers)
+{
+    size_t written;
+    struct asked_room room;
+    struct load load;
+    if (!take_asked_room(questions, &room) || !take_asked_load(questions, &load))
+        return false;
+    enum refusal refusal = write_load(&load, room.bytes, room.length, &written);
+    print_written(answers, "load", refusal, room.bytes, room.length);
     return true;
 }
 
@@ -100,10 +143,20 @@ static bool answer_schedule(FILE *questions, FILE *answers)
     if (!take_asked_slots(questions, &list))
         return false;
     enum refusal refusal = write_schedule(list.slots, list.count, bytes, sizeof bytes, &written);
-    fprintf(answers, "schedule %d", (int)refusal);
-    if (refusal == ACCEPTED)
-        print_hex(answers, bytes, written);
-    fputc('\n', answers);
+    print_written(answers, "schedule", refusal, bytes, written);
+    return true;
+}
+
+static bool answer_schedule_in_room(FILE *questions, FILE *answers)
+{
+    size_t written;
+    struct asked_room room;
+    struct asked_slots list;
+    if (!take_asked_room(questions, &room) || !take_asked_slots(questions, &list))
+        return false;
+    enum refusal refusal = write_schedule(list.slots, list.count, room.bytes, room.length,
+                                          &written);
+    print_written(answers, "schedule", refusal, room.bytes, room.length);
     return true;
 }
 
@@ -115,6 +168,10 @@ static bool answer_question(int letter, FILE *questions, FILE *answers)
     case 'C': return answer_check(questions, answers);
     case 'W': return answer_load(questions, answers);
     case 'S': return answer_schedule(questions, answers);
+    case 'N': return answer_move_in_memory(questions, answers);
+    case 'D': return answer_check_in_memory(questions, answers);
+    case 'w': return answer_load_in_room(questions, answers);
+    case 's': return answer_schedule_in_room(questions, answers);
     default: return false;
     }
 }

@@ -13,9 +13,16 @@
       8 x (cost (2) wait (2)), 4 x (first (1) last (1) limit (2))]
                                         `load N`, and where N is 0 the written file in hex
    S  count (2), slots as in C          `schedule N`, and where N is 0 the file in hex
+   N  a load as in W, clock and 24 x progress as in M
+                                        as M answers a move; a faulty load is a refused move
+   D  a load as in W, count and slots as in C
+                                        `check N`, N being the load's number where it is faulty
+   w  room (2), a load as in W          `load N`, and where N is 0 all the room's bytes in hex
+   s  room (2), count and slots as in S `schedule N`, and where N is 0 all the room's bytes in hex
 
-   The input's end ends it. Another letter, a larger length or count, or a question cut short is
-   answered by a line `bad`, and that ends it too. */
+   A room is so many bytes, at most 4,096, and each of them is A5 before.
+   The input's end ends it. Another letter, a larger length, count or room, or a question cut short
+   is answered by a line `bad`, and that ends it too. */
 #ifndef TRIALS_H
 #define TRIALS_H
 

@@ -1,4 +1,5 @@
-/* Slot lists against their load: the run's own list with one thing altered. */
+/* Slot lists against their load, lent as a file or in memory: the run's own list with one thing
+   altered. */
 #include "questions.h"
 
 enum { ALTERED_LOADS = 70, ALTERED_EACH = 6, ALTERATIONS = 24 };
@@ -61,10 +62,9 @@ static void alter(struct asked_slots *list, const struct load *load, size_t p, u
 static void ask_altered(struct asking *asking, const struct load *load, size_t p,
                         unsigned alteration)
 {
-    struct asked_file file = file_of(load);
     struct asked_slots list = slots_of(load);
     alter(&list, load, p, alteration);
-    ask_check(asking, &file, &list);
+    ask_check_of(asking, load, &list);
 }
 
 static void ask_every_alteration(struct asking *asking, const struct load *load)
@@ -89,13 +89,12 @@ static void ask_last_starts(struct asking *asking)
 {
     struct load two = {1, {{{1}, {1}, 0, LAST_MOMENT, 2, 0, {{1, 0}, {1, 0}}, {{0, 0, 0}}}}};
     struct load one = {1, {{{1}, {1}, 0, LAST_MOMENT, 1, 0, {{1, 0}}, {{0, 0, 0}}}}};
-    struct asked_file two_file = file_of(&two), one_file = file_of(&one);
     for (uint32_t start = LAST_MOMENT - 3; start <= LAST_MOMENT + 1; start++) {
         struct asked_slots list = {1, {{1, 1, start}}};
-        ask_check(asking, &one_file, &list);
+        ask_check_of(asking, &one, &list);
         for (uint32_t next = start; next <= start + 2; next++) {
             struct asked_slots lists = {2, {{1, 1, start}, {1, 2, next}}};
-            ask_check(asking, &two_file, &lists);
+            ask_check_of(asking, &two, &lists);
         }
     }
 }
@@ -107,24 +106,22 @@ static void ask_counts(struct asking *asking)
     struct load load = load_with(&asking->dice, 1, 5, 2);
     struct load full = load_with(&asking->dice, MOST_ROWS, MOST_STEPS, 1);
     struct load none = {0};
-    struct asked_file file = file_of(&load), full_file = file_of(&full), none_file = file_of(&none);
     struct asked_slots list = slots_of(&load), full_list = slots_of(&full);
     for (size_t place = 0; place < sizeof counts / sizeof counts[0]; place++) {
         list.count = counts[place];
         full_list.count = counts[place];
-        ask_check(asking, &file, &list);
-        ask_check(asking, &none_file, &list);
+        ask_check_of(asking, &load, &list);
+        ask_check_of(asking, &none, &list);
         if (place > 4)
-            ask_check(asking, &full_file, &full_list);
+            ask_check_of(asking, &full, &full_list);
     }
     for (unsigned times = 0; times < 20; times++) {
         spoil(&asking->dice, &load);
-        file = file_of(&load);
-        ask_check(asking, &file, &list);
+        ask_check_of(asking, &load, &list);
     }
 }
 
-void ask_altered_lists(struct asking *asking)
+void ask_all_alterations(struct asking *asking)
 {
     static const unsigned sizes[][3] = {{3, 2, 1}, {1, 4, 2}, {2, 3, 0}};
     for (unsigned place = 0; place < 3; place++) {
@@ -132,10 +129,18 @@ void ask_altered_lists(struct asking *asking)
         struct load load = load_with(&asking->dice, size[0], size[1], size[2]);
         ask_every_alteration(asking, &load);
     }
-    for (unsigned times = 0; times < ALTERED_LOADS; times++) {
+}
+
+void ask_altered_lists(struct asking *asking)
+{
+    for (unsigned times = 0; times < share_of(asking, ALTERED_LOADS); times++) {
         struct load load = any_load(&asking->dice, SMALL_SIZES + 1);
         ask_some_alterations(asking, &load);
     }
+}
+
+void ask_edge_lists(struct asking *asking)
+{
     ask_last_starts(asking);
     ask_counts(asking);
 }

@@ -18,18 +18,33 @@ static bool read_rows(const char *name, struct asked_file *file)
     return line == 0;
 }
 
-static void ask_generated(struct asking *asking)
+static void ask_lent_files(struct asking *asking)
 {
     ask_sound_loads(asking);
     ask_damaged_files(asking);
     ask_twins(asking);
     ask_moves(asking);
+    ask_refused_files(asking);
+    ask_shapes(asking);
+    ask_any_shapes(asking);
+    ask_full_clocks(asking);
+    ask_all_alterations(asking);
+    ask_altered_lists(asking);
+    ask_edge_lists(asking);
+    ask_exact_lists(asking);
+}
+
+static void ask_lent_loads(struct asking *asking)
+{
+    asking->in_memory = true;
+    ask_loads_in_memory(asking);
+    ask_schedules(asking);
+    ask_moves(asking);
     ask_shapes(asking);
     ask_full_clocks(asking);
     ask_altered_lists(asking);
-    ask_exact_lists(asking);
-    ask_loads_in_memory(asking);
-    ask_schedules(asking);
+    ask_faulty_loads(asking);
+    ask_rooms(asking);
 }
 
 int main(int count, char **names)
@@ -43,9 +58,11 @@ int main(int count, char **names)
         }
         ask_all_of_file(&asking, &file);
     }
-    ask_generated(&asking);
+    ask_lent_files(&asking);
+    ask_lent_loads(&asking);
     ask_half(&asking, &file);
-    fprintf(stderr, "F %lu M %lu C %lu W %lu S %lu\n", asking.reports, asking.moves, asking.checks,
-            asking.loads, asking.schedules);
+    fprintf(stderr, "F %lu M %lu C %lu W %lu S %lu N %lu D %lu w %lu s %lu\n", asking.reports,
+            asking.moves, asking.checks, asking.loads, asking.schedules, asking.memory_moves,
+            asking.memory_checks, asking.room_loads, asking.room_schedules);
     return fflush(stdout) == 0 ? 0 : 2;
 }

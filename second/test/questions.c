@@ -3,6 +3,8 @@
 #include "little_endian.h"
 #include "load_file.h"
 
+enum { MEMORY_SHARE = 24 };
+
 struct asked_file file_of(const struct load *load)
 {
     struct asked_file file = {0};
@@ -17,6 +19,11 @@ struct asked_slots slots_of(const struct load *load)
     for (size_t place = 0; place < list.count; place++)
         list.slots[place] = run.slots[place];
     return list;
+}
+
+unsigned share_of(const struct asking *asking, unsigned count)
+{
+    return asking->in_memory ? (count + MEMORY_SHARE - 1) / MEMORY_SHARE : count;
 }
 
 static void write_1(struct asking *asking, unsigned number)
@@ -61,6 +68,13 @@ static void write_progress(struct asking *asking, const struct progress *progres
     write_4(asking, progress->opening);
 }
 
+static void write_state(struct asking *asking, const struct bench *state)
+{
+    write_4(asking, state->clock);
+    for (unsigned row = 1; row <= MOST_ROWS; row++)
+        write_progress(asking, progress_of(state, row));
+}
+
 static void write_row_fields(struct asking *asking, const struct row *row)
 {
     write_4(asking, row->identifier.number);
@@ -84,6 +98,15 @@ static void write_row_places(struct asking *asking, const struct row *row)
     }
 }
 
+static void write_load_places(struct asking *asking, const struct load *load)
+{
+    write_1(asking, load->row_count);
+    for (unsigned row = 1; row <= MOST_ROWS; row++) {
+        write_row_fields(asking, row_of(load, row));
+        write_row_places(asking, row_of(load, row));
+    }
+}
+
 void ask_report(struct asking *asking, const struct asked_file *file)
 {
     asking->reports++;
@@ -96,9 +119,7 @@ void ask_move(struct asking *asking, const struct asked_file *file, const struct
     asking->moves++;
     write_1(asking, 'M');
     write_file(asking, file);
-    write_4(asking, state->clock);
-    for (unsigned row = 1; row <= MOST_ROWS; row++)
-        write_progress(asking, progress_of(state, row));
+    write_state(asking, state);
 }
 
 void ask_check(struct asking *asking, const struct asked_file *file,
@@ -114,11 +135,7 @@ void ask_load(struct asking *asking, const struct load *load)
 {
     asking->loads++;
     write_1(asking, 'W');
-    write_1(asking, load->row_count);
-    for (unsigned row = 1; row <= MOST_ROWS; row++) {
-        write_row_fields(asking, row_of(load, row));
-        write_row_places(asking, row_of(load, row));
-    }
+    write_load_places(asking, load);
 }
 
 void ask_schedule(struct asking *asking, const struct asked_slots *list)
@@ -126,6 +143,60 @@ void ask_schedule(struct asking *asking, const struct asked_slots *list)
     asking->schedules++;
     write_1(asking, 'S');
     write_slots(asking, list);
+}
+
+void ask_load_in_room(struct asking *asking, size_t room, const struct load *load)
+{
+    asking->room_loads++;
+    write_1(asking, 'w');
+    write_2(asking, (unsigned)room);
+    write_load_places(asking, load);
+}
+
+void ask_schedule_in_room(struct asking *asking, size_t room, const struct asked_slots *list)
+{
+    asking->room_schedules++;
+    write_1(asking, 's');
+    write_2(asking, (unsigned)room);
+    write_slots(asking, list);
+}
+
+static void ask_move_in_memory(struct asking *asking, const struct load *load,
+                               const struct bench *state)
+{
+    asking->memory_moves++;
+    write_1(asking, 'N');
+    write_load_places(asking, load);
+    write_state(asking, state);
+}
+
+static void ask_check_in_memory(struct asking *asking, const struct load *load,
+                                const struct asked_slots *list)
+{
+    asking->memory_checks++;
+    write_1(asking, 'D');
+    write_load_places(asking, load);
+    write_slots(asking, list);
+}
+
+void ask_move_of(struct asking *asking, const struct load *load, const struct bench *state)
+{
+    if (asking->in_memory) {
+        ask_move_in_memory(asking, load, state);
+        return;
+    }
+    struct asked_file file = file_of(load);
+    ask_move(asking, &file, state);
+}
+
+void ask_check_of(struct asking *asking, const struct load *load, const struct asked_slots *list)
+{
+    if (asking->in_memory) {
+        ask_check_in_memory(asking, load, list);
+        return;
+    }
+    struct asked_file file = file_of(load);
+    ask_check(asking, &file, list);
 }
 
 void ask_half(struct asking *asking, const struct asked_file *file)

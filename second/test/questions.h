@@ -5,10 +5,13 @@
 #include "asked.h"
 #include "random_load.h"
 
+/* `in_memory` says how ask_move_of and ask_check_of lend a load: as it is, or else as its file. */
 struct asking {
     FILE *out;
     struct dice dice;
+    bool in_memory;
     unsigned long reports, moves, checks, loads, schedules;
+    unsigned long memory_moves, memory_checks, room_loads, room_schedules;
 };
 
 /* A load's records, unchecked; its counts fit its places. */
@@ -17,25 +20,40 @@ struct asked_file file_of(const struct load *load);
 /* A list as the check takes it: the slots of a load's run. */
 struct asked_slots slots_of(const struct load *load);
 
+/* All of so many questions; in memory, where each is long, one in 24 of them, and at least one. */
+unsigned share_of(const struct asking *asking, unsigned count);
+
 void ask_report(struct asking *asking, const struct asked_file *file);
 void ask_move(struct asking *asking, const struct asked_file *file, const struct bench *state);
 void ask_check(struct asking *asking, const struct asked_file *file,
                const struct asked_slots *list);
 void ask_load(struct asking *asking, const struct load *load);
 void ask_schedule(struct asking *asking, const struct asked_slots *list);
+void ask_load_in_room(struct asking *asking, size_t room, const struct load *load);
+void ask_schedule_in_room(struct asking *asking, size_t room, const struct asked_slots *list);
 
-/* The parts of the stream, in order. The first asks all five questions of a load file. */
+/* M or N, and C or D. */
+void ask_move_of(struct asking *asking, const struct load *load, const struct bench *state);
+void ask_check_of(struct asking *asking, const struct load *load, const struct asked_slots *list);
+
+/* The parts of the stream, in order. The first asks the five questions that a load file has. */
 void ask_all_of_file(struct asking *asking, const struct asked_file *file);
 void ask_sound_loads(struct asking *asking);
 void ask_damaged_files(struct asking *asking);
 void ask_twins(struct asking *asking);
 void ask_moves(struct asking *asking);
+void ask_refused_files(struct asking *asking);
 void ask_shapes(struct asking *asking);
+void ask_any_shapes(struct asking *asking);
 void ask_full_clocks(struct asking *asking);
+void ask_all_alterations(struct asking *asking);
 void ask_altered_lists(struct asking *asking);
+void ask_edge_lists(struct asking *asking);
 void ask_exact_lists(struct asking *asking);
 void ask_loads_in_memory(struct asking *asking);
 void ask_schedules(struct asking *asking);
+void ask_faulty_loads(struct asking *asking);
+void ask_rooms(struct asking *asking);
 
 /* A question that stops in the middle of its state; the stream's last. */
 void ask_half(struct asking *asking, const struct asked_file *file);

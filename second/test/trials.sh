@@ -41,9 +41,20 @@ bad() {
     same "bad question: $1" "$2bad" "$(printf "$3" | "$second" answer-trials)"
 }
 
+# empty WHAT ANSWER BYTES ZEROS MORE: the bytes, so many zeros, and more bytes are answered so; the
+# zeros hold the load without rows, which has 1,585 of them.
+empty() {
+    same "no rows: $1" "$2" \
+        "$({ printf "$3"; head -c "$4" /dev/zero; printf "$5"; } | "$second" answer-trials)"
+}
+
+# zeros COUNT: so many zeros in printf's notation.
+zeros() { printf '\\0%.0s' $(seq "$1"); }
+
 if [ "$4" = write ]; then
     written=$trials
 fi
+rows=$(printf ' 0:0:0%.0s' $(seq 24))
 set --
 for name in $order; do
     set -- "$@" "$loads/$name"
@@ -64,21 +75,24 @@ for number in 1 2 3 4 5 6 7 8; do
     met "refused $number" "$(count "^refused $number\$")"
 done
 printf '; moves'
-for outcome in start idle done 'refused 10' 'refused 11'; do
+for outcome in start idle done 'refused 3' 'refused 4' 'refused 5' 'refused 6' 'refused 7' \
+    'refused 10' 'refused 11'; do
     met "$outcome" "$(count "^$outcome .*lamps ")"
 done
 printf '; checks'
-for number in 0 12 13 14 15 16 17; do
+for number in 0 3 4 5 6 7 12 13 14 15 16 17; do
     met "$number" "$(count "^check $number\$")"
 done
 printf '; loads'
 met 0 "$(count '^load 0 [0-9a-f]+$')"
-for number in 3 4 5 6 7; do
+for number in 3 4 5 6 7 9; do
     met "$number" "$(count "^load $number\$")"
 done
 printf '; schedules'
 met 0 "$(count '^schedule 0 [0-9a-f]+$')"
-met 3 "$(count '^schedule 3$')"
+for number in 3 9; do
+    met "$number" "$(count "^schedule $number\$")"
+done
 printf '\n'
 same 'trials: the last question is cut short' bad "$(tail -n 1 "$trials/stdout")"
 
@@ -110,6 +124,35 @@ bad 'C, count 257' '' 'C\0\0\001\001'
 bad 'C, slots cut short' '' 'C\0\0\001\0\001\001\0\0\0'
 bad 'W, no row' '' 'W\0'
 bad 'S, count 257' '' 'S\001\001'
+bad 'N, no row' '' 'N\0'
+bad 'D, no row' '' 'D\0'
+bad 'w, half a room' '' 'w\0'
+bad 'w, room 4,097' '' 'w\001\020'
+bad 'w, no row' '' 'w\010\0\0'
+bad 's, room 4,097' '' 's\001\020\0\0'
+bad 's, no count' '' 's\004\0'
+bad 's, count 257' '' 's\004\0\001\001'
+bad 's, slots cut short' '' 's\024\0\001\0\001\001\0\0\0'
+empty 'W, a byte too few' bad W 1584 ''
+empty 'N, no state' bad N 1585 ''
+empty 'N, a state cut short' bad N 1804 ''
+empty 'N, fresh' "done lamps 0 count 0 clock 0$rows" N 1805 ''
+empty 'N, a clock of 255' "done lamps 0 count 0 clock 255$rows" N 1585 "\\377$(zeros 219)"
+empty 'N, 25 rows' "refused 3 lamps 0 count 0 clock 0$rows" 'N\031' 1804 ''
+empty 'D, no count' bad D 1585 ''
+empty 'D, no slots' 'check 0' D 1587 ''
+empty 'D, one slot' 'check 12' D 1585 '\001\0\0\0\0\0\0\0'
+empty 'D, count 257' bad D 1585 '\001\001'
+empty 'D, 25 rows, one slot' 'check 3' 'D\031' 1584 '\001\0\0\0\0\0\0\0'
+empty 'w, room 0' 'load 9' 'w\0\0' 1585 ''
+empty 'w, room 7' 'load 9' 'w\007\0' 1585 ''
+empty 'w, room 8' 'load 0 4c440100454e0000' 'w\010\0' 1585 ''
+empty 'w, room 10' 'load 0 4c440100454e0000a5a5' 'w\012\0' 1585 ''
+empty 'w, 25 rows, room 0' 'load 3' 'w\0\0\031' 1584 ''
+empty 's, room 3' 'schedule 9' 's\003\0' 2 ''
+empty 's, room 4' 'schedule 0 53430000' 's\004\0' 2 ''
+empty 's, room 6' 'schedule 0 53430000a5a5' 's\006\0' 2 ''
+empty 's, 193 slots, room 0' 'schedule 3' 's\0\0\301\0' 1158 ''
 same 'nothing asked' '' "$("$second" answer-trials < /dev/null)"
 same 'a file of 4,096 bytes' 'refused 2
 .' "$({ printf 'F\0\020'; head -c 4096 /dev/zero; } | "$second" answer-trials)"
