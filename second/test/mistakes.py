@@ -344,6 +344,103 @@ MISTAKES = [
      "        return ROW_LATE;\n"
      "    if (is_window_late(row, track, slot))\n"
      "        return WINDOW_LATE;\n"),
+    ("the state asked before the load", "bench.c",
+     "enum refusal refusal = check_load(load);\n"
+     "    if (refusal == ACCEPTED && !is_shaped(load, &state))\n"
+     "        refusal = STATE_SHAPE;\n",
+     "enum refusal refusal = is_shaped(load, &state) ? check_load(load) : STATE_SHAPE;\n"),
+    ("a full clock asked before the load", "bench.c",
+     "enum refusal refusal = check_load(load);\n    if (refusal == ACCEPTED && !is_shaped",
+     "enum refusal refusal = is_shaped(load, &state) && !is_all_finished(load, &state)\n"
+     "        && state.clock == LAST_MOMENT ? CLOCK_FULL : check_load(load);\n"
+     "    if (refusal == ACCEPTED && !is_shaped"),
+    ("the load not asked by a move", "bench.c",
+     "enum refusal refusal = check_load(load);\n    if (refusal == ACCEPTED && !is_shaped",
+     "enum refusal refusal = ACCEPTED;\n    if (refusal == ACCEPTED && !is_shaped"),
+    ("a faulty load takes the state away", "bench.c",
+     "return (struct move){.refusal = refusal, .state = state};",
+     "return refusal == STATE_SHAPE ? (struct move){.refusal = refusal, .state = state}\n"
+     "                                      : (struct move){.refusal = refusal};"),
+    ("a faulty load is idled over", "bench.c",
+     "    if (refusal != ACCEPTED)\n        return (struct move){.refusal = refusal",
+     "    state.clock += refusal != ACCEPTED && refusal != STATE_SHAPE;\n"
+     "    if (refusal != ACCEPTED)\n        return (struct move){.refusal = refusal"),
+    ("the slot count asked before the load", "schedule.c",
+     "enum refusal refusal = check_load(load);\n"
+     "    if (refusal == ACCEPTED && count != steps_of(load))\n"
+     "        refusal = SLOT_COUNT;\n",
+     "enum refusal refusal = count != steps_of(load) ? SLOT_COUNT : check_load(load);\n"),
+    ("the slots asked before the load", "schedule.c",
+     "enum refusal refusal = check_load(load);\n"
+     "    if (refusal == ACCEPTED && count != steps_of(load))\n"
+     "        refusal = SLOT_COUNT;\n"
+     "    for (size_t place = 0; refusal == ACCEPTED && place < count; place++) {\n"
+     "        refusal = check_slot(load, &tracks, &slots[place]);\n"
+     "        if (refusal == ACCEPTED)\n"
+     "            follow_slot(load, &tracks, &slots[place]);\n"
+     "    }\n",
+     "enum refusal refusal = count != steps_of(load) ? check_load(load) : ACCEPTED;\n"
+     "    if (refusal == ACCEPTED && count != steps_of(load))\n"
+     "        refusal = SLOT_COUNT;\n"
+     "    for (size_t place = 0; refusal == ACCEPTED && place < count; place++) {\n"
+     "        refusal = check_slot(load, &tracks, &slots[place]);\n"
+     "        if (refusal == ACCEPTED)\n"
+     "            follow_slot(load, &tracks, &slots[place]);\n"
+     "    }\n"
+     "    if (refusal == ACCEPTED)\n"
+     "        refusal = check_load(load);\n"),
+    ("the load not asked by the check", "schedule.c",
+     "enum refusal refusal = check_load(load);",
+     "enum refusal refusal = ACCEPTED;"),
+    ("the room asked before the load", "load_file.c",
+     "enum refusal refusal = check_load(load);",
+     "enum refusal refusal = load->row_count <= MOST_ROWS && room < load_bytes(load)\n"
+     "        ? OUTPUT_SHORT : check_load(load);"),
+    ("no room asked before the load", "load_file.c",
+     "enum refusal refusal = check_load(load);",
+     "enum refusal refusal = room == 0 ? OUTPUT_SHORT : check_load(load);"),
+    ("a load's exact room is short", "load_file.c",
+     "room < load_bytes(load)",
+     "room <= load_bytes(load) && room < MOST_LOAD_BYTES"),
+    ("a room one short is enough for a load", "load_file.c",
+     "room < load_bytes(load)",
+     "room + 1 < load_bytes(load)"),
+    ("room for the largest load is asked", "load_file.c",
+     "room < load_bytes(load)",
+     "room < MOST_LOAD_BYTES"),
+    ("bytes past a load's file set to 0", "load_file.c",
+     "    *written = load_bytes(load);\n",
+     "    *written = load_bytes(load);\n    memset(bytes + *written, 0, room - *written);\n"),
+    ("a load's file at the room's end", "load_file.c",
+     "    put_load(bytes, load);\n",
+     "    put_load(bytes + room - load_bytes(load), load);\n"),
+    ("the room asked before 193 slots", "schedule.c",
+     "    if (count > MOST_SLOTS)\n"
+     "        return OUT_OF_RANGE;\n"
+     "    if (room < SCHEDULE_HEADER_BYTES + count * SLOT_BYTES)\n"
+     "        return OUTPUT_SHORT;\n",
+     "    if (room < SCHEDULE_HEADER_BYTES + count * SLOT_BYTES)\n"
+     "        return OUTPUT_SHORT;\n"
+     "    if (count > MOST_SLOTS)\n"
+     "        return OUT_OF_RANGE;\n"),
+    ("no room asked before 193 slots", "schedule.c",
+     "    if (count > MOST_SLOTS)\n",
+     "    if (room < SCHEDULE_HEADER_BYTES)\n"
+     "        return OUTPUT_SHORT;\n"
+     "    if (count > MOST_SLOTS)\n"),
+    ("a schedule's exact room is short", "schedule.c",
+     "room < SCHEDULE_HEADER_BYTES + count * SLOT_BYTES",
+     "room <= SCHEDULE_HEADER_BYTES + count * SLOT_BYTES && room < MOST_SCHEDULE_BYTES"),
+    ("a room one short is enough for a schedule", "schedule.c",
+     "room < SCHEDULE_HEADER_BYTES + count * SLOT_BYTES",
+     "room + 1 < SCHEDULE_HEADER_BYTES + count * SLOT_BYTES"),
+    ("room for the largest schedule is asked", "schedule.c",
+     "room < SCHEDULE_HEADER_BYTES + count * SLOT_BYTES",
+     "room < MOST_SCHEDULE_BYTES"),
+    ("bytes past a schedule set to 0", "schedule.c",
+     "    *written = SCHEDULE_HEADER_BYTES + count * SLOT_BYTES;\n",
+     "    *written = SCHEDULE_HEADER_BYTES + count * SLOT_BYTES;\n"
+     "    memset(bytes + *written, 0, room - *written);\n"),
     ("the run skips to the next release", "bench.c",
      "        run.refusal = move.refusal;\n        if (move.outcome == START) {\n",
      "        run.refusal = move.refusal;\n"
