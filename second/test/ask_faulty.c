@@ -1,5 +1,5 @@
-/* Faulty loads lent in memory to the move, the check and the writing, beside states, slots and rooms
-   that are refused for themselves: the load's number (3 to 7) comes first. */
+/* Faulty loads lent in memory to the move, the check and the writing, beside states, slots and
+   rooms that are refused for themselves: the load's number (3 to 7) comes first. */
 #include <stddef.h>
 
 #include "questions.h"

@@ -1,4 +1,5 @@
-/* Single moves from states that moves lead to and from others, of loads lent as files or in memory. */
+/* Single moves from states that moves lead to and from others, of loads lent as files or in
+   memory. */
 #include <stddef.h>
 
 #include "questions.h"

@@ -161,42 +161,32 @@ void ask_schedule_in_room(struct asking *asking, size_t room, const struct asked
     write_slots(asking, list);
 }
 
-static void ask_move_in_memory(struct asking *asking, const struct load *load,
-                               const struct bench *state)
+/* The letter for a load's file and the one for the load in memory; then what is lent. */
+static void write_lent(struct asking *asking, const char *letters, const struct load *load)
 {
-    asking->memory_moves++;
-    write_1(asking, 'N');
-    write_load_places(asking, load);
-    write_state(asking, state);
-}
-
-static void ask_check_in_memory(struct asking *asking, const struct load *load,
-                                const struct asked_slots *list)
-{
-    asking->memory_checks++;
-    write_1(asking, 'D');
-    write_load_places(asking, load);
-    write_slots(asking, list);
+    write_1(asking, (unsigned char)letters[asking->in_memory]);
+    if (asking->in_memory) {
+        write_load_places(asking, load);
+        return;
+    }
+    struct asked_file file = file_of(load);
+    write_file(asking, &file);
 }
 
 void ask_move_of(struct asking *asking, const struct load *load, const struct bench *state)
 {
-    if (asking->in_memory) {
-        ask_move_in_memory(asking, load, state);
-        return;
-    }
-    struct asked_file file = file_of(load);
-    ask_move(asking, &file, state);
+    asking->moves += !asking->in_memory;
+    asking->memory_moves += asking->in_memory;
+    write_lent(asking, "MN", load);
+    write_state(asking, state);
 }
 
 void ask_check_of(struct asking *asking, const struct load *load, const struct asked_slots *list)
 {
-    if (asking->in_memory) {
-        ask_check_in_memory(asking, load, list);
-        return;
-    }
-    struct asked_file file = file_of(load);
-    ask_check(asking, &file, list);
+    asking->checks += !asking->in_memory;
+    asking->memory_checks += asking->in_memory;
+    write_lent(asking, "CD", load);
+    write_slots(asking, list);
 }
 
 void ask_half(struct asking *asking, const struct asked_file *file)
