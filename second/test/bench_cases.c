@@ -113,6 +113,37 @@ static void tie_cases(struct tally *tally)
     same(tally, "row 2 ends its window", 2, move_of(&load, state).slot.row);
 }
 
+/* 1 w0 1 (limit 9) / 1: at 1 row 1's step 2 is a candidate too, but row 2's step is a first one. */
+static void order_cases(struct tally *tally)
+{
+    struct load load = {2, {
+        {{101}, {201}, 0, 1000000, 2, 1, {{1, 0}, {1, 0}}, {{1, 2, 9}}},
+        {{102}, {202}, 0, 1000000, 1, 0, {{1, 0}}, {{0, 0, 0}}},
+    }};
+    struct move move = move_of(&load, (struct bench){1, {{1, 1, 0}}});
+    same(tally, "by step number, then row", 2, move.slot.row);
+    same(tally, "row 1's window stays open", 1, (long)move.lamps);
+}
+
+/* 1 w0 5 / 1 and 2 / 1, windows open since 0 and 1, the clock at 2: the row that starts. */
+static unsigned starts_at_2(uint16_t limit_1, uint16_t wait_2, uint16_t limit_2)
+{
+    struct load load = {3, {
+        {{101}, {201}, 0, 1000000, 2, 1, {{1, 0}, {5, 0}}, {{1, 2, limit_1}}},
+        {{102}, {202}, 0, 1000000, 2, 1, {{1, wait_2}, {2, 0}}, {{1, 2, limit_2}}},
+        {{103}, {203}, 0, 1000000, 1, 0, {{1, 0}}, {{0, 0, 0}}},
+    }};
+    return move_of(&load, (struct bench){2, {{1, 1, 0}, {1, 2, 1}}}).slot.row;
+}
+
+/* Row 2 is due before row 1 in both: planned first it is finished at 5, and by row it would be late
+   at 10; with wait 13 it is finished at 17 and row 1 is late at 22, and by row neither would be. */
+static void due_cases(struct tally *tally)
+{
+    same(tally, "dues 30 and 9", 3, starts_at_2(30, 0, 8));
+    same(tally, "dues 21 and 20", 1, starts_at_2(21, 13, 19));
+}
+
 void bench_cases(struct tally *tally)
 {
     shape_cases(tally);
@@ -120,4 +151,6 @@ void bench_cases(struct tally *tally)
     mistake_cases(tally);
     stack_cases(tally);
     tie_cases(tally);
+    order_cases(tally);
+    due_cases(tally);
 }

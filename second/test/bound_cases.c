@@ -42,6 +42,21 @@ static void embedded_place_cases(struct tally *tally)
     same(tally, "25 costs, embedded 3, W 5 and 40 - 1", 72, (long)bound);
 }
 
+/* 1 w9 1 / 1 w8 1 / 2 w0 6 / 6 w0 2: row 1's others give 1, 1, 2, 6, 6, 2, and the three smallest
+   are 4. The smaller of each pair would be 1, 2 and 2. */
+static void smallest_costs_cases(struct tally *tally)
+{
+    uint32_t bound;
+    struct load load = {4, {
+        {{101}, {201}, 0, 1000000, 2, 0, {{1, 9}, {1, 0}}, {{0, 0, 0}}},
+        {{102}, {202}, 0, 1000000, 2, 0, {{1, 8}, {1, 0}}, {{0, 0, 0}}},
+        {{103}, {203}, 0, 1000000, 2, 0, {{2, 0}, {6, 0}}, {{0, 0, 0}}},
+        {{104}, {204}, 0, 1000000, 2, 0, {{6, 0}, {2, 0}}, {{0, 0, 0}}},
+    }};
+    bound_of(&load, &bound);
+    same(tally, "20 costs, W 9 - 4", 25, (long)bound);
+}
+
 /* 1 w4 2 w50 7 (window 1 to 2) cut to one step: its window stays whole, and no wait follows. */
 static void cut_cases(struct tally *tally)
 {
@@ -88,5 +103,6 @@ void bound_cases(struct tally *tally)
     edge_cases(tally);
     row_bound_cases(tally);
     embedded_place_cases(tally);
+    smallest_costs_cases(tally);
     cut_cases(tally);
 }

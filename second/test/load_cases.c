@@ -128,6 +128,7 @@ static void window_cases(struct tally *tally)
     SPOILED(7, l.rows[0].windows[0].limit = 3);
     SPOILED(0, l.rows[0].windows[1].limit = 5);
     SPOILED(7, l.rows[0].windows[1].limit = 4);
+    SPOILED(0, l.rows[0].windows[1].limit = UINT16_MAX);
     SPOILED(6, (l.rows[0].window_count = 3, l.rows[0].windows[2] = (struct window){4, 5, 9}));
 }
 

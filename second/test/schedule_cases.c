@@ -61,9 +61,23 @@ static void order_cases(struct tally *tally)
     CHECKED(14, {1, 1, 0}, {1, 2, 6}, {3, 1, 7}, {3, 2, 11}, {2, 1, 12});
 }
 
+/* 2 w3 1 / 3: row 1's step 2 may start at 5. */
+static void early_cases(struct tally *tally)
+{
+    struct load load = {2, {
+        {{101}, {201}, 0, 1000000, 2, 0, {{2, 3}, {1, 0}}, {{0, 0, 0}}},
+        {{102}, {202}, 0, 1000000, 1, 0, {{3, 0}}, {{0, 0, 0}}},
+    }};
+    CHECKED(0, {1, 1, 0}, {2, 1, 2}, {1, 2, 5});
+    CHECKED(14, {1, 1, 0}, {2, 1, 2}, {1, 2, 4});
+    CHECKED(15, {1, 1, 0}, {1, 2, 4}, {2, 1, 5});
+    CHECKED(14, {1, 1, 0}, {1, 2, 5}, {2, 1, 5});
+}
+
 void schedule_cases(struct tally *tally)
 {
     writing_cases(tally);
     slot_cases(tally);
     order_cases(tally);
+    early_cases(tally);
 }
