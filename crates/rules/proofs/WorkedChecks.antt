@@ -20,6 +20,7 @@ worked-checks =
       before-wait = refl;
       early-first = refl;
       window-late = refl;
+      second-window = refl;
       window-late-first = refl;
       row-late = refl;
       row-ends = refl;

@@ -35,8 +35,11 @@ worked-plan =
       too-late = refl;
       goes-on = refl;
       goes-on-late = refl;
+      second-window = refl;
       own-ended = refl;
       own-begun = refl;
+      refused-now = refl;
+      a-tick-later = refl;
       lost = refl;
     }
 

@@ -29,6 +29,12 @@ behind first second third = slot first 1 1 ∷ slot second 1 2 ∷ slot third 2 
 abbrev pub loose : Load
 loose = loadOf (row 1 (1 w 0 ∷ 1 w 0 ∷ []) [] ∷ row 2 (1 w 0 ∷ []) [] ∷ [])
 
+-- one row of four steps in two windows
+abbrev pub twice : Load
+twice =
+    loadOf
+    (row 1 (1 w 0 ∷ 1 w 0 ∷ 1 w 0 ∷ 1 w 0 ∷ []) (window 1 2 2 ∷ window 3 4 2 ∷ []) ∷ [])
+
 -- the check
 pub record WorkedChecks : Type 0 where
   -- yes, with everything at its last: a slot starts as the one before ends, at its phase, as its
@@ -76,6 +82,12 @@ pub record WorkedChecks : Type 0 where
       ≡ 15 ∷ []
   -- 16, "it ends a window late": at 10, opened at 1 with a limit of 8
   pub window-late : findings pair (between 1 3 8 ∷ []) ≡ 16 ∷ []
+  -- of two windows the second is asked for too: 2 + 2 is over at 5
+  pub second-window :
+      findings twice
+      ((slot 0 1 1 ∷ slot 1 1 2 ∷ slot 2 1 3 ∷ slot 3 1 4 ∷ [])
+      ∷ (slot 0 1 1 ∷ slot 1 1 2 ∷ slot 2 1 3 ∷ slot 4 1 4 ∷ [])
+      ∷ []) ≡ 0 ∷ 16 ∷ []
   -- 16 comes before 17: at 13 it ends the window and the row late
   pub window-late-first : findings pair (between 1 3 11 ∷ []) ≡ 16 ∷ []
   -- 17, "it ends its row late": row 2 ends at 6, and its deadline is 5

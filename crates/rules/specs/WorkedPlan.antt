@@ -21,6 +21,14 @@ held n first wait second limit =
 abbrev pub single : ℕ → ℕ → Row
 single n cost = row n (cost w 0 ∷ []) []
 
+-- row 1 with two windows one after the other, and a row with one step
+abbrev pub twice : Load
+twice =
+    loadOf
+    (row 1 (1 w 0 ∷ 1 w 0 ∷ 1 w 0 ∷ 1 w 0 ∷ []) (window 1 2 2 ∷ window 3 4 9 ∷ [])
+    ∷ single 2 1
+    ∷ [])
+
 -- two rows with windows of these limits, and a row with one step
 abbrev pub three : ℕ → ℕ → Load
 three limit₁ limit₂ = loadOf (held 1 1 0 3 limit₁ ∷ held 2 1 0 2 limit₂ ∷ single 3 1 ∷ [])
@@ -64,11 +72,19 @@ pub record WorkedPlan : Type 0 where
   pub goes-on-late :
       answer (loadOf (row 1 (1 w 0 ∷ 1 w 4 ∷ 1 w 0 ∷ []) (window 1 3 8 ∷ []) ∷ single 2 2 ∷ [])) one
       ≡ Start (slot 1 1 2)
+  -- the window that is open is asked for, 2 + 9, and not the one before it, 2 + 2
+  pub second-window : answer twice (state 4 (has 3 3 2 ∷ [])) ≡ Start (slot 4 2 1)
   -- "as things stand at the candidate's end": a window that the candidate ends is open no more, and
   -- is not asked for, though it is late
   pub own-ended : answer (loadOf (held 1 1 0 1 2 ∷ [])) (state 5 (has 1 5 0 ∷ []))
       ≡ Start (slot 5 1 2)
   -- and one that it begins is open since its start: after row 1 it is finished at 4, due at 1 + 2
   pub own-begun : answer (loadOf (held 1 1 0 1 3 ∷ held 2 1 0 1 2 ∷ [])) one ≡ Start (slot 1 1 2)
+  -- "a refused first step may pass a tick later, as its own window then ends later": at 1 row 2 is
+  -- due at 7 and finished at 8, at 2 due at 8; nothing is released before 6
+  pub refused-now : answer (loadOf (held 1 1 5 1 7 ∷ held 2 1 0 1 6 ∷ [])) one ≡ Idle
+  pub a-tick-later :
+      answer (loadOf (held 1 1 5 1 7 ∷ held 2 1 0 1 6 ∷ [])) (state 2 (has 1 1 0 ∷ []))
+      ≡ Start (slot 2 2 1)
   -- a window that cannot be kept lets nothing pass: row 1's wait is over at 10, and it was due at 7
   pub lost : answer (loadOf (held 1 1 5 1 7 ∷ single 2 1 ∷ [])) (state 5 (has 1 5 0 ∷ [])) ≡ Idle

@@ -34,8 +34,8 @@ pub record WorkedReady : Type 0 where
       (loadOf (row 1 (2 w 3 ∷ 1 w 0 ∷ 1 w 0 ∷ []) [] ∷ []))
       (state 4 (has 1 2 0 ∷ []) ∷ state 5 (has 1 2 0 ∷ []) ∷ [])
       ≡ Idle ∷ Start (slot 5 1 2) ∷ []
-  -- "if every row has finished all its steps of lower number": row 1's step is ready, but row 2,
-  -- not yet released, has not finished step 1, or of its two steps the second
+  -- "if every row has finished all its steps of lower number": row 1's next step is ready, but row
+  -- 2 has not finished step 1, as it is not released, or has not finished the second of two
   pub allowed :
       answers
       (loadOf
