@@ -34,7 +34,7 @@ ghost use Rattle.lines.specs.Lines.{
   printed,
   rowLineOf,
 };
-ghost use Rattle.lines.specs.Calls.{firstMost, textPlaces};
+ghost use Rattle.lines.specs.Calls.{firstMost};
 ghost use Rattle.lines.specs.Parts.{Put, Scheduled, mostSlots, rowsEnd};
 
 // Gives when a slot ends that names a step of the load.
@@ -62,8 +62,7 @@ fn last_end(load: Load, slots: [Slot; PLACES], count: usize) -> u32
 fn put_slots(text: &mut [u8], at: usize, slots: [Slot; PLACES], count: usize) -> usize
     requires { ⌜ (at ≤ rowsEnd) × (count ≤ mostSlots) ⌝ }
     ensures { λ r. ⌜ Put (now (text .entry)) at
-        (joinTo (λ k. slotLine (slotAt slots k)) count) (now (text .exit)) r
-        × (r ≤ textPlaces) ⌝ }
+        (joinTo (λ k. slotLine (slotAt slots k)) count) (now (text .exit)) r ⌝ }
 {
     let mut next = at;
     for k in 0..count {
@@ -77,7 +76,7 @@ fn put_rows_with(text: &mut [u8], at: usize, load: Load, margins: [i32; MOST_ROW
     requires { ⌜ (at ≤ firstMost) × (load .rows ≤ mostRows) ⌝ }
     ensures { λ r. ⌜ Put (now (text .entry)) at
         (joinTo (λ i. rowLineOf (shown i) (rowAt load i) (marginIn margins i)) (load .rows))
-        (now (text .exit)) r × (r ≤ rowsEnd) ⌝ }
+        (now (text .exit)) r ⌝ }
 {
     let rows = load.rows as usize;
     let mut next = at;
@@ -91,7 +90,7 @@ fn put_rows_with(text: &mut [u8], at: usize, load: Load, margins: [i32; MOST_ROW
 fn put_rows(text: &mut [u8], at: usize, load: Load) -> usize
     requires { ⌜ (checkLoad load ≡ Checked.Good) × (at ≤ firstMost) ⌝ }
     ensures { λ r. ⌜ Put (now (text .entry)) at
-        (joinTo (rowLine load) (load .rows)) (now (text .exit)) r × (r ≤ rowsEnd) ⌝ }
+        (joinTo (rowLine load) (load .rows)) (now (text .exit)) r ⌝ }
 {
     let margined = margins_of(load);
     let margins = margined.margins;
@@ -102,7 +101,7 @@ fn put_rows(text: &mut [u8], at: usize, load: Load) -> usize
 fn put_head(text: &mut [u8], load: Load, slots: [Slot; PLACES], count: usize) -> usize
     requires { ⌜ Scheduled load slots count ⌝ }
     ensures { λ r. ⌜ Put (now (text .entry)) 0
-        (loadLine (viewOf load) (schedule (viewOf load))) (now (text .exit)) r × (r ≤ firstMost) ⌝ }
+        (loadLine (viewOf load) (schedule (viewOf load))) (now (text .exit)) r ⌝ }
 {
     let end = last_end(load, slots, count);
     let bounded = bound_of(load);
@@ -121,7 +120,7 @@ fn put_head(text: &mut [u8], load: Load, slots: [Slot; PLACES], count: usize) ->
 fn put_lines(text: &mut [u8], load: Load, slots: [Slot; PLACES], count: usize) -> usize
     requires { ⌜ Scheduled load slots count ⌝ }
     ensures { λ r. ⌜ Put (now (text .entry)) 0
-        (loadLines load) (now (text .exit)) r × (r ≤ textPlaces) ⌝ }
+        (loadLines load) (now (text .exit)) r ⌝ }
 {
     let rows_at = put_head(text, load, slots, count);
     let slots_at = put_rows(text, rows_at, load);
@@ -132,7 +131,7 @@ fn put_lines(text: &mut [u8], load: Load, slots: [Slot; PLACES], count: usize) -
 fn put_load(text: &mut [u8], load: Load) -> usize
     requires { ⌜ checkLoad load ≡ Checked.Good ⌝ }
     ensures { λ r. ⌜ Put (now (text .entry)) 0
-        (loadLines load) (now (text .exit)) r × (r ≤ textPlaces) ⌝ }
+        (loadLines load) (now (text .exit)) r ⌝ }
 {
     let ran = run(load);
     let slots = ran.slots;
@@ -142,7 +141,7 @@ fn put_load(text: &mut [u8], load: Load) -> usize
 // Puts what is printed for a load file: the lines of its load, or the one line of its refusal.
 pub fn put_printed(text: &mut [u8], bytes: &[u8]) -> usize
     ensures { λ r. ⌜ Put (now (text .entry)) 0
-        (printed (now (bytes .entry))) (now (text .exit)) r × (r ≤ textPlaces) ⌝ }
+        (printed (now (bytes .entry))) (now (text .exit)) r ⌝ }
 {
     let reading = read_load(bytes);
     let answer = reading.answer;

@@ -8,9 +8,9 @@ use load::Row;
 use refusals::Refusal;
 use refusals::number_of;
 use rules::Slot;
-ghost use Prim.Native.Nat.{_+_, _≤_};
+ghost use Prim.Native.Nat.{_≤_};
 ghost use Rattle.lines.specs.Lines.{slotLine, refusedLine, firstLineOf, rowLineOf};
-ghost use Rattle.lines.specs.Calls.{firstMost, rowMost, slotMost, textPlaces};
+ghost use Rattle.lines.specs.Calls.{textPlaces};
 ghost use Rattle.lines.specs.Parts.{Put};
 
 // Puts the first line: rows, steps, end of the last step, bound, verdict.
@@ -23,7 +23,7 @@ pub fn put_first(
     verdict: bool,
 ) -> usize
     ensures { λ r. ⌜ Put (now (text .entry)) 0
-        (firstLineOf rows steps end bound verdict) (now (text .exit)) r × (r ≤ firstMost) ⌝ }
+        (firstLineOf rows steps end bound verdict) (now (text .exit)) r ⌝ }
 {
     let mut at = put_bytes(text, 0, b"load");
     at = put_number(text, at, rows as u32);
@@ -38,7 +38,7 @@ pub fn put_first(
 pub fn put_row(text: &mut [u8], at: usize, number: u32, row: Row, margin: i32) -> usize
     requires { ⌜ at ≤ textPlaces ⌝ }
     ensures { λ r. ⌜ Put (now (text .entry)) at
-        (rowLineOf number row margin) (now (text .exit)) r × (r ≤ at + rowMost) ⌝ }
+        (rowLineOf number row margin) (now (text .exit)) r ⌝ }
 {
     let mut next = put_bytes(text, at, b"row");
     next = put_number(text, next, number);
@@ -52,7 +52,7 @@ pub fn put_row(text: &mut [u8], at: usize, number: u32, row: Row, margin: i32) -
 pub fn put_slot(text: &mut [u8], at: usize, slot: Slot) -> usize
     requires { ⌜ at ≤ textPlaces ⌝ }
     ensures { λ r. ⌜ Put (now (text .entry)) at
-        (slotLine slot) (now (text .exit)) r × (r ≤ at + slotMost) ⌝ }
+        (slotLine slot) (now (text .exit)) r ⌝ }
 {
     let mut next = put_bytes(text, at, b"slot");
     next = put_number(text, next, slot.start);
@@ -64,7 +64,7 @@ pub fn put_slot(text: &mut [u8], at: usize, slot: Slot) -> usize
 // Puts the one line of a refused file: the number.
 pub fn put_refused(text: &mut [u8], refusal: Refusal) -> usize
     ensures { λ r. ⌜ Put (now (text .entry)) 0
-        (refusedLine refusal) (now (text .exit)) r × (r ≤ textPlaces) ⌝ }
+        (refusedLine refusal) (now (text .exit)) r ⌝ }
 {
     let at = put_bytes(text, 0, b"refused");
     let next = put_number(text, at, number_of(refusal));

@@ -19,7 +19,7 @@ returns c =
     let made = c .before in
     let known = made .before .before in
     let lines = printed (known .before .args .bytes .now) in
-    let put = made .put-printed .ensures .0 in
+    let put = made .put-printed .ensures in
     let size : made .put-printed .result ≡ length lines = omega (arith, put .place-is) in
     text-held lines _ _ (put .text-is) size (printed-le _ (bytes known))
 

@@ -12,13 +12,11 @@ returns c =
     let bounded = judged .before in
     let last = bounded .before in
     let start = last .before .before in
-    let a = start .args in (
-      put-same
-          (firstLine-told (a .load) (a .slots) (a .count) _ _ _ (start .pre) (last .last-end .ensures)
-          (bounded .bound-of .ensures) (judged .verdict-of .ensures))
-          (made .put-first .ensures .0),
-      made .put-first .ensures .1,
-    )
+    let a = start .args in
+    put-same
+    (firstLine-told (a .load) (a .slots) (a .count) _ _ _ (start .pre) (last .last-end .ensures)
+    (bounded .bound-of .ensures) (judged .verdict-of .ensures))
+    (made .put-first .ensures)
 
 pub put-head-spec : {M : Type 1} → statement M
 put-head-spec =

@@ -4,21 +4,40 @@ use native.Mathlib.Omega.{arith}
 use borrow.Author.Needs.{needs}
 use lib.ListN.{length}
 use Rattle.counting.specs.Lists.{joinIn}
-use Rattle.lines.specs.Lines.{slotLine, loadLines}
+use Rattle.load.specs.View.{viewOf}
+use Rattle.rules.specs.Run.{schedule}
+use Rattle.lines.specs.Lines.{rowLine, slotLine, loadLines}
+use Rattle.lines.specs.Calls.{rowMost}
 use Rattle.lines.proofs.PutLaws.{put-more, put-same}
-use Rattle.lines.proofs.ScheduledLaws.{joinIn-taken}
+use Rattle.lines.proofs.ScheduledLaws.{joinIn-taken, rows-few}
+use Rattle.lines.proofs.LengthLaws.{loadLine-le, rowLine-le, joinTo-le}
 use Rattle.lines.proofs.gather.put_lines.Statement.{statement}
 use Rattle.lines.proofs.gather.put_lines.Tie as tie
 
 rows-ask : tie.Need-put-rows-requires
 rows-ask c κs =
     let head = c .before .before .before in
-    (head .before .before .before .pre .accepted, head .put-head .ensures .1)
+    let start = head .before .before .before in
+    let L = viewOf (start .args .load) in
+    (start .pre .accepted, omega (arith, head .put-head .ensures .place-is, loadLine-le L (schedule L)))
 
 slots-ask : tie.Need-put-slots-requires
 slots-ask c κs =
     let rows = c .before .before .before in
-    (rows .put-rows .ensures .1, rows .before .before .before .before .before .before .before .pre .few)
+    let head = rows .before .before .before .before in
+    let start = head .before .before .before in
+    let load = start .args .load in
+    let L = viewOf load in (
+      omega (
+        arith,
+        head .put-head .ensures .place-is,
+        loadLine-le L (schedule L),
+        rows .put-rows .ensures .place-is,
+        joinTo-le (rowLine load) rowMost (load .rows) (rowLine-le load),
+        rows-few _ _ _ (start .pre),
+      ),
+      start .pre .few,
+    )
 
 returns : tie.Need-returns
 unfolding loadLines
@@ -30,11 +49,9 @@ returns c =
     let long : length (start .args .slots) ≡ 256 = start .good .1 .1 .0 .1 .0 .1 in
     let lines =
     joinIn-taken slotLine (start .args .slots) (start .args .count) (omega (arith, start .pre .few))
-    ∙ ap (joinIn slotLine) (start .pre .taken) in (
-      put-more (put-more (head .put-head .ensures .0) (rows .put-rows .ensures .0))
-          (put-same lines (slots .put-slots .ensures .0)),
-      slots .put-slots .ensures .1,
-    )
+    ∙ ap (joinIn slotLine) (start .pre .taken) in
+    put-more (put-more (head .put-head .ensures) (rows .put-rows .ensures))
+    (put-same lines (slots .put-slots .ensures))
 
 pub put-lines-spec : {M : Type 1} → statement M
 put-lines-spec =

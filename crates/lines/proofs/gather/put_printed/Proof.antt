@@ -19,21 +19,17 @@ accepted c κs =
 good : tie.Need-returns
 good c =
     let made = c .before .before in
-    let told = made .before .before in (
-      put-same (printed-good _ _ (told .before .before .read-load .ensures) (told .enum-told .given .1))
-          (made .put-load .ensures .0),
-      made .put-load .ensures .1,
-    )
+    let told = made .before .before in
+    put-same (printed-good _ _ (told .before .before .read-load .ensures) (told .enum-told .given .1))
+    (made .put-load .ensures)
 
 refused : tie.Need-returns-2
 refused c =
     let made = c .before .before in
     let told = made .before .before in
-    let read = told .before .before .before in (
-      put-same (printed-refused _ _ (read .read-load .ensures) _ (told .before .answer .given .1))
-          (made .put-refused .ensures .0),
-      made .put-refused .ensures .1,
-    )
+    let read = told .before .before .before in
+    put-same (printed-refused _ _ (read .read-load .ensures) _ (told .before .answer .given .1))
+    (made .put-refused .ensures)
 
 pub put-printed-spec : {M : Type 1} → statement M
 put-printed-spec =

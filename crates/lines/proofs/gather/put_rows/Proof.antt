@@ -16,11 +16,9 @@ returns : tie.Need-returns
 returns c =
     let made = c .before .before in
     let told = made .before .before .before in
-    let start = told .before .before in (
-      put-same (rowLines-told (start .args .load) (start .pre .0) _ (told .margins-of .ensures))
-          (made .put-rows-with .ensures .0),
-      made .put-rows-with .ensures .1,
-    )
+    let start = told .before .before in
+    put-same (rowLines-told (start .args .load) (start .pre .0) _ (told .margins-of .ensures))
+    (made .put-rows-with .ensures)
 
 pub put-rows-spec : {M : Type 1} → statement M
 put-rows-spec =

@@ -17,6 +17,7 @@ use Rattle.bound.proofs.SignLaws.{each-fits}
 use Rattle.lines.specs.Lines.{rowLineOf}
 use Rattle.lines.specs.Parts.{Put}
 use Rattle.lines.proofs.PutLaws.{put-same, put-none, put-next}
+use Rattle.lines.proofs.LengthLaws.{rowLineOf-le}
 use Rattle.lines.proofs.gather.put_rows_with.Statement.{statement}
 use Rattle.lines.proofs.gather.put_rows_with.Tie as tie
 
@@ -50,12 +51,13 @@ goes-on c =
     let turn = made .before .before .before .before .before in
     let load = turn .before .before .args .t3 in
     let margins = turn .before .before .args .t4 in
-    let i = turn .loop .i in (
+    let i = turn .loop .i in
+    let same = ap (rowLineOf (shown i) (rowAt load i)) (toZ-ofZ (fits turn)) in
+    let put = put-same same (made .put-row .ensures) in (
       search needs,
-      omega (arith, made .put-row .ensures .1),
+      omega (arith, put .place-is, rowLineOf-le (shown i) (rowAt load i) (marginIn margins i)),
       made .put-row .kept .0 ∙ turn .loop .inv .2,
-      put-next (lineAt load margins) i (turn .loop .inv .3)
-          (put-same (ap (rowLineOf (shown i) (rowAt load i)) (toZ-ofZ (fits turn))) (made .put-row .ensures .0)),
+      put-next (lineAt load margins) i (turn .loop .inv .3) put,
     )
 
 ends : tie.Need-returns Inv-loop μ-loop
@@ -63,7 +65,7 @@ ends c =
     let a = c .before in
     let load = a .before .before .args .t3 in
     let e : a .loop .i ≡ load .rows = omega arith in
-    (rw e at (a .loop .inv .3), omega arith)
+    rw e at (a .loop .inv .3)
 
 pub put-rows-with-spec : {M : Type 1} → statement M
 put-rows-with-spec =

@@ -11,6 +11,7 @@ use Rattle.rules.specs.Slots.{slotAt}
 use Rattle.lines.specs.Lines.{slotLine}
 use Rattle.lines.specs.Parts.{Put}
 use Rattle.lines.proofs.PutLaws.{put-none, put-next}
+use Rattle.lines.proofs.LengthLaws.{slotLine-le}
 use Rattle.lines.proofs.gather.put_slots.Statement.{statement}
 use Rattle.lines.proofs.gather.put_slots.Tie as tie
 
@@ -34,19 +35,19 @@ starts c = (search needs, search needs, refl, put-none _ _ _)
 goes-on : tie.Need-loop-again Inv-loop μ-loop
 goes-on c =
     let made = c .before .before in
-    let turn = made .before .before .before .before in (
+    let turn = made .before .before .before .before in
+    let slots = turn .before .before .args .t3 in (
       search needs,
-      omega (arith, made .put-slot .ensures .1),
+      omega (arith, made .put-slot .ensures .place-is, slotLine-le (slotAt slots (turn .loop .k))),
       made .put-slot .kept .0 ∙ turn .loop .inv .2,
-      put-next (lineAt (turn .before .before .args .t3)) (turn .loop .k) (turn .loop .inv .3)
-          (made .put-slot .ensures .0),
+      put-next (lineAt slots) (turn .loop .k) (turn .loop .inv .3) (made .put-slot .ensures),
     )
 
 ends : tie.Need-returns Inv-loop μ-loop
 ends c =
     let a = c .before in
     let e : a .loop .k ≡ a .before .before .args .count = omega arith in
-    (rw e at (a .loop .inv .3), omega arith)
+    rw e at (a .loop .inv .3)
 
 pub put-slots-spec : {M : Type 1} → statement M
 put-slots-spec =

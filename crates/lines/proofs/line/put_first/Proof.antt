@@ -1,5 +1,4 @@
 -- `lines::line::put_first` puts the words of the line, one behind the other.
-use native.Mathlib.Omega.{arith}
 use borrow.Author.Needs.{needs}
 use Rattle.words.specs.Decimal.{text}
 use Rattle.lines.specs.Lines.{firstLineOf}
@@ -23,19 +22,8 @@ returns c =
     let p₂ = next-word _ _ _ p₁ (steps .put-number2 .ensures .0) in
     let p₃ = next-word _ _ _ p₂ (last .put-number3 .ensures .0) in
     let p₄ = next-word _ _ _ p₃ (bound .put-number4 .ensures .0) in
-    let p₅ = next-word _ _ _ p₄ (verdict .put-verdict .ensures .0) in (
-      put-more p₅ (end .put-bytes2 .ensures),
-      omega (
-        arith,
-        word .put-bytes .ensures .place-is,
-        rows .put-number .ensures .1,
-        steps .put-number2 .ensures .1,
-        last .put-number3 .ensures .1,
-        bound .put-number4 .ensures .1,
-        verdict .put-verdict .ensures .1,
-        end .put-bytes2 .ensures .place-is,
-      ),
-    )
+    let p₅ = next-word _ _ _ p₄ (verdict .put-verdict .ensures .0) in
+    put-more p₅ (end .put-bytes2 .ensures)
 
 pub put-first-spec : {M : Type 1} → statement M
 put-first-spec =

@@ -1,7 +1,6 @@
 -- `lines::line::put_refused` puts the words of the line, one behind the other.
 use mathlib.Core.List.{_∷_}
 use mathlib.Core.Path.{ap}
-use native.Mathlib.Omega.{arith}
 use borrow.Author.Needs.{needs}
 use Rattle.words.specs.Decimal.{text, decimal}
 use Rattle.lines.specs.Lines.{refusedLine}
@@ -18,15 +17,8 @@ returns c =
     let word = number .before .before .before .before .before in
     let is-number = ap (λ n. 32 ∷ decimal n) (number .before .number-of .ensures) in
     let p₀ = first-word _ (word .put-bytes .ensures) in
-    let p₁ = next-word _ _ _ p₀ (put-same is-number (number .put-number .ensures .0)) in (
-      put-more p₁ (end .put-bytes2 .ensures),
-      omega (
-        arith,
-        word .put-bytes .ensures .place-is,
-        number .put-number .ensures .1,
-        end .put-bytes2 .ensures .place-is,
-      ),
-    )
+    let p₁ = next-word _ _ _ p₀ (put-same is-number (number .put-number .ensures .0)) in
+    put-more p₁ (end .put-bytes2 .ensures)
 
 pub put-refused-spec : {M : Type 1} → statement M
 put-refused-spec =

@@ -1,7 +1,6 @@
 -- `lines::line::put_row` puts the words of the line, one behind the other.
 use mathlib.Core.List.{_∷_}
 use mathlib.Core.Path.{ap}
-use native.Mathlib.Omega.{arith}
 use borrow.Author.Needs.{needs}
 use mir.Facts.{toZ-ofZ}
 use Rattle.words.specs.Decimal.{text, signedDecimal}
@@ -26,18 +25,8 @@ returns c =
     let p₁ = next-word _ _ _ p₀ (row .put-number .ensures .0) in
     let p₂ = next-word _ _ _ p₁ (identifier .put-number2 .ensures .0) in
     let p₃ = next-word _ _ _ p₂ (box .put-number3 .ensures .0) in
-    let p₄ = next-word _ _ _ p₃ (put-same signed (margin .put-signed .ensures .0)) in (
-      put-more p₄ (end .put-bytes2 .ensures),
-      omega (
-        arith,
-        word .put-bytes .ensures .place-is,
-        row .put-number .ensures .1,
-        identifier .put-number2 .ensures .1,
-        box .put-number3 .ensures .1,
-        margin .put-signed .ensures .1,
-        end .put-bytes2 .ensures .place-is,
-      ),
-    )
+    let p₄ = next-word _ _ _ p₃ (put-same signed (margin .put-signed .ensures .0)) in
+    put-more p₄ (end .put-bytes2 .ensures)
 
 pub put-row-spec : {M : Type 1} → statement M
 put-row-spec =

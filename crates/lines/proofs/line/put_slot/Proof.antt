@@ -1,5 +1,4 @@
 -- `lines::line::put_slot` puts the words of the line, one behind the other.
-use native.Mathlib.Omega.{arith}
 use borrow.Author.Needs.{needs}
 use Rattle.words.specs.Decimal.{text}
 use Rattle.lines.specs.Lines.{slotLine}
@@ -19,17 +18,8 @@ returns c =
     let p₀ = first-word _ (word .put-bytes .ensures) in
     let p₁ = next-word _ _ _ p₀ (start .put-number .ensures .0) in
     let p₂ = next-word _ _ _ p₁ (row .put-number2 .ensures .0) in
-    let p₃ = next-word _ _ _ p₂ (step .put-number3 .ensures .0) in (
-      put-more p₃ (end .put-bytes2 .ensures),
-      omega (
-        arith,
-        word .put-bytes .ensures .place-is,
-        start .put-number .ensures .1,
-        row .put-number2 .ensures .1,
-        step .put-number3 .ensures .1,
-        end .put-bytes2 .ensures .place-is,
-      ),
-    )
+    let p₃ = next-word _ _ _ p₂ (step .put-number3 .ensures .0) in
+    put-more p₃ (end .put-bytes2 .ensures)
 
 pub put-slot-spec : {M : Type 1} → statement M
 put-slot-spec =
