@@ -1,9 +1,8 @@
-// The question C: a load file (its length in 2 bytes, at most 4,096, and its bytes) and slots. It
-// is answered by `check` and the number of what the check of the slots finds, 0 for nothing. A file
-// that is refused is answered by `refused` and its number.
+// The questions C and D: a load, from a file (C) or in memory (D), and slots. They are answered by
+// `check` and the number of what the check of the slots finds, 0 for nothing. A file that is
+// refused is answered by `refused` and its number.
+use crate::given::Given;
 use crate::input::Counted;
-use crate::input::front;
-use crate::input::read_bytes;
 use crate::line::LINE;
 use crate::line::put_found;
 use crate::line::put_number;
@@ -11,8 +10,6 @@ use crate::line::write_line;
 use crate::slots::SLOTS_SIZE;
 use crate::slots::read_slots;
 use crate::slots::slots_from;
-use load_file::Reading;
-use load_file::read_load;
 use refusals::Checked;
 use refusals::number_of;
 use rules::Slot;
@@ -20,28 +17,26 @@ use schedule::PLACES;
 use schedule::check_array;
 
 // Puts what the check of the first n slots finds, or the file's refusal, on the line.
-fn put_answer(line: &mut [u8], reading: Reading, slots: [Slot; PLACES], n: usize) -> usize {
-    let found = reading.answer;
+fn put_answer(line: &mut [u8], given: Given, slots: [Slot; PLACES], n: usize) -> usize {
+    let found = given.found;
     match found {
-        Checked::Good => put_found(line, 0, b"check ", check_array(reading.load, slots, n)),
+        Checked::Good => put_found(line, 0, b"check ", check_array(given.load, slots, n)),
         Checked::Refused(refusal) => put_number(line, 0, b"refused ", number_of(refusal)),
     }
 }
 
 // Reads and answers the question. Says no where it is cut short, the file too long, or the slots
 // too many.
-pub fn answer() -> bool {
-    let mut file = io::buffer();
-    let Counted::Things(n) = read_bytes(&mut file) else {
+pub fn answer(given: Given) -> bool {
+    if !given.is_whole {
         return false;
-    };
+    }
     let mut bytes = [0u8; SLOTS_SIZE];
     let Counted::Things(count) = read_slots(&mut bytes) else {
         return false;
     };
     let mut line = [0u8; LINE];
-    let reading = read_load(front(&file, n as usize));
-    let end = put_answer(&mut line, reading, slots_from(&bytes), count as usize);
+    let end = put_answer(&mut line, given, slots_from(&bytes), count as usize);
     write_line(&mut line, end);
     true
 }

@@ -7,8 +7,8 @@ use refusals::number_of;
 use words::decimal_of;
 use words::overwrite;
 
-// The longest line is that of a load file: 4,432 digits and a few more bytes.
-pub const LINE: usize = 8192;
+// The longest line is that of the largest room: `schedule 0 `, 8,192 digits and a line feed.
+pub const LINE: usize = 8204;
 
 // Puts a text at a place of the line.
 pub fn put_text(line: &mut [u8], at: usize, text: &[u8]) -> usize {

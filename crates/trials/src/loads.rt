@@ -1,106 +1,19 @@
-// The question W: a load in memory, field by field and unchecked. It is answered by `load` and the
-// number of what its writing finds; where that is 0, by the load file too, in hexadecimal digits.
+// The questions W and w: a load in memory, and for w a room before it. They are answered by `load`
+// and the number of what the load's writing finds; where that is 0, in hexadecimal digits by the
+// load file (W) or by all the room (w).
+use crate::given::from_memory;
 use crate::input::front;
-use crate::input::read_whole;
 use crate::line::LINE;
 use crate::line::put_written;
 use crate::line::write_line;
-use load::BoxNumber;
-use load::Identifier;
+use crate::rooms::FILLED;
+use crate::rooms::MOST_ROOM;
+use crate::rooms::Room;
+use crate::rooms::shown;
 use load::Load;
-use load::MOST_ROWS;
-use load::MOST_STEPS;
-use load::MOST_WINDOWS;
-use load::Row;
-use load::Step;
-use load::Window;
 use load::row_at;
-use load::zero_row;
 use load_file::write_load;
-use words::byte_at;
-use words::number16_at;
-use words::number32_at;
-ghost use Prim.Native.Nat.{_≤_};
-
-// A load is its number of rows (1 byte) and 24 rows. A row is its identifier (4 bytes), its box
-// (4), its phase (4), its deadline (4), its number of steps (1) and of windows (1), 8 steps and 4
-// windows. A step is its cost (2) and its wait (2), a window its first step (1), its last (1) and
-// its limit (2).
-const LOAD_SIZE: usize = 1585;
-
-const ROWS_AT: usize = 1;
-
-const ROW_SIZE: usize = 66;
-
-const STEPS_AT: usize = 18;
-
-const WINDOWS_AT: usize = 50;
-
-const PART_SIZE: usize = 4;
-
-// Gives the steps of the row at a place.
-fn steps_from(bytes: &[u8], row: usize) -> [Step; MOST_STEPS]
-    requires { ⌜ row ≤ 4096 ⌝ }
-{
-    let mut steps = [Step { cost: 0, wait: 0 }; MOST_STEPS];
-    for j in 0..MOST_STEPS {
-        let at = row + STEPS_AT + PART_SIZE * j;
-        steps[j] = Step {
-            cost: number16_at(bytes, at),
-            wait: number16_at(bytes, at + 2),
-        };
-    }
-    steps
-}
-
-// Gives the windows of the row at a place.
-fn windows_from(bytes: &[u8], row: usize) -> [Window; MOST_WINDOWS]
-    requires { ⌜ row ≤ 4096 ⌝ }
-{
-    let none = Window {
-        first: 0,
-        last: 0,
-        limit: 0,
-    };
-    let mut windows = [none; MOST_WINDOWS];
-    for k in 0..MOST_WINDOWS {
-        let at = row + WINDOWS_AT + PART_SIZE * k;
-        windows[k] = Window {
-            first: byte_at(bytes, at),
-            last: byte_at(bytes, at + 1),
-            limit: number16_at(bytes, at + 2),
-        };
-    }
-    windows
-}
-
-// Gives the row at a place.
-fn row_from(bytes: &[u8], at: usize) -> Row
-    requires { ⌜ at ≤ 4096 ⌝ }
-{
-    Row {
-        identifier: Identifier(number32_at(bytes, at)),
-        box_number: BoxNumber(number32_at(bytes, at + 4)),
-        phase: number32_at(bytes, at + 8),
-        deadline: number32_at(bytes, at + 12),
-        steps: byte_at(bytes, at + 16),
-        windows: byte_at(bytes, at + 17),
-        step: steps_from(bytes, at),
-        window: windows_from(bytes, at),
-    }
-}
-
-// Gives the load that the bytes spell.
-fn load_from(bytes: &[u8]) -> Load {
-    let mut rows = [zero_row(); MOST_ROWS];
-    for i in 0..MOST_ROWS {
-        rows[i] = row_from(bytes, ROWS_AT + ROW_SIZE * i);
-    }
-    Load {
-        rows: byte_at(bytes, 0),
-        row: rows,
-    }
-}
+use refusals::Checked;
 
 // Gives how many bytes the file of a load has, where the load has one: a header and an end of four
 // bytes, and for each row its record of 20 bytes and one of six for each step and window.
@@ -113,17 +26,33 @@ fn file_size(load: Load) -> usize {
     size
 }
 
-// Reads and answers the question. Says no where it is cut short.
-pub fn answer() -> bool {
-    let mut bytes = [0u8; LOAD_SIZE];
-    if !read_whole(&mut bytes) {
+// Lends the writing of a load the first n bytes; all, where there are fewer.
+fn write_front(load: Load, out: &mut [u8], n: usize) -> Checked {
+    if out.len() < n {
+        return write_load(load, out);
+    }
+    write_load(load, &mut out[..n])
+}
+
+// Puts what the writing of a load to a room finds, and what it leaves there, on the line.
+fn put_answer(line: &mut [u8], load: Load, room: Room) -> usize {
+    let mut file = [FILLED; MOST_ROOM];
+    let found = write_front(load, &mut file, room.size);
+    let count = shown(room, file_size(load));
+    put_written(line, b"load ", found, front(&file, count))
+}
+
+// Reads and answers the question. Says no where it is cut short, or the room too large.
+pub fn answer(room: Room) -> bool {
+    let given = from_memory();
+    if !room.is_whole {
         return false;
     }
-    let load = load_from(&bytes);
-    let mut file = io::buffer();
-    let found = write_load(load, &mut file);
+    if !given.is_whole {
+        return false;
+    }
     let mut line = [0u8; LINE];
-    let end = put_written(&mut line, b"load ", found, front(&file, file_size(load)));
+    let end = put_answer(&mut line, given.load, room);
     write_line(&mut line, end);
     true
 }

@@ -1,28 +1,39 @@
 // A test program, and no product: it answers a stream of questions on standard input, so that the
 // public calls can be compared from outside. A question is a letter and its bytes, with numbers
-// little-endian; a module for each letter says which bytes, and what is answered. What is no
+// little-endian; the module of a letter says which bytes, and what is answered. What is no
 // question, or one cut short, is answered by `bad`, and ends the program; so does the input's end.
 mod checks;
+mod given;
 mod input;
 mod line;
 mod loads;
+mod memory;
 mod moves;
 mod reports;
+mod rooms;
 mod schedules;
 mod slots;
 
+use given::from_file;
+use given::from_memory;
 use input::read_whole;
 use libc::STDOUT_FILENO;
+use rooms::largest_room;
+use rooms::read_room;
 
 // Reads what follows a question's letter, and answers it. Says no where there is no such letter, or
 // the question is cut short.
 fn answer_kind(letter: u8) -> bool {
     match letter {
         b'F' => reports::answer(),
-        b'M' => moves::answer(),
-        b'C' => checks::answer(),
-        b'W' => loads::answer(),
-        b'S' => schedules::answer(),
+        b'M' => moves::answer(from_file()),
+        b'N' => moves::answer(from_memory()),
+        b'C' => checks::answer(from_file()),
+        b'D' => checks::answer(from_memory()),
+        b'W' => loads::answer(largest_room()),
+        b'w' => loads::answer(read_room()),
+        b'S' => schedules::answer(largest_room()),
+        b's' => schedules::answer(read_room()),
         _ => false,
     }
 }

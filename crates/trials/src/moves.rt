@@ -1,11 +1,9 @@
-// The question M: a load file (its length in 2 bytes, at most 4,096, and its bytes) and a state of
-// the bench. Answered by what the move hands back, on one line: `start` with row, step and start,
-// `idle`, `done` or `refused` with its number; the lamp word, its count and the clock; and for each
-// of 24 rows steps finished, end and opening. A file that is refused is answered by `refused` and
-// its number alone.
-use crate::input::Counted;
-use crate::input::front;
-use crate::input::read_bytes;
+// The questions M and N: a load, from a file (M) or in memory (N), and a state of the bench.
+// Answered by what the move hands back, on one line: `start` with row, step and start, `idle`,
+// `done` or `refused` with its number; the lamp word, its count and the clock; and for each of 24
+// rows steps finished, end and opening. A file that is refused is answered by `refused` and its
+// number alone.
+use crate::given::Given;
 use crate::input::read_whole;
 use crate::line::LINE;
 use crate::line::put_number;
@@ -15,8 +13,6 @@ use bench::Bench;
 use bench::Moved;
 use bench::next_move;
 use load::MOST_ROWS;
-use load_file::Reading;
-use load_file::read_load;
 use refusals::Checked;
 use refusals::number_of;
 use rules::Outcome;
@@ -92,27 +88,25 @@ fn put_moved(line: &mut [u8], moved: Moved) -> usize {
 }
 
 // Puts the move that a load and a state give, or the file's refusal, on the line.
-fn put_answer(line: &mut [u8], reading: Reading, bench: Bench) -> usize {
-    let found = reading.answer;
+fn put_answer(line: &mut [u8], given: Given, bench: Bench) -> usize {
+    let found = given.found;
     match found {
-        Checked::Good => put_moved(line, next_move(reading.load, bench)),
+        Checked::Good => put_moved(line, next_move(given.load, bench)),
         Checked::Refused(refusal) => put_number(line, 0, b"refused ", number_of(refusal)),
     }
 }
 
 // Reads and answers the question. Says no where it is cut short, or the file too long.
-pub fn answer() -> bool {
-    let mut file = io::buffer();
-    let Counted::Things(n) = read_bytes(&mut file) else {
+pub fn answer(given: Given) -> bool {
+    if !given.is_whole {
         return false;
-    };
+    }
     let mut state = [0u8; STATE_SIZE];
     if !read_whole(&mut state) {
         return false;
     }
     let mut line = [0u8; LINE];
-    let reading = read_load(front(&file, n as usize));
-    let end = put_answer(&mut line, reading, bench_from(&state));
+    let end = put_answer(&mut line, given, bench_from(&state));
     write_line(&mut line, end);
     true
 }

@@ -1,8 +1,8 @@
 -- `load_from` fills the places of 24 rows.
 use Prim.Native.Nat.{_-_, _≤_}
 use borrow.Author.Needs.{needs}
-use Rattle.trials.proofs.loads.load_from.Statement.{statement}
-use Rattle.trials.proofs.loads.load_from.Tie as tie
+use Rattle.trials.proofs.memory.load_from.Statement.{statement}
+use Rattle.trials.proofs.memory.load_from.Tie as tie
 
 abbrev Inv-loop : tie.InvT-loop
 Inv-loop bytes rows₀ i₀ rows i = i ≤ 24

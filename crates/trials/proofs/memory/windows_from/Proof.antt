@@ -1,8 +1,8 @@
 -- `windows_from` fills the places of four windows.
 use Prim.Native.Nat.{_-_, _≤_}
 use borrow.Author.Needs.{needs}
-use Rattle.trials.proofs.loads.windows_from.Statement.{statement}
-use Rattle.trials.proofs.loads.windows_from.Tie as tie
+use Rattle.trials.proofs.memory.windows_from.Statement.{statement}
+use Rattle.trials.proofs.memory.windows_from.Tie as tie
 
 abbrev Inv-loop : tie.InvT-loop
 Inv-loop bytes row windows₀ k₀ windows k = k ≤ 4

@@ -1,8 +1,8 @@
 -- `steps_from` fills the places of eight steps.
 use Prim.Native.Nat.{_-_, _≤_}
 use borrow.Author.Needs.{needs}
-use Rattle.trials.proofs.loads.steps_from.Statement.{statement}
-use Rattle.trials.proofs.loads.steps_from.Tie as tie
+use Rattle.trials.proofs.memory.steps_from.Statement.{statement}
+use Rattle.trials.proofs.memory.steps_from.Tie as tie
 
 abbrev Inv-loop : tie.InvT-loop
 Inv-loop bytes row steps₀ j₀ steps j = j ≤ 8
