@@ -2,41 +2,31 @@
 // `check` and the number of what the check of the slots finds, 0 for nothing. A file that is
 // refused is answered by `refused` and its number.
 use crate::given::Given;
-use crate::input::Counted;
-use crate::line::LINE;
-use crate::line::put_found;
-use crate::line::put_number;
-use crate::line::write_line;
+use crate::given::write_refused;
+use crate::input::read_things;
+use crate::output::write_found;
+use crate::output::write_text;
+use crate::slots::SLOT_SIZE;
 use crate::slots::SLOTS_SIZE;
-use crate::slots::read_slots;
 use crate::slots::slots_from;
-use refusals::Checked;
-use refusals::number_of;
-use rules::Slot;
-use schedule::PLACES;
 use schedule::check_array;
-
-// Puts what the check of the first n slots finds, or the file's refusal, on the line.
-fn put_answer(line: &mut [u8], given: Given, slots: [Slot; PLACES], n: usize) -> usize {
-    let found = given.found;
-    match found {
-        Checked::Good => put_found(line, 0, b"check ", check_array(given.load, slots, n)),
-        Checked::Refused(refusal) => put_number(line, 0, b"refused ", number_of(refusal)),
-    }
-}
 
 // Reads and answers the question. Says no where it is cut short, the file too long, or the slots
 // too many.
 pub fn answer(given: Given) -> bool {
+    let mut bytes = [0u8; SLOTS_SIZE];
+    let counted = read_things(&mut bytes, SLOT_SIZE);
     if !given.is_whole {
         return false;
     }
-    let mut bytes = [0u8; SLOTS_SIZE];
-    let Counted::Things(count) = read_slots(&mut bytes) else {
+    if !counted.is_whole {
         return false;
-    };
-    let mut line = [0u8; LINE];
-    let end = put_answer(&mut line, given, slots_from(&bytes), count as usize);
-    write_line(&mut line, end);
+    }
+    let refused = given.found;
+    if !write_refused(refused) {
+        let found = check_array(given.load, slots_from(&bytes), counted.things as usize);
+        write_found(b"check ", found);
+    }
+    write_text(b"\n");
     true
 }

@@ -1,39 +1,33 @@
 // The load that a question is about. It comes as a load file (its length in 2 bytes, at most 4,096,
 // and its bytes), which can be refused, or as a load in memory.
-use crate::input::Counted;
 use crate::input::front;
-use crate::input::read_bytes;
+use crate::input::read_things;
 use crate::input::read_whole;
 use crate::memory::LOAD_SIZE;
 use crate::memory::load_from;
+use crate::output::write_number;
 use load::Load;
-use load::zero_load;
 use load_file::read_load;
 use refusals::Checked;
+use refusals::number_of;
 
-// A load and what was found where it was read; not whole where the question is cut short, or the
-// file too long.
+// A load and what its reading found; not whole where the question is cut short, or the file too
+// long.
 pub struct Given {
     pub is_whole: bool,
     pub found: Checked,
     pub load: Load,
 }
 
-// Reads a load from a file.
+// Reads a load from its file.
 pub fn from_file() -> Given {
     let mut file = io::buffer();
-    let Counted::Things(n) = read_bytes(&mut file) else {
-        return Given {
-            is_whole: false,
-            found: Checked::Good,
-            load: zero_load(),
-        };
-    };
-    let reading = read_load(front(&file, n as usize));
+    let counted = read_things(&mut file, 1);
+    let reading = read_load(front(&file, counted.things as usize));
     let found = reading.answer;
     let load = reading.load;
     Given {
-        is_whole: true,
+        is_whole: counted.is_whole,
         found,
         load,
     }
@@ -48,4 +42,13 @@ pub fn from_memory() -> Given {
         found: Checked::Good,
         load: load_from(&bytes),
     }
+}
+
+// Writes `refused` and the number where a file is refused. Says no where it is not.
+pub fn write_refused(found: Checked) -> bool {
+    let Checked::Refused(refusal) = found else {
+        return false;
+    };
+    write_number(b"refused ", number_of(refusal));
+    true
 }

@@ -1,11 +1,12 @@
 // Standard input, by pieces: of a size that is known, or of a count that is read before them.
 use libc::STDIN_FILENO;
 use words::number16_at;
+ghost use Prim.Native.Nat.{_≤_};
 
-// How many things a question holds; or that it is cut short, or holds too many.
-pub enum Counted {
-    Things(u16),
-    Bad,
+// How many things a question holds; not whole where it is cut short, or holds too many.
+pub struct Counted {
+    pub is_whole: bool,
+    pub things: u16,
 }
 
 // Gives the first n bytes; all, where there are fewer.
@@ -30,21 +31,25 @@ pub fn read_front(buffer: &mut [u8], n: usize) -> bool {
 // Reads a count of two bytes.
 pub fn read_count() -> Counted {
     let mut bytes = [0u8; 2];
-    if read_whole(&mut bytes) {
-        Counted::Things(number16_at(&bytes, 0))
-    } else {
-        Counted::Bad
+    let is_whole = read_whole(&mut bytes);
+    Counted {
+        is_whole,
+        things: number16_at(&bytes, 0),
     }
 }
 
-// Reads a count and then so many bytes, to a buffer's front. It is bad where the buffer is shorter.
-pub fn read_bytes(buffer: &mut [u8]) -> Counted {
-    let Counted::Things(n) = read_count() else {
-        return Counted::Bad;
-    };
-    if read_front(buffer, n as usize) {
-        Counted::Things(n)
-    } else {
-        Counted::Bad
+// Reads a count and then so many things of a size, to a buffer's front. They are not whole where
+// the buffer is shorter.
+pub fn read_things(buffer: &mut [u8], size: usize) -> Counted
+    requires { ⌜ size ≤ 6 ⌝ }
+{
+    let counted = read_count();
+    if !counted.is_whole {
+        return counted;
+    }
+    let is_whole = read_front(buffer, size * counted.things as usize);
+    Counted {
+        is_whole,
+        things: counted.things,
     }
 }

@@ -3,17 +3,14 @@
 // load file (W) or by all the room (w).
 use crate::given::from_memory;
 use crate::input::front;
-use crate::line::LINE;
-use crate::line::put_written;
-use crate::line::write_line;
+use crate::output::write_written;
 use crate::rooms::FILLED;
 use crate::rooms::MOST_ROOM;
 use crate::rooms::Room;
-use crate::rooms::shown;
+use crate::rooms::answered;
 use load::Load;
 use load::row_at;
 use load_file::write_load;
-use refusals::Checked;
 
 // Gives how many bytes the file of a load has, where the load has one: a header and an end of four
 // bytes, and for each row its record of 20 bytes and one of six for each step and window.
@@ -26,20 +23,17 @@ fn file_size(load: Load) -> usize {
     size
 }
 
-// Lends the writing of a load the first n bytes; all, where there are fewer.
-fn write_front(load: Load, out: &mut [u8], n: usize) -> Checked {
-    if out.len() < n {
-        return write_load(load, out);
+// Answers for a load, its writing lent a room at the front of the bytes. Says no where they are
+// fewer.
+fn answer_written(load: Load, bytes: &mut [u8], room: Room) -> bool {
+    let size = room.size;
+    if bytes.len() < size {
+        return false;
     }
-    write_load(load, &mut out[..n])
-}
-
-// Puts what the writing of a load to a room finds, and what it leaves there, on the line.
-fn put_answer(line: &mut [u8], load: Load, room: Room) -> usize {
-    let mut file = [FILLED; MOST_ROOM];
-    let found = write_front(load, &mut file, room.size);
-    let count = shown(room, file_size(load));
-    put_written(line, b"load ", found, front(&file, count))
+    let found = write_load(load, &mut bytes[..size]);
+    let count = answered(room, file_size(load));
+    write_written(b"load ", found, front(bytes, count));
+    true
 }
 
 // Reads and answers the question. Says no where it is cut short, or the room too large.
@@ -51,8 +45,6 @@ pub fn answer(room: Room) -> bool {
     if !given.is_whole {
         return false;
     }
-    let mut line = [0u8; LINE];
-    let end = put_answer(&mut line, given.load, room);
-    write_line(&mut line, end);
-    true
+    let mut bytes = [FILLED; MOST_ROOM];
+    answer_written(given.load, &mut bytes, room)
 }

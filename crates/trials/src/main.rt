@@ -5,10 +5,10 @@
 mod checks;
 mod given;
 mod input;
-mod line;
 mod loads;
 mod memory;
 mod moves;
+mod output;
 mod reports;
 mod rooms;
 mod schedules;
@@ -17,7 +17,7 @@ mod slots;
 use given::from_file;
 use given::from_memory;
 use input::read_whole;
-use libc::STDOUT_FILENO;
+use output::write_text;
 use rooms::largest_room;
 use rooms::read_room;
 
@@ -46,7 +46,7 @@ fn answer_next() -> bool {
     }
     let is_answered = answer_kind(letter[0]);
     if !is_answered {
-        io::write_all(STDOUT_FILENO, b"bad\n");
+        write_text(b"bad\n");
     }
     is_answered
 }

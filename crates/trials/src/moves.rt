@@ -4,16 +4,14 @@
 // rows steps finished, end and opening. A file that is refused is answered by `refused` and its
 // number alone.
 use crate::given::Given;
+use crate::given::write_refused;
 use crate::input::read_whole;
-use crate::line::LINE;
-use crate::line::put_number;
-use crate::line::put_text;
-use crate::line::write_line;
+use crate::output::write_number;
+use crate::output::write_text;
 use bench::Bench;
 use bench::Moved;
 use bench::next_move;
 use load::MOST_ROWS;
-use refusals::Checked;
 use refusals::number_of;
 use rules::Outcome;
 use words::byte_at;
@@ -46,67 +44,59 @@ fn bench_from(bytes: &[u8]) -> Bench {
     }
 }
 
-// Puts what a move answered on the line.
-fn put_outcome(line: &mut [u8], outcome: Outcome) -> usize {
+// Writes what a move answered.
+fn write_outcome(outcome: Outcome) {
     match outcome {
         Outcome::Start(slot) => {
-            let row = put_number(line, 0, b"start ", slot.row as u32);
-            let step = put_number(line, row, b" ", slot.step as u32);
-            put_number(line, step, b" ", slot.start)
+            write_number(b"start ", slot.row as u32);
+            write_number(b" ", slot.step as u32);
+            write_number(b" ", slot.start);
         }
-        Outcome::Idle => put_text(line, 0, b"idle"),
-        Outcome::Done => put_text(line, 0, b"done"),
-        Outcome::Refused(refusal) => put_number(line, 0, b"refused ", number_of(refusal)),
+        Outcome::Idle => write_text(b"idle"),
+        Outcome::Done => write_text(b"done"),
+        Outcome::Refused(refusal) => write_number(b"refused ", number_of(refusal)),
     }
 }
 
-// Puts what a state holds of a row at a place of the line.
-fn put_row(line: &mut [u8], at: usize, finished: u8, end: u32, opening: u32) -> usize {
-    let first = put_number(line, at, b" ", finished as u32);
-    let second = put_number(line, first, b":", end);
-    put_number(line, second, b":", opening)
+// Writes what a state holds of a row.
+fn write_row(finished: u8, end: u32, opening: u32) {
+    write_number(b" ", finished as u32);
+    write_number(b":", end);
+    write_number(b":", opening);
 }
 
-// Puts what a state holds of every row at a place of the line.
-fn put_rows(line: &mut [u8], from: usize, bench: Bench) -> usize {
-    let mut at = from;
+// Writes what a state holds: the clock, and then every row.
+fn write_bench(bench: Bench) {
+    write_number(b" clock ", bench.clock);
     for i in 0..MOST_ROWS {
-        at = put_row(line, at, bench.finished[i], bench.end[i], bench.opening[i]);
+        write_row(bench.finished[i], bench.end[i], bench.opening[i]);
     }
-    at
 }
 
-// Puts all that a move hands back on the line.
-fn put_moved(line: &mut [u8], moved: Moved) -> usize {
+// Writes all that a move hands back.
+fn write_moved(moved: Moved) {
     let outcome = moved.outcome;
     let bench = moved.bench;
-    let answer = put_outcome(line, outcome);
-    let lamps = put_number(line, answer, b" lamps ", moved.lamps);
-    let count = put_number(line, lamps, b" count ", moved.count);
-    let clock = put_number(line, count, b" clock ", bench.clock);
-    put_rows(line, clock, bench)
-}
-
-// Puts the move that a load and a state give, or the file's refusal, on the line.
-fn put_answer(line: &mut [u8], given: Given, bench: Bench) -> usize {
-    let found = given.found;
-    match found {
-        Checked::Good => put_moved(line, next_move(given.load, bench)),
-        Checked::Refused(refusal) => put_number(line, 0, b"refused ", number_of(refusal)),
-    }
+    write_outcome(outcome);
+    write_number(b" lamps ", moved.lamps);
+    write_number(b" count ", moved.count);
+    write_bench(bench);
 }
 
 // Reads and answers the question. Says no where it is cut short, or the file too long.
 pub fn answer(given: Given) -> bool {
+    let mut state = [0u8; STATE_SIZE];
+    let is_whole = read_whole(&mut state);
     if !given.is_whole {
         return false;
     }
-    let mut state = [0u8; STATE_SIZE];
-    if !read_whole(&mut state) {
+    if !is_whole {
         return false;
     }
-    let mut line = [0u8; LINE];
-    let end = put_answer(&mut line, given, bench_from(&state));
-    write_line(&mut line, end);
+    let refused = given.found;
+    if !write_refused(refused) {
+        write_moved(next_move(given.load, bench_from(&state)));
+    }
+    write_text(b"\n");
     true
 }

@@ -1,7 +1,4 @@
 // The slots of a question: how many (2 bytes), at most 256, and six bytes for each.
-use crate::input::Counted;
-use crate::input::read_count;
-use crate::input::read_front;
 use rules::Slot;
 use schedule::PLACES;
 use words::byte_at;
@@ -9,26 +6,10 @@ use words::number32_at;
 ghost use Prim.Native.Nat.{_<_};
 
 // A slot is its row (1 byte), its step (1) and its start (4).
-const SLOT_SIZE: usize = 6;
+pub const SLOT_SIZE: usize = 6;
 
 // The bytes of as many slots as an array has places.
 pub const SLOTS_SIZE: usize = 1536;
-
-// Reads a count, at most 256, and then so many slots, to a buffer's front. It is bad where there
-// are more, or the input ends before.
-pub fn read_slots(buffer: &mut [u8; SLOTS_SIZE]) -> Counted {
-    let Counted::Things(n) = read_count() else {
-        return Counted::Bad;
-    };
-    if PLACES < n as usize {
-        return Counted::Bad;
-    }
-    if read_front(buffer, SLOT_SIZE * n as usize) {
-        Counted::Things(n)
-    } else {
-        Counted::Bad
-    }
-}
 
 // Gives the slot at a place of the bytes.
 fn slot_from(bytes: &[u8], i: usize) -> Slot
