@@ -9,7 +9,17 @@ use crate::output::write_text;
 use crate::slots::SLOT_SIZE;
 use crate::slots::SLOTS_SIZE;
 use crate::slots::slots_from;
+use rules::Slot;
+use schedule::PLACES;
 use schedule::check_array;
+
+// Writes what the check of the first n slots finds, or the file's refusal.
+fn write_checked(given: Given, slots: [Slot; PLACES], n: usize) {
+    let refused = given.found;
+    if !write_refused(refused) {
+        write_found(b"check ", check_array(given.load, slots, n));
+    }
+}
 
 // Reads and answers the question. Says no where it is cut short, the file too long, or the slots
 // too many.
@@ -22,11 +32,7 @@ pub fn answer(given: Given) -> bool {
     if !counted.is_whole {
         return false;
     }
-    let refused = given.found;
-    if !write_refused(refused) {
-        let found = check_array(given.load, slots_from(&bytes), counted.things as usize);
-        write_found(b"check ", found);
-    }
+    write_checked(given, slots_from(&bytes), counted.things as usize);
     write_text(b"\n");
     true
 }
