@@ -43,14 +43,11 @@ pub fn head(n: usize) -> Gathered
     }
 }
 
-// Adds the record of a slot where it fits.
+// Adds the record of a slot where it fits. There is one way out, so that the compiler makes no third
+// copy of the bytes in the loop.
 fn with_slot(file: Gathered, row: u8, step: u8, start: u32) -> Gathered
     ensures { λ r. ⌜ r ≡ withSlot file row step start ⌝ }
 {
-    let at = file.at;
-    if 1532 < at {
-        return file;
-    }
     let number = bytes32(start);
     let record = [
         0x53,
@@ -62,10 +59,14 @@ fn with_slot(file: Gathered, row: u8, step: u8, start: u32) -> Gathered
         number[2],
         number[3],
     ];
+    let mut at = file.at;
     let mut bytes = file.bytes;
-    overwrite(&mut bytes, at, &record);
+    if at <= 1532 {
+        overwrite(&mut bytes, at, &record);
+        at += 8;
+    }
     Gathered {
-        at: at + 8,
+        at: at,
         bytes: bytes,
     }
 }
