@@ -43,6 +43,7 @@ windows-hold =
       zeros = refl;
       last-steps = refl;
       in-order = refl;
+      third-window = refl;
       limit-and-chain = refl;
       first-window = refl;
       chains = refl;

@@ -57,6 +57,13 @@ pub record WorkedWindows : Type 0 where
       (λ t. six (window 3 4 2 ∷ t ∷ []))
       (window 4 5 9 ∷ window 3 6 9 ∷ window 1 2 9 ∷ window 4 5 1 ∷ window 5 6 2 ∷ [])
       ≡ 6 ∷ 6 ∷ 6 ∷ 6 ∷ 0 ∷ []
+  -- behind windows of steps 1 and 2, and of 3 and 4: one that shares a step with the nearer, and
+  -- one that stands clear
+  pub third-window :
+      numbersOf
+      (λ t. six (window 1 2 2 ∷ window 3 4 2 ∷ t ∷ []))
+      (window 4 5 9 ∷ window 5 6 2 ∷ [])
+      ≡ 6 ∷ 0 ∷ []
   -- a window's limit one below its chain, and equal to it: steps 2 to 3, and 1 to 4
   pub limit-and-chain :
       numbersOf
