@@ -43,8 +43,8 @@ pub fn head(n: usize) -> Gathered
     }
 }
 
-// Adds the record of a slot where it fits. There is one way out, so that the compiler makes no third
-// copy of the bytes in the loop.
+// Adds the record of a slot where it fits. There is one way out, so that the compiler makes no
+// third copy of the bytes in the loop.
 fn with_slot(file: Gathered, row: u8, step: u8, start: u32) -> Gathered
     ensures { λ r. ⌜ r ≡ withSlot file row step start ⌝ }
 {
