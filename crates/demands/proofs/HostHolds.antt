@@ -19,6 +19,7 @@ use Rattle.reading_bench.specs.Calls.{Numbered, ForC, boundBytes, verdictBytes,
 use Rattle.lines.specs.Lines.{printed}
 use Rattle.lines.specs.Calls.{textHolding}
 use Rattle.lines.proofs.PrintedLaws.{text-taken}
+use Rattle.lines.proofs.LengthLaws.{printed-le}
 use Rattle.lines.proofs.PrintedFront.{printed-front}
 use Rattle.demands.specs.HostAnswers.{Answers, HostAnswers}
 
@@ -54,6 +55,7 @@ host-answers =
       schedules = answers scheduleFile;
       refused = refused-number;
       texts = λ bs r e. text-taken (printed bs) r e;
+      texts-fit = printed-le;
       fronts = λ bs r e. e ∙ ap textHolding (sym (printed-front bs));
       lines = λ bs out r after p. p .given;
       lines-counted = λ bs out r after p. p .length-is;

@@ -1,12 +1,12 @@
 -- "It lends a load file's bytes and gets the bound, margins, verdict or schedule file": what C and
 -- the program get, over any results of the calls and of the reading. To be read after PublicCalls.
 -- Rests on D47 and D49.
-use Prim.Native.Nat.{ℕ}
+use Prim.Native.Nat.{ℕ, _≤_}
 use mathlib.Core.List.{List, [], _∷_}
 use mathlib.Core.Path.{_≡_}
-use lib.ListN.{take}
+use lib.ListN.{length, take}
 use Rattle.counting.specs.Sums.{bit}
-use Rattle.words.specs.LittleEndian.{littleEndian}
+use Rattle.words.specs.LittleEndian.{littleEndian, Bytes}
 use Rattle.refusals.specs.declared.Refusal.{Refusal}
 use Rattle.refusals.specs.declared.Checked.the-variants.{Good, Refused}
 use Rattle.refusals.specs.Refusals.{numberOf}
@@ -29,7 +29,7 @@ use Rattle.reading_bench.specs.Calls.{
 use Rattle.lines.specs.declared.Printed.{Printed}
 use Rattle.lines.specs.declared.Text.{Text}
 use Rattle.lines.specs.Lines.{printed, filePlaces}
-use Rattle.lines.specs.Calls.{TextOf, PrintLines, lengthGiven}
+use Rattle.lines.specs.Calls.{textPlaces, TextOf, PrintLines, lengthGiven}
 
 -- a call for C: of a file that is read as a load, it refuses nothing but the room, and gives that
 -- load's answer
@@ -55,6 +55,8 @@ pub record HostAnswers : Type 0 where
       → (out : List ℕ) (n : ℕ) (after : List ℕ) → ForC answer bs out n after → n ≡ numberOf refusal
   -- the text of any bytes is all that the program prints for them, and its first places hold it
   pub texts : (bs : List ℕ) (r : Text) → TextOf bs r → take (r .length) (r .bytes) ≡ printed bs
+  -- it fits the text's places, whatever the bytes are
+  pub texts-fit : (bs : List ℕ) → Bytes bs → length (printed bs) ≤ textPlaces
   -- which the first bytes decide: one more than the longest load file has
   pub fronts : (bs : List ℕ) (r : Text) → TextOf (take filePlaces bs) r → TextOf bs r
   -- the program's lines stand in the output, and so many bytes of them are counted
