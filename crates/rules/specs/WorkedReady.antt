@@ -11,12 +11,14 @@ use Rattle.rules.specs.WorkedStates.{slot}
 
 -- candidates
 pub record WorkedReady : Type 0 where
-  -- "tried by step number": step 1 of row 2 before step 2 of row 1; "then row": row 1 before row 2
+  -- "tried by step number": step 1 of row 2 before step 2 of row 1; "then row": row 1 before row
+  -- 2, which was released before it
   pub by-step :
       answers
-      (loadOf (row 1 (1 w 0 ∷ 1 w 0 ∷ []) (window 1 2 9 ∷ []) ∷ row 2 (1 w 0 ∷ []) [] ∷ []))
-      (state 1 (has 1 1 0 ∷ []) ∷ state 0 [] ∷ [])
-      ≡ Start (slot 1 2 1) ∷ Start (slot 0 1 1) ∷ []
+      (loadOf
+      (rowBy 1 2 lastMoment (1 w 0 ∷ 1 w 0 ∷ []) (window 1 2 9 ∷ []) ∷ row 2 (1 w 0 ∷ []) [] ∷ []))
+      (state 1 (has 1 1 0 ∷ []) ∷ state 2 [] ∷ [])
+      ≡ Start (slot 1 2 1) ∷ Start (slot 2 1 1) ∷ []
   -- "when the clock has reached its phase": at 5, and not at 4
   pub at-phase :
       answers (loadOf (rowBy 1 5 lastMoment (1 w 0 ∷ []) [] ∷ [])) (state 4 [] ∷ state 5 [] ∷ [])
