@@ -88,13 +88,15 @@ pub record WorkedCases : Type 0 where
       ∷ (header 0 ∷ end 1 ∷ (0 ∷ []) ∷ [])
       ∷ [])
       ≡ 0 ∷ 8 ∷ 8 ∷ 8 ∷ 8 ∷ 8 ∷ []
-  -- a second row with the first's identifier is 4, before the 1 of its steps; with its box alone 5
+  -- a second row with the first's identifier is 4, before the 1 of its steps; with its box alone
+  -- 5; with its identifier and 9 steps 3
   pub shared :
       numbersRead
       ((header 2 ∷ row ∷ steps ∷ windows ∷ row ∷ [])
       ∷ (header 2 ∷ row ∷ steps ∷ windows ∷ (take 2 row ++ 9 ∷ drop 3 row) ∷ [])
+      ∷ (header 2 ∷ row ∷ steps ∷ windows ∷ (take 18 row ++ 9 ∷ 1 ∷ []) ∷ [])
       ∷ [])
-      ≡ 4 ∷ 5 ∷ []
+      ≡ 4 ∷ 5 ∷ 3 ∷ []
   -- the first faulty record decides: a cost of 0 before a window's mark, a window's 6 and 7 before
   -- a wrong end count
   pub front-to-back :
