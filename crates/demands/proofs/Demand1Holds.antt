@@ -1,7 +1,9 @@
 -- Demand 1 holds: an equation is met, the table gives each refusal a number of its own, the definitions refuse with no
 -- other and exactly then, and a refusal leaves what it was lent.
 use mathlib.Core.Path.{ap, sym, _∙_}
+use Rattle.rules.specs.Margins.{marginBytes}
 use Rattle.bench.specs.declared.Moved.{Moved}
+use Rattle.reading_bench.specs.Calls.{boundBytes, verdictBytes, scheduleFile}
 use Rattle.demands.specs.Demand1.{Demand1}
 use Rattle.demands.proofs.CallsDecided.{every-answer}
 use Rattle.demands.proofs.TableLaws.{numberOf-apart, numberOf-in-table}
@@ -16,6 +18,7 @@ use Rattle.demands.proofs.WritingCalls.{c-keeps, lines-keep}
 use Rattle.demands.proofs.RefusedMoves.{bench-kept}
 use Rattle.demands.proofs.NumbersHold.{numbers}
 use Rattle.demands.proofs.ExactlyHolds.{exactly-then}
+use Rattle.demands.proofs.LoadFirstHolds.{load-first}
 
 pub demand1 : Demand1
 demand1 =
@@ -25,6 +28,7 @@ demand1 =
       apart = λ a b n p q. numberOf-apart a b (sym p ∙ q);
       numbers = numbers;
       exactly = exactly-then;
+      load-first = load-first;
       no-load = refused-load;
       no-bound = refused-bound;
       no-margins = refused-margins;
@@ -33,7 +37,10 @@ demand1 =
       load-stays = λ load out refusal after g. g .output-is;
       schedule-stays = λ slots out refusal after g. g .output-is;
       array-stays = λ slots n out refusal after g. g .output-is;
-      c-stays = c-keeps;
+      bound-stays = c-keeps boundBytes;
+      verdict-stays = c-keeps verdictBytes;
+      margins-stay = c-keeps marginBytes;
+      c-schedule-stays = c-keeps scheduleFile;
       lines-stay = lines-keep;
       bench-stays = λ load bench refusal r e h.
           e ∙ bench-kept load bench refusal (ap (λ (m : Moved). m .outcome) (sym e) ∙ h);

@@ -50,7 +50,7 @@ fresh-clock : benchOf fresh .clock ≡ 0
 unfolding benchOf fresh
 fresh-clock = refl
 
--- on load A: the clock, what row 2 has finished, and the second move
+-- on load A: the clock, what row 2 has finished, the first end, the second move, and the first margin
 a-clock : first (loadA .load) .bench .clock ≡ 2
 unfolding computing nextMove benchOf loadA
 a-clock = refl
@@ -59,9 +59,22 @@ a-finished : getD (first (loadA .load) .bench .finished) 1 0 ≡ 0
 unfolding computing nextMove benchOf loadA
 a-finished = refl
 
+a-end : getD (first (loadA .load) .bench .end) 0 0 ≡ 2
+unfolding computing nextMove benchOf loadA
+a-end = refl
+
+a-margin : marginIn (margins (viewOf (loadA .load))) 0 ≡ pos 1
+unfolding computing margins loadA
+a-margin = refl
+
 a-second : startsIn (nextMove (loadA .load) (first (loadA .load) .bench)) ≡ 1
 unfolding computing nextMove benchOf loadA
 a-second = refl
+
+-- on load B: the lamps of the first move
+b-count : first (loadB .load) .count ≡ 1
+unfolding computing nextMove benchOf loadB
+b-count = refl
 
 -- how many slots a worked load has
 slots-of : (e : Sound) → SoundHolds e → (r : Ran) → Runs (e .load) r → r .count ≡ length (e .answers .slots)
@@ -144,9 +157,18 @@ shut-out =
         a-second,
       );
       invents-count = λ load bench n ne m. ne (ap (λ (r : Moved). r .count) m);
+      counts-one = λ bench n f ne m.
+          ne (ap (λ (r : Moved). r .count) (first-is (loadB .load) bench f _ m) ∙ b-count);
       invents-ends = λ load bench ends ne m. ne (ap (λ (r : Moved). r .bench .end) m);
+      ends-at-two = λ bench ends f ne m.
+          ne (ap (λ (r : Moved). getD (r .bench .end) 0 0) (first-is (loadA .load) bench f _ m) ∙ a-end);
       invents-margins = λ load good given i l ne m.
           ne
           (ap (λ ms. marginIn ms i) (demand2 .margins-are load (inventsMargins given load) m (sym good))
           ∙ margins-at load i l);
+      margin-of-one = λ given ne m.
+          ne
+          (ap (λ ms. marginIn ms 0)
+          (demand2 .margins-are (loadA .load) (inventsMargins given (loadA .load)) m (a-holds .checks))
+          ∙ a-margin);
     }

@@ -8,6 +8,7 @@ pub mod TableLaws
 pub mod WritingCalls
 pub mod NumbersHold
 pub mod ExactlyHolds
+pub mod LoadFirstHolds
 pub mod RefusedAlone
 pub mod RefusedMoves
 pub mod Demand1Holds

@@ -1,6 +1,8 @@
 -- Every call refuses with no other numbers than those named: each relation is an equation or a finding, and those were
 -- looked through test by test.
+use Rattle.rules.specs.Margins.{marginBytes}
 use Rattle.schedule.specs.Calls.{firstSlots}
+use Rattle.reading_bench.specs.Calls.{boundBytes, verdictBytes, scheduleFile}
 use Rattle.demands.specs.Numbers.{Numbers}
 use Rattle.demands.proofs.CallNumbers.{
   load-gives,
@@ -31,6 +33,9 @@ numbers =
       write-array = λ slots n out r after g. slots-written-give (firstSlots slots n) out r after g;
       next-move = λ load bench r e. rw e (move-gives load bench);
       run = λ load r e. rw e (load-gives load .number);
-      for-c = c-gives;
+      bench-bound = c-gives boundBytes;
+      bench-verdict = c-gives verdictBytes;
+      bench-margins = c-gives marginBytes;
+      bench-schedule = c-gives scheduleFile;
       print-lines = lines-give;
     }

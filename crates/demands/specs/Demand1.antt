@@ -15,7 +15,6 @@ use Rattle.refusals.specs.declared.Checked.the-variants.{Refused}
 use Rattle.refusals.specs.Calls.{NumberOf}
 use Rattle.load.specs.declared.Load.{Load}
 use Rattle.load.specs.Load.{mostRows, zeroLoad}
-use Rattle.load.specs.View.{View}
 use Rattle.load_file.specs.declared.Reading.{Reading}
 use Rattle.load_file.specs.Calls.{ReadLoad, WriteLoad}
 use Rattle.rules.specs.declared.Slot.{Slot}
@@ -30,12 +29,13 @@ use Rattle.bench.specs.declared.Moved.{Moved}
 use Rattle.bench.specs.declared.Ran.{Ran}
 use Rattle.bench.specs.Held.{refusedWith}
 use Rattle.bench.specs.Calls.{NextMove, Runs}
-use Rattle.reading_bench.specs.Calls.{ForC}
+use Rattle.reading_bench.specs.Calls.{BenchBound, BenchVerdict, BenchMargins, BenchSchedule}
 use Rattle.lines.specs.declared.Printed.{Printed}
 use Rattle.lines.specs.Calls.{PrintLines}
 use Rattle.demands.specs.PublicCalls.{EveryCall}
 use Rattle.demands.specs.Numbers.{Numbers}
 use Rattle.demands.specs.ExactlyThen.{ExactlyThen}
+use Rattle.demands.specs.LoadFirst.{LoadFirst}
 
 -- a result that meets a relation
 pub record Answer (A : Type 0) (meets : A → Type 0) : Type 0 where
@@ -46,6 +46,10 @@ pub record Answer (A : Type 0) (meets : A → Type 0) : Type 0 where
 pub record InTable (n : ℕ) : Type 0 where
   pub least : 1 ≤ n
   pub most : n ≤ 17
+
+-- a call for C whose number is not 0 leaves the output as it was
+abbrev pub Stays : (List ℕ → List ℕ → ℕ → List ℕ → Type 0) → Type 0
+Stays call = (bs out : List ℕ) (r : ℕ) (after : List ℕ) → call bs out r after → r ≢ 0 → after ≡ out
 
 -- demand 1
 pub record Demand1 : Type 0 where
@@ -59,6 +63,8 @@ pub record Demand1 : Type 0 where
   pub numbers : Numbers
   -- a load, a state and a schedule are refused exactly when a fact of them fails
   pub exactly : ExactlyThen
+  -- and every call that takes a load asks the load first
+  pub load-first : LoadFirst
   -- a refusal is returned alone: with the all-zero load, bound 0, margins 0, verdict no, no slot
   pub no-load : (bs : List ℕ) (r : Reading) (refusal : Refusal) → ReadLoad bs r
       → r .answer ≡ Refused refusal → r .load ≡ zeroLoad
@@ -77,8 +83,10 @@ pub record Demand1 : Type 0 where
       → WriteSchedule slots out (Refused refusal) after → after ≡ out
   pub array-stays : (slots : List Slot) (n : ℕ) (out : List ℕ) (refusal : Refusal) (after : List ℕ)
       → WriteArray slots n out (Refused refusal) after → after ≡ out
-  pub c-stays : (answer : View → List ℕ) (bs out : List ℕ) (r : ℕ) (after : List ℕ)
-      → ForC answer bs out r after → r ≢ 0 → after ≡ out
+  pub bound-stays : Stays BenchBound
+  pub verdict-stays : Stays BenchVerdict
+  pub margins-stay : Stays BenchMargins
+  pub c-schedule-stays : Stays BenchSchedule
   pub lines-stay : (bs out : List ℕ) (refusal : Refusal) (r : Printed) (after : List ℕ)
       → PrintLines bs out r after → r .answer ≡ Refused refusal → after ≡ out
   -- and a refused move hands back the state it was given, with lamp word and count 0

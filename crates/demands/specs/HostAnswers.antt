@@ -20,7 +20,6 @@ use Rattle.rules.specs.Run.{schedule}
 use Rattle.schedule.specs.ScheduleFile.{scheduleBytes}
 use Rattle.reading_bench.specs.Calls.{
   Numbered,
-  ForC,
   BenchBound,
   BenchVerdict,
   BenchMargins,
@@ -39,6 +38,13 @@ Answers call answer =
     → (out : List ℕ) (n : ℕ) (after : List ℕ) → call bs out n after
     → Numbered Good (answer (viewOf (read .load))) out n after
 
+-- of a file that is refused, it gives the number of the reading's refusal
+abbrev pub Refuses : (List ℕ → List ℕ → ℕ → List ℕ → Type 0) → Type 0
+Refuses call =
+    (bs : List ℕ) (read : Reading) (refusal : Refusal) → ReadLoad bs read
+    → read .answer ≡ Refused refusal
+    → (out : List ℕ) (n : ℕ) (after : List ℕ) → call bs out n after → n ≡ numberOf refusal
+
 -- what the host gets
 pub record HostAnswers : Type 0 where
   -- the bound, 4 bytes
@@ -50,9 +56,10 @@ pub record HostAnswers : Type 0 where
   -- the schedule file of the starts from fresh to Done
   pub schedules : Answers BenchSchedule (λ L. scheduleBytes (schedule L))
   -- a file that is refused has the number that reading gives
-  pub refused : (answer : View → List ℕ) (bs : List ℕ) (read : Reading) (refusal : Refusal)
-      → ReadLoad bs read → read .answer ≡ Refused refusal
-      → (out : List ℕ) (n : ℕ) (after : List ℕ) → ForC answer bs out n after → n ≡ numberOf refusal
+  pub bounds-refused : Refuses BenchBound
+  pub verdicts-refused : Refuses BenchVerdict
+  pub margins-refused : Refuses BenchMargins
+  pub schedules-refused : Refuses BenchSchedule
   -- the text of any bytes is all that the program prints for them, and its first places hold it
   pub texts : (bs : List ℕ) (r : Text) → TextOf bs r → take (r .length) (r .bytes) ≡ printed bs
   -- it fits the text's places, whatever the bytes are

@@ -4,6 +4,7 @@ pub mod Sameness
 pub mod JoinedContract
 pub mod Numbers
 pub mod ExactlyThen
+pub mod LoadFirst
 pub mod Demand1
 pub mod HostAnswers
 pub mod Twins

@@ -7,8 +7,6 @@ use mathlib.Core.List.{List, [], _∷_, _++_}
 use lib.Dec.{eqb, ltb}
 use Rattle.counting.specs.Lists.{joinIn, keepIn}
 use Rattle.words.specs.Decimal.{text}
-use Rattle.load.specs.Load.{
-}
 
 -- the value of a hexadecimal digit, 0 to 9 and A to F
 abbrev pub hexDigit : ℕ → ℕ

@@ -10,7 +10,6 @@ use Rattle.refusals.specs.declared.Checked.{Checked}
 use Rattle.refusals.specs.Refusals.{numberGiven}
 use Rattle.load.specs.declared.Row.{Row}
 use Rattle.load.specs.declared.Load.{Load}
-use Rattle.load.specs.View.{View}
 use Rattle.load.specs.Calls.{CheckLoad, CheckFields, CheckStep, CheckWindow}
 use Rattle.load_file.specs.declared.Reading.{Reading}
 use Rattle.load_file.specs.Calls.{ReadLoad, WriteLoad}
@@ -25,7 +24,7 @@ use Rattle.bench.specs.declared.Bench.{Bench}
 use Rattle.bench.specs.declared.Moved.{Moved}
 use Rattle.bench.specs.declared.Ran.{Ran}
 use Rattle.bench.specs.Calls.{NextMove, Runs}
-use Rattle.reading_bench.specs.Calls.{ForC}
+use Rattle.reading_bench.specs.Calls.{BenchBound, BenchVerdict, BenchMargins, BenchSchedule}
 use Rattle.lines.specs.declared.Printed.{Printed}
 use Rattle.lines.specs.Calls.{PrintLines}
 
@@ -61,6 +60,11 @@ ofState = 10 ∷ 11 ∷ []
 abbrev pub ofOutput : List ℕ
 ofOutput = 9 ∷ []
 
+-- a call for C gives 1 to 9 alone
+abbrev pub NumbersForC : (List ℕ → List ℕ → ℕ → List ℕ → Type 0) → Type 0
+NumbersForC call =
+    (bs out : List ℕ) (r : ℕ) (after : List ℕ) → call bs out r after → OneOf (ofFile ++ ofOutput) r
+
 -- the numbers that each call can refuse with
 pub record Numbers : Type 0 where
   -- a load in memory, and its parts
@@ -95,8 +99,10 @@ pub record Numbers : Type 0 where
   pub next-move : (load : Load) (bench : Bench) (r : Moved) → NextMove load bench r
       → OneOf (ofLoad ++ ofState) (toldBy (r .outcome) .number)
   pub run : (load : Load) (r : Ran) → Runs load r → OneOf ofLoad (numberGiven (r .answer))
-  -- a call for C, and printing
-  pub for-c : (answer : View → List ℕ) (bs out : List ℕ) (r : ℕ) (after : List ℕ)
-      → ForC answer bs out r after → OneOf (ofFile ++ ofOutput) r
+  -- the calls for C, and printing
+  pub bench-bound : NumbersForC BenchBound
+  pub bench-verdict : NumbersForC BenchVerdict
+  pub bench-margins : NumbersForC BenchMargins
+  pub bench-schedule : NumbersForC BenchSchedule
   pub print-lines : (bs out : List ℕ) (r : Printed) (after : List ℕ) → PrintLines bs out r after
       → OneOf ofOutput (numberGiven (r .answer))

@@ -5,7 +5,7 @@ use mathlib.Core.Bool.{Bool}
 use mathlib.Core.List.{List}
 use mathlib.Core.Logic.{_≢_}
 use mathlib.Core.Path.{_≡_}
-use lib.IntN.{ℤ}
+use lib.IntN.{ℤ, pos}
 use lib.ListN.{getD}
 use Rattle.refusals.specs.declared.Refusal.{Refusal}
 use Rattle.refusals.specs.declared.Checked.the-variants.{Good, Refused}
@@ -23,6 +23,7 @@ use Rattle.bench.specs.declared.Ran.{Ran}
 use Rattle.bench.specs.Held.{nextMove}
 use Rattle.bench.specs.Calls.{Fresh, NextMove, Runs}
 use Rattle.demands.specs.LoadA.{loadA}
+use Rattle.demands.specs.LoadB.{loadB}
 use Rattle.demands.specs.Demand3.{Run}
 use Rattle.demands.specs.IdleBuilds.{
   refusesFile,
@@ -62,11 +63,20 @@ pub record ShutOut : Type 0 where
   -- one with invented lamp counts, of any load and bench
   pub invents-count : (load : Load) (bench : Bench) (n : ℕ) → n ≢ nextMove load bench .count
       → NextMove load bench (inventsCount n load bench) → ⊥
+  -- as B's first move opens one window
+  pub counts-one : (bench : Bench) (n : ℕ) → Fresh bench → n ≢ 1
+      → NextMove (loadB .load) bench (inventsCount n (loadB .load) bench) → ⊥
   -- or ends
   pub invents-ends : (load : Load) (bench : Bench) (ends : List ℕ)
       → ends ≢ nextMove load bench .bench .end
       → NextMove load bench (inventsEnds ends load bench) → ⊥
+  -- as A's first step ends at 2
+  pub ends-at-two : (bench : Bench) (ends : List ℕ) → Fresh bench → getD ends 0 0 ≢ 2
+      → NextMove (loadA .load) bench (inventsEnds ends (loadA .load) bench) → ⊥
   -- or margins, at any place of any accepted load
   pub invents-margins : (load : Load) → CheckLoad load Good → (given : List ℤ) (i : ℕ)
       → i < mostRows → marginIn given i ≢ marginAt (viewOf load) i
       → MarginsOf load (inventsMargins given load) → ⊥
+  -- as A's first margin is 1
+  pub margin-of-one : (given : List ℤ) → marginIn given 0 ≢ pos 1
+      → MarginsOf (loadA .load) (inventsMargins given (loadA .load)) → ⊥

@@ -58,12 +58,17 @@ pub record WorkedCases : Type 0 where
       ∷ rowWith 102 201 0 1000000 (0 w 0 ∷ []) []
       ∷ [])
       ≡ 3 ∷ 3 ∷ 4 ∷ 5 ∷ []
-  -- the first faulty row decides: its step and its limit before a second row's 4
+  -- the first faulty row decides: its step, its limit and its unused places before a second row's 4
   pub first-row :
       numbersOf
       (λ r. loadOf (r ∷ rowWith 101 202 0 1000000 step1 [] ∷ []))
-      (row 1 (0 w 0 ∷ []) [] ∷ row 1 steps2 (window 1 2 1 ∷ []) ∷ row 1 step1 [] ∷ [])
-      ≡ 3 ∷ 7 ∷ 4 ∷ []
+      (row 1 (0 w 0 ∷ []) []
+      ∷ row 1 steps2 (window 1 2 1 ∷ [])
+      ∷ two 0 (1 w 0 ∷ 1 w 0 ∷ 1 w 0 ∷ []) []
+      ∷ two 0 steps2 (window 0 0 1 ∷ [])
+      ∷ row 1 step1 []
+      ∷ [])
+      ≡ 3 ∷ 7 ∷ 3 ∷ 3 ∷ 4 ∷ []
   -- and its window's steps and limit before the 3 of a second row's phase
   pub first-row-windows :
       numbersOf

@@ -44,6 +44,7 @@ worked-hold =
       row-too-many = refl;
       cut-before-mark = refl;
       marks = refl;
+      marks-first = refl;
       versions = refl;
       ends = refl;
       shared = refl;

@@ -67,6 +67,14 @@ pub record WorkedCases : Type 0 where
       ∷ (header 0 ∷ (0x45 ∷ 0x45 ∷ 0 ∷ 0 ∷ []) ∷ (0 ∷ []) ∷ [])
       ∷ [])
       ≡ replicate 8 2
+  -- a mark comes before its fields: a row, a step and a window with another, and a 0 behind it
+  pub marks-first :
+      numbersRead
+      ((header 1 ∷ (0x53 ∷ 0x57 ∷ 0 ∷ 0 ∷ 0 ∷ 0 ∷ drop 6 row) ∷ drop 2 file)
+      ∷ (header 1 ∷ row ∷ (0x53 ∷ 0x57 ∷ 0 ∷ 0 ∷ drop 4 steps) ∷ drop 3 file)
+      ∷ (header 1 ∷ row ∷ steps ∷ (0x57 ∷ 0x57 ∷ 0 ∷ drop 3 windows) ∷ drop 4 file)
+      ∷ [])
+      ≡ replicate 3 2
   -- versions 0 and 2; version 2 with 25 rows is 2, and 25 rows alone are 3
   pub versions :
       numbersRead

@@ -8,8 +8,7 @@ use mathlib.Core.Path.{_≡_}
 use Rattle.load.specs.declared.Load.{Load}
 use Rattle.load.specs.Notation.{_w_, window, rowBy, row, loadOf}
 use Rattle.rules.specs.declared.Slot.{Slot}
-use Rattle.rules.specs.WorkedStates.{findings}
-use Rattle.rules.specs.WorkedStates.{slot}
+use Rattle.rules.specs.WorkedStates.{slot, findings}
 
 -- row 1, phase 1, deadline 12: 2 w3 2 in a window of 8; row 2, deadline 5: 2
 abbrev pub pair : Load
@@ -67,8 +66,8 @@ pub record WorkedChecks : Type 0 where
   pub past-last-moment : findings pair (behind 1 6 1000000 ∷ behind 1 6 1000001 ∷ []) ≡ 17 ∷ 13 ∷ []
   -- 13 comes before 14: there is no row 9, and the slot overlaps too
   pub no-such-first : findings pair ((slot 1 1 1 ∷ slot 2 9 1 ∷ slot 6 1 2 ∷ []) ∷ []) ≡ 13 ∷ []
-  -- 14, "a slot starts before the previous slot ends": at 2, and row 1's ends at 3; at 7, and the
-  -- slot before, of its own row, ends at 8
+  -- 14, "a slot starts before the previous slot ends": at 2, and row 1's step 1 ends at 3; at 7,
+  -- and row 1's step 2 ends at 8
   pub overlaps : findings pair (between 1 2 6 ∷ behind 1 6 7 ∷ []) ≡ 14 ∷ 14 ∷ []
   -- 14 comes before 15: row 1's step 2 overlaps its step 1, and its wait is not over
   pub overlaps-first : findings pair (behind 1 2 8 ∷ []) ≡ 14 ∷ []

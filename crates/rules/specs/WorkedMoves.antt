@@ -11,8 +11,7 @@ use Rattle.load.specs.Load.{lastMoment}
 use Rattle.load.specs.Notation.{_w_, window, rowBy, row, loadOf}
 use Rattle.rules.specs.declared.Outcome.{Outcome}
 use Rattle.rules.specs.declared.Outcome.the-variants.{Start, Idle, Done, Refused}
-use Rattle.rules.specs.WorkedStates.{Progress, has, state, Seen, seen}
-use Rattle.rules.specs.WorkedStates.{slot}
+use Rattle.rules.specs.WorkedStates.{slot, Progress, has, state, Seen, seen}
 
 -- what is seen of a move: its answer, the lamp word and its count, the clock and the load's rows
 abbrev pub sees : Outcome → ℕ → ℕ → ℕ → List Progress → Seen

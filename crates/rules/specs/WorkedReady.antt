@@ -6,8 +6,7 @@ use mathlib.Core.Path.{_≡_}
 use Rattle.load.specs.Load.{lastMoment}
 use Rattle.load.specs.Notation.{_w_, window, rowBy, row, loadOf}
 use Rattle.rules.specs.declared.Outcome.the-variants.{Start, Idle}
-use Rattle.rules.specs.WorkedStates.{has, state, answers}
-use Rattle.rules.specs.WorkedStates.{slot}
+use Rattle.rules.specs.WorkedStates.{slot, has, state, answers}
 
 -- candidates
 pub record WorkedReady : Type 0 where

@@ -6,3 +6,4 @@ pub mod DecimalLaws
 pub mod SignLaws
 pub mod LampLaws
 pub mod CallLaws
+pub mod WorkedHold

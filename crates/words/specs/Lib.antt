@@ -3,4 +3,5 @@ pub mod LittleEndian
 pub mod LampWord
 pub mod TwosComplement
 pub mod Decimal
+pub mod WorkedCases
 pub mod Calls
