@@ -37,12 +37,12 @@ pub record WorkedBound : Type 0 where
       ∷ row 3 (2 w 0 ∷ 6 w 0 ∷ []) []
       ∷ row 4 (6 w 0 ∷ 2 w 0 ∷ []) []
       ∷ []) ≡ 25
-  -- "whose steps j and j+1 both exist": row 2 gives nothing, so that r is 1 and the sum 4; and none
-  -- of its steps is added, where the load is cut at 2
+  -- "whose steps j and j+1 both exist": row 2 gives nothing, so that r is 1 and the sum 4, the
+  -- smallest and not the first; and it has no step more, where the load is cut at 2
   pub both-exist :
       rowBoundsOf
-      (row 1 (1 w 9 ∷ 1 w 0 ∷ []) [] ∷ row 2 (2 w 0 ∷ []) [] ∷ row 3 (4 w 0 ∷ 5 w 0 ∷ []) [] ∷ [])
-      ≡ 18 ∷ 7 ∷ 18 ∷ []
+      (row 1 (1 w 9 ∷ 1 w 0 ∷ []) [] ∷ row 2 (2 w 0 ∷ []) [] ∷ row 3 (5 w 0 ∷ 4 w 0 ∷ []) [] ∷ [])
+      ≡ 18 ∷ 8 ∷ 18 ∷ []
   -- "the other rows": the row itself gives nothing
   pub other-rows : boundOf (row 1 (3 w 9 ∷ 1 w 0 ∷ []) [] ∷ []) ≡ 13
   -- "and are free": row 2 gives nothing at place 2, whose first step is embedded
@@ -85,10 +85,10 @@ pub record WorkedBound : Type 0 where
   pub wait-dropped :
       cut (rowsSeen (row 1 (1 w 0 ∷ []) [] ∷ row 2 (1 w 6 ∷ 2 w 0 ∷ []) [] ∷ [])) 1 .wait 1 0 ≡ 0
 
--- two rows with row bounds 2 and 10, and deadlines
+-- two rows of phases 0 and 1, with row bounds 3 and 11, and deadlines
 abbrev pub due : ℕ → ℕ → View
 due first second =
-    rowsSeen (rowBy 1 0 first (1 w 0 ∷ []) [] ∷ rowBy 2 0 second (1 w 6 ∷ 2 w 0 ∷ []) [] ∷ [])
+    rowsSeen (rowBy 1 0 first (1 w 0 ∷ []) [] ∷ rowBy 2 1 second (1 w 6 ∷ 2 w 0 ∷ []) [] ∷ [])
 
 -- all margins, those of two rows given
 abbrev pub marginsFrom : ℤ → ℤ → List ℤ
@@ -97,10 +97,10 @@ marginsFrom first second = padded mostRows (pos 0) (first ∷ second ∷ [])
 -- margins and verdict
 pub record WorkedMargins : Type 0 where
   -- "its deadline less its row bound", not less the bound; "those of rows not there are 0"
-  pub exact : margins (due 2 10) ≡ marginsFrom (pos 0) (pos 0)
-  pub missing : margins (due 1 9) ≡ marginsFrom (negsuc 0) (negsuc 0)
+  pub exact : margins (due 3 11) ≡ marginsFrom (pos 0) (pos 0)
+  pub missing : margins (due 2 10) ≡ marginsFrom (negsuc 0) (negsuc 0)
   -- "yes when no margin is negative": at 0 and 0, and not at 0 and -1 or -1 and 0
-  pub judged : map verdict (due 2 10 ∷ due 2 9 ∷ due 1 10 ∷ []) ≡ true ∷ false ∷ false ∷ []
+  pub judged : map verdict (due 3 11 ∷ due 3 10 ∷ due 2 11 ∷ []) ≡ true ∷ false ∷ false ∷ []
   -- "4 to a row, little-endian two's complement": 300 and -1, and zeros up to 96 bytes
-  pub spelled : marginBytes (due 302 9)
+  pub spelled : marginBytes (due 303 10)
       ≡ padded 96 0 (44 ∷ 1 ∷ 0 ∷ 0 ∷ 255 ∷ 255 ∷ 255 ∷ 255 ∷ [])

@@ -48,7 +48,7 @@ pub record WorkedChecks : Type 0 where
       ∷ (slot 1 1 1 ∷ slot 3 2 1 ∷ slot 6 1 2 ∷ slot 8 1 3 ∷ [])
       ∷ (slot 1 9 1 ∷ slot 3 2 1 ∷ [])
       ∷ []) ≡ 12 ∷ 12 ∷ 12 ∷ []
-  -- 13, "a slot's row or step does not exist": rows 0 and 3, steps 0 and 2
+  -- 13, "a slot's row or step does not exist": rows 0 and 3, row 2's steps 0 and 2
   pub no-such :
       findings pair
       ((slot 1 1 1 ∷ slot 3 0 1 ∷ slot 6 1 2 ∷ [])
@@ -66,8 +66,8 @@ pub record WorkedChecks : Type 0 where
   pub past-last-moment : findings pair (behind 1 6 1000000 ∷ behind 1 6 1000001 ∷ []) ≡ 17 ∷ 13 ∷ []
   -- 13 comes before 14: there is no row 9, and the slot overlaps too
   pub no-such-first : findings pair ((slot 1 1 1 ∷ slot 2 9 1 ∷ slot 6 1 2 ∷ []) ∷ []) ≡ 13 ∷ []
-  -- 14, "a slot starts before the previous slot ends": at 2, and row 1's step 1 ends at 3; at 7,
-  -- and row 1's step 2 ends at 8
+  -- 14, "a slot starts before the previous slot ends": at 2, and the one before ends at 3; at 7,
+  -- and it ends at 8, where the row is late too
   pub overlaps : findings pair (between 1 2 6 ∷ behind 1 6 7 ∷ []) ≡ 14 ∷ 14 ∷ []
   -- 14 comes before 15: row 1's step 2 overlaps its step 1, and its wait is not over
   pub overlaps-first : findings pair (behind 1 2 8 ∷ []) ≡ 14 ∷ []
@@ -96,9 +96,10 @@ pub record WorkedChecks : Type 0 where
   -- "slot by slot": the first slot is late, and the second of no row
   pub slot-by-slot :
       findings pair ((slot 4 2 1 ∷ slot 6 9 1 ∷ slot 9 1 1 ∷ []) ∷ []) ≡ 17 ∷ []
-  -- "takes 3 to 7, then 12": a cost of 0 and a limit below its chain, with no slots
+  -- "takes 3 to 7, then 12": a cost of 0, with a slot too few
   pub load-first :
       findings (loadOf (row 1 (0 w 0 ∷ []) [] ∷ [])) ([] ∷ []) ≡ 3 ∷ []
+  -- a limit below its chain, with slots of no row
   pub load-first-too :
       findings (loadOf (row 1 (2 w 4 ∷ 2 w 0 ∷ []) (window 1 2 7 ∷ []) ∷ []))
       ((slot 0 9 9 ∷ slot 0 9 9 ∷ []) ∷ []) ≡ 7 ∷ []
