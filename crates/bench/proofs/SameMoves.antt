@@ -7,10 +7,10 @@ use Rattle.load.specs.Check.{checkLoad}
 use Rattle.load.specs.View.{View}
 use Rattle.rules.specs.Move.{move}
 use Rattle.rules.specs.SameLoads.{SameLoad}
-use Rattle.rules.proofs.SameBound.{viewOf-same}
+use Rattle.rules.proofs.bound.SameBound.{viewOf-same}
 use Rattle.bench.specs.declared.Bench.{Bench}
 use Rattle.bench.specs.Held.{stateOf, handedOn, nextMove}
-use Rattle.bench.proofs.NextLaws.{nextMove-good}
+use Rattle.bench.proofs.choice.NextLaws.{nextMove-good}
 
 pub nextMove-same : (a b : Load) → SameLoad a b → checkLoad a ≡ Good → checkLoad b ≡ Good → (bench : Bench)
     → nextMove a bench ≡ nextMove b bench

@@ -1,6 +1,6 @@
 -- The worked cases of a move in memory hold, by computing.
 use mathlib.Core.Path.{refl}
-use Rattle.rules.proofs.WorkedComputing.{computing}
+use Rattle.rules.proofs.worked.WorkedComputing.{computing}
 use Rattle.bench.specs.Held.{benchOf, nextMove}
 use Rattle.bench.specs.WorkedBench.{WorkedBench}
 

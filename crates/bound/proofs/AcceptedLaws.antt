@@ -4,8 +4,8 @@ use Prim.Native.Nat.{ℕ, _+_, _-_, _≤_, _<_}
 use mathlib.Core.Path.{_≡_, ap, ap₂, _∙_}
 use native.Mathlib.Omega.{arith}
 use Rattle.counting.specs.Sums.{sumTo}
-use Rattle.counting.proofs.SumLaws.{sumTo-ext}
-use Rattle.counting.proofs.SortLaws.{at-Every}
+use Rattle.counting.proofs.sums.SumLaws.{sumTo-ext}
+use Rattle.counting.proofs.sorting.SortLaws.{at-Every}
 use Rattle.load.specs.declared.Load.{Load}
 use Rattle.load.specs.Load.{mostRows, mostSteps, lastMoment, noWindow, rowAt}
 use Rattle.load.specs.View.{View, viewOf}
@@ -21,10 +21,10 @@ use Rattle.rules.specs.Bound.{
   smallestCosts,
   bound,
 }
-use Rattle.rules.proofs.CutLaws.{Within, firstKept-le, kept-le}
-use Rattle.rules.proofs.CutBound.{keptCosts, keptWaits, bound-of-cut}
-use Rattle.rules.proofs.BoundLaws.{Ranged, largestBound, bound-le}
-use Rattle.rules.proofs.MarginLaws.{ranged-of-cut}
+use Rattle.rules.proofs.cut.CutLaws.{Within, firstKept-le, kept-le}
+use Rattle.rules.proofs.cut.CutBound.{keptCosts, keptWaits, bound-of-cut}
+use Rattle.rules.proofs.bound.BoundLaws.{Ranged, largestBound, bound-le}
+use Rattle.rules.proofs.bound.MarginLaws.{ranged-of-cut}
 
 module _ (L : View) (ok : Acceptable L) where
   pub accepted-ranged : Ranged L

@@ -7,14 +7,14 @@ use native.Mathlib.Numerals.{add-one}
 use native.Mathlib.Omega.{arith}
 use Rattle.counting.specs.Sums.{sumTo}
 use Rattle.counting.specs.Searches.{firstTo}
-use Rattle.counting.proofs.SumLaws.{sumTo-add}
-use Rattle.counting.proofs.FirstToLaws.{firstTo-unique, firstTo-first}
+use Rattle.counting.proofs.sums.SumLaws.{sumTo-add}
+use Rattle.counting.proofs.searches.FirstToLaws.{firstTo-unique, firstTo-first}
 use Rattle.load.specs.declared.Row.{Row}
 use Rattle.load.specs.declared.Load.{Load}
 use Rattle.load.specs.Load.{rowAt, stepAt}
 use Rattle.load.specs.View.{viewOf, embedded, rowWindows, embeddedAmong}
 use Rattle.rules.specs.Cut.{kept}
-use Rattle.rules.proofs.CutBound.{keptCosts, keptWaits}
+use Rattle.rules.proofs.cut.CutBound.{keptCosts, keptWaits}
 use Rattle.bound.specs.Parts.{keptFrom, keptOf, waitIn}
 
 -- a search over places stops at j

@@ -6,8 +6,8 @@ use native.Mathlib.Omega.{arith}
 use borrow.Author.Tests.{lt-ltb}
 use lib.IntN.{pos}
 use Rattle.counting.specs.Sums.{allTo}
-use Rattle.counting.proofs.TestLaws.{allTo-ext}
-use Rattle.counting.proofs.ListLaws.{getD-listTo}
+use Rattle.counting.proofs.tests.TestLaws.{allTo-ext}
+use Rattle.counting.proofs.lists.ListLaws.{getD-listTo}
 use Rattle.load.specs.Load.{mostRows}
 use Rattle.load.specs.View.{View}
 use Rattle.rules.specs.Margins.{isNegative, margin, margins, marginAt, marginIn, verdict}

@@ -9,8 +9,8 @@ use borrow.Author.Tests.{eq-eqb, ne-eqb}
 use lib.Dec.{eqb}
 use lib.ListN.{length, set, List·getD-eq-default}
 use lib.Seq.{set-out, getD-set-same, getD-set-other}
-use Rattle.counting.proofs.TestLaws.{and-right}
-use Rattle.counting.proofs.PairLaws.{pairsSmallest, pairsSmallest-ext}
+use Rattle.counting.proofs.tests.TestLaws.{and-right}
+use Rattle.counting.proofs.sorting.PairLaws.{pairsSmallest, pairsSmallest-ext}
 use Rattle.bound.specs.Parts.{at, isMarked, isOther, Costed}
 
 module _ (marks : List Bool) (i : ℕ) where

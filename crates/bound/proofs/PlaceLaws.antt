@@ -9,11 +9,11 @@ use lib.Dec.{eqb, ltb}
 use lib.ListN.{getD}
 use Rattle.counting.specs.Sums.{anyTo, maxTo}
 use Rattle.counting.specs.Lists.{filled}
-use Rattle.counting.proofs.SumLaws.{maxTo-ext}
-use Rattle.counting.proofs.MaxLaws.{maxTo-none}
-use Rattle.counting.proofs.TestLaws.{and-left, anyTo-false}
-use Rattle.counting.proofs.ListLaws.{getD-filled}
-use Rattle.counting.proofs.PairLaws.{pairsSmallest, pairsSmallest-is, pairsSmallest-ext}
+use Rattle.counting.proofs.sums.SumLaws.{maxTo-ext}
+use Rattle.counting.proofs.sums.MaxLaws.{maxTo-none}
+use Rattle.counting.proofs.tests.TestLaws.{and-left, anyTo-false}
+use Rattle.counting.proofs.lists.ListLaws.{getD-filled}
+use Rattle.counting.proofs.sorting.PairLaws.{pairsSmallest, pairsSmallest-is, pairsSmallest-ext}
 use Rattle.load.specs.View.{View, isFree, embedded}
 use Rattle.load.specs.Acceptable.{Acceptable}
 use Rattle.rules.specs.Bound.{waitLeft, largestW, isPartner, partners, pairCosts, smallestCosts}

@@ -11,7 +11,7 @@ ghost use Rattle.load.specs.Load.{mostSteps, stepAt};
 ghost use Rattle.load.specs.View.{viewOf};
 ghost use Rattle.load.specs.Acceptable.{Acceptable};
 ghost use Rattle.rules.specs.Bound.{largestPhase};
-ghost use Rattle.rules.proofs.CutBound.{keptCosts, keptWaits};
+ghost use Rattle.rules.proofs.cut.CutBound.{keptCosts, keptWaits};
 ghost use Rattle.bound.specs.Parts.{keptOf, waitIn};
 
 // Gives the smaller of two numbers.

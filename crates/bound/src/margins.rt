@@ -11,7 +11,7 @@ ghost use Rattle.load.specs.Load.{mostRows, lastMoment};
 ghost use Rattle.load.specs.View.{viewOf};
 ghost use Rattle.load.specs.Acceptable.{Acceptable};
 ghost use Rattle.rules.specs.Margins.{isNegative, margins, verdict};
-ghost use Rattle.rules.proofs.BoundLaws.{largestBound};
+ghost use Rattle.rules.proofs.bound.BoundLaws.{largestBound};
 ghost use Rattle.rules.specs.Margins.{marginIn};
 
 // Gives a deadline less a bound, negative when time is missing.

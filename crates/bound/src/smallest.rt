@@ -7,7 +7,7 @@ ghost use mathlib.Core.Bool.{cond};
 ghost use Prim.Native.Nat.{_*_, _≤_};
 ghost use lib.Dec.{ltb};
 ghost use Rattle.counting.specs.Sums.{countTo};
-ghost use Rattle.counting.proofs.PairLaws.{
+ghost use Rattle.counting.proofs.sorting.PairLaws.{
   pairsSmallest,
   pairsUpTo,
   pairsBelow,

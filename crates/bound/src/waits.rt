@@ -11,7 +11,7 @@ ghost use mathlib.Core.Bool.{cond};
 ghost use mathlib.Core.Path.{_≡_};
 ghost use Prim.Native.Nat.{_+_, _-_, _≤_, _<_, max};
 ghost use Rattle.counting.specs.Sums.{anyTo, maxTo};
-ghost use Rattle.counting.proofs.PairLaws.{pairsSmallest};
+ghost use Rattle.counting.proofs.sorting.PairLaws.{pairsSmallest};
 ghost use Rattle.load.specs.Load.{mostRows};
 ghost use Rattle.load.specs.View.{viewOf};
 ghost use Rattle.load.specs.Acceptable.{Acceptable};

@@ -6,19 +6,19 @@ use Rattle.bench.specs.declared.Moved.{Moved}
 use Rattle.reading_bench.specs.Calls.{boundBytes, verdictBytes, scheduleFile}
 use Rattle.demands.specs.Demand1.{Demand1}
 use Rattle.demands.proofs.CallsDecided.{every-answer}
-use Rattle.demands.proofs.TableLaws.{numberOf-apart, numberOf-in-table}
-use Rattle.demands.proofs.RefusedAlone.{
+use Rattle.demands.proofs.demand1.TableLaws.{numberOf-apart, numberOf-in-table}
+use Rattle.demands.proofs.demand1.RefusedAlone.{
   refused-load,
   refused-bound,
   refused-margins,
   refused-verdict,
   refused-slots,
 }
-use Rattle.demands.proofs.WritingCalls.{c-keeps, lines-keep}
-use Rattle.demands.proofs.RefusedMoves.{bench-kept}
-use Rattle.demands.proofs.NumbersHold.{numbers}
-use Rattle.demands.proofs.ExactlyHolds.{exactly-then}
-use Rattle.demands.proofs.LoadFirstHolds.{load-first}
+use Rattle.demands.proofs.demand1.WritingCalls.{c-keeps, lines-keep}
+use Rattle.demands.proofs.demand1.RefusedMoves.{bench-kept}
+use Rattle.demands.proofs.demand1.NumbersHold.{numbers}
+use Rattle.demands.proofs.demand1.ExactlyHolds.{exactly-then}
+use Rattle.demands.proofs.demand1.LoadFirstHolds.{load-first}
 
 pub demand1 : Demand1
 demand1 =

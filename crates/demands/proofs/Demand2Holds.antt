@@ -19,7 +19,7 @@ use Rattle.load_file.specs.Writing.{loadBytes}
 use Rattle.load_file.specs.Reading.{readLoad}
 use Rattle.load_file.specs.Calls.{ReadLoad, WriteLoad}
 use Rattle.load_file.specs.RoundTrip.{Held, accepted, WrittenLoad}
-use Rattle.load_file.proofs.RoundTrip.{round-trip, write-read}
+use Rattle.load_file.proofs.round_trip.RoundTrip.{round-trip, write-read}
 use Rattle.rules.specs.Bound.{bound}
 use Rattle.rules.specs.Margins.{margins, bytesOfMargins, verdict}
 use Rattle.bound.specs.declared.Bounded.{Bounded}
@@ -28,9 +28,9 @@ use Rattle.bound.specs.declared.Judged.{Judged}
 use Rattle.bound.specs.Calls.{ifGood, BoundOf, MarginsOf, VerdictOf}
 use Rattle.schedule.proofs.CheckExactly.{checkSchedule-exactly}
 use Rattle.demands.specs.Demand2.{fileIn, Demand2}
-use Rattle.demands.proofs.MovesHeld.{next-same}
-use Rattle.demands.proofs.HostHolds.{host-answers}
-use Rattle.demands.proofs.TwinsHold.{twins}
+use Rattle.demands.proofs.demand3.MovesHeld.{next-same}
+use Rattle.demands.proofs.demand2.HostHolds.{host-answers}
+use Rattle.demands.proofs.demand2.TwinsHold.{twins}
 
 -- a file that is not refused, written back
 pub file-back : (bs : List ℕ) → Bytes bs → readLoad bs .answer ≡ Good → WrittenLoad (readLoad bs .load) bs

@@ -5,7 +5,7 @@ use mathlib.Core.Bool.{true}
 use mathlib.Core.List.{List, [], _∷_}
 use mathlib.Core.Path.{_≡_, ap, sym, _∙_}
 use Rattle.counting.specs.Lists.{anyIn}
-use Rattle.counting.proofs.ListLaws.{joinTo-ext}
+use Rattle.counting.proofs.lists.ListLaws.{joinTo-ext}
 use Rattle.refusals.specs.declared.Checked.the-variants.{Good}
 use Rattle.refusals.specs.Refusals.{numberGiven}
 use Rattle.load.specs.declared.Load.{Load}
@@ -20,16 +20,16 @@ use Rattle.rules.specs.State.{State, fresh}
 use Rattle.rules.specs.Run.{stateAfter, starts, schedule}
 use Rattle.rules.specs.Check.{checkSlots, checkSchedule}
 use Rattle.rules.specs.Demand3.{GoodOrLate, good, late, Demand3 as RulesKept}
-use Rattle.rules.proofs.GoodLaws.{acceptable-good}
-use Rattle.rules.proofs.RunLaws.{starts-joined}
+use Rattle.rules.proofs.invariant.GoodLaws.{acceptable-good}
+use Rattle.rules.proofs.run.RunLaws.{starts-joined}
 use Rattle.rules.proofs.Demand3.{accepted-demand3, accepted-passes}
 use Rattle.bound.specs.declared.Judged.{Judged}
 use Rattle.bound.specs.Calls.{VerdictOf}
-use Rattle.bench.proofs.RunsLaws.{Runs-schedule}
+use Rattle.bench.proofs.running.RunsLaws.{Runs-schedule}
 use Rattle.demands.specs.Numbers.{OneOf}
 use Rattle.demands.specs.Demand3.{Run, startsOf, RunKept, Demand3}
 use Rattle.demands.proofs.Demand2Holds.{file-back, demand2}
-use Rattle.demands.proofs.RunByCalls.{run-of, run-states, run-moves}
+use Rattle.demands.proofs.demand3.RunByCalls.{run-of, run-states, run-moves}
 
 -- a check that is Good or 17, behind a load's check that is Good
 late-number : (load : Load) (slots : List Slot) → checkLoad load ≡ Good → GoodOrLate (checkSlots (viewOf load) slots)

@@ -5,7 +5,7 @@ use mathlib.Core.List.{List, [], _∷_, _++_}
 use mathlib.Core.Path.{_≡_, refl, ap, ap₂, sym, _∙_}
 use native.Mathlib.Omega.{arith}
 use lib.Dec.{eqb}
-use Rattle.counting.proofs.TestLaws.{anyTo-ext}
+use Rattle.counting.proofs.tests.TestLaws.{anyTo-ext}
 use Rattle.refusals.specs.declared.Refusal.the-variants.{IdentifierTaken, BoxTaken}
 use Rattle.refusals.specs.declared.Checked.{Checked}
 use Rattle.refusals.specs.declared.Checked.the-variants.{Good, Refused}
@@ -40,7 +40,7 @@ use Rattle.load_file.specs.Reading.{
   stepsFault,
   windowsFault,
 }
-use Rattle.load_file.proofs.ReadingLaws.{
+use Rattle.load_file.proofs.reading.ReadingLaws.{
   rowAt-read,
   rowFaultAt-parts,
   own-steps-le,

@@ -8,7 +8,7 @@ use borrow.Author.Tests.{le-ltb}
 use lib.Dec.{eqb, ltb}
 use lib.ListN.{length}
 use Rattle.counting.specs.Lists.{filled}
-use Rattle.counting.proofs.ListLaws.{filled-ext}
+use Rattle.counting.proofs.lists.ListLaws.{filled-ext}
 use Rattle.words.specs.LittleEndian.{byteAt, numberAt}
 use Rattle.refusals.specs.declared.Refusal.{Refusal}
 use Rattle.refusals.specs.declared.Refusal.the-variants.{FileShort, MarkDiffers}
@@ -29,7 +29,7 @@ use Rattle.load_file.specs.Places.{
   rowFrom,
 }
 use Rattle.load_file.specs.Reading.{dueTests}
-use Rattle.load_file.proofs.ReadingLaws.{rowTests-with, identifier-with, box-with}
+use Rattle.load_file.proofs.reading.ReadingLaws.{rowTests-with, identifier-with, box-with}
 
 -- two lists of at least n bytes that agree in the first n
 pub record Agree (n : ℕ) (bs cs : List ℕ) : Type 0 where

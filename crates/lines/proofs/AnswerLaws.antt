@@ -9,7 +9,7 @@ use borrow.Author.Tests.{lt-ltb}
 use lib.IntN.{pos}
 use lib.ListN.{take, replicate}
 use Rattle.counting.specs.Lists.{joinTo}
-use Rattle.counting.proofs.ListLaws.{getD-listTo, joinTo-ext}
+use Rattle.counting.proofs.lists.ListLaws.{getD-listTo, joinTo-ext}
 use Rattle.refusals.specs.declared.Checked.the-variants.{Good}
 use Rattle.load.specs.declared.Load.{Load}
 use Rattle.load.specs.Load.{mostRows, shown, rowAt}

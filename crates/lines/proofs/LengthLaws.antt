@@ -28,7 +28,7 @@ use Rattle.rules.specs.Margins.{margin, verdict}
 use Rattle.rules.specs.Slots.{lastEnd}
 use Rattle.rules.specs.Run.{schedule}
 use Rattle.bound.proofs.AcceptedLaws.{accepted-few}
-use Rattle.bench.proofs.RunsLaws.{schedule-most}
+use Rattle.bench.proofs.running.RunsLaws.{schedule-most}
 use Rattle.lines.specs.Lines.{
   spaced,
   yesOrNo,

@@ -11,7 +11,7 @@ use lib.Dec.{eqb, ltb}
 use lib.ListN.{length, take}
 use lib.Seq.{take-all, length-take-le, getD-take}
 use Rattle.counting.specs.Sums.{sumTo}
-use Rattle.counting.proofs.SumLaws.{sumTo-ext}
+use Rattle.counting.proofs.sums.SumLaws.{sumTo-ext}
 use Rattle.words.specs.LittleEndian.{byteAt, numberAt}
 use Rattle.refusals.specs.declared.Refusal.the-variants.{MarkDiffers, OutOfRange, EndDiffers}
 use Rattle.refusals.specs.declared.Checked.{Checked}
@@ -29,7 +29,7 @@ use Rattle.load.specs.View.{viewOf, stepsInAll}
 use Rattle.load_file.specs.Records.{headerKind, endKind, version}
 use Rattle.load_file.specs.Places.{stepsSaid, rowPlace, rowsSaid, loadIn}
 use Rattle.load_file.specs.Reading.{dueTests, headerTests, endTests, fileFault}
-use Rattle.load_file.proofs.ReadingLaws.{stepsInAll-read}
+use Rattle.load_file.proofs.reading.ReadingLaws.{stepsInAll-read}
 use Rattle.lines.specs.Lines.{linesBeside, printed, filePlaces}
 use Rattle.lines.proofs.AgreeLaws.{Agree, numberAt-agree, dueTests-agree, stepsSaid-agree}
 use Rattle.lines.proofs.AgreeFile.{

@@ -15,9 +15,9 @@ use Rattle.load_file.specs.declared.Reading.{Reading}
 use Rattle.load_file.specs.Places.{loadIn}
 use Rattle.load_file.specs.Reading.{fileFault, loadBeside, readLoad}
 use Rattle.load_file.specs.Calls.{ReadLoad}
-use Rattle.load_file.proofs.CheckLaws.{good-checkLoad}
-use Rattle.load_file.proofs.FaultLaws.{fileFault-good}
-use Rattle.load_file.proofs.ReadFile.{read-good}
+use Rattle.load_file.proofs.reading.CheckLaws.{good-checkLoad}
+use Rattle.load_file.proofs.reading.FaultLaws.{fileFault-good}
+use Rattle.load_file.proofs.round_trip.ReadFile.{read-good}
 use Rattle.lines.specs.declared.Text.{Text}
 use Rattle.lines.specs.Lines.{loadLines, refusedLine, linesBeside, printed}
 use Rattle.lines.specs.Calls.{textPlaces, textHolding}

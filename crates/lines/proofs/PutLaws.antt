@@ -6,7 +6,7 @@ use native.Mathlib.Omega.{arith}
 use lib.ListN.{length, take, replicate, length-append}
 use lib.Seq.{take-append-seam}
 use Rattle.counting.specs.Lists.{joinTo}
-use Rattle.counting.proofs.ListLaws.{joinTo-next}
+use Rattle.counting.proofs.lists.ListLaws.{joinTo-next}
 use Rattle.words.specs.declared.Word.{Word}
 use Rattle.words.specs.Calls.{wordPlaces, wordHolding}
 use Rattle.words.proofs.OverwriteLaws.{sets-more}

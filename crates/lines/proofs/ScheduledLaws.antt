@@ -16,9 +16,9 @@ use Rattle.rules.specs.declared.Slot.{Slot}
 use Rattle.rules.specs.Run.{schedule}
 use Rattle.rules.specs.Slots.{noSlot, slotAt, slotEnd, lastEnd}
 use Rattle.rules.specs.ScheduleRules.{NamesStep}
-use Rattle.rules.proofs.GoodLaws.{acceptable-good}
-use Rattle.rules.proofs.RunMade.{schedule-is-whole}
-use Rattle.rules.proofs.WholeLaws.{Whole, names}
+use Rattle.rules.proofs.invariant.GoodLaws.{acceptable-good}
+use Rattle.rules.proofs.run.RunMade.{schedule-is-whole}
+use Rattle.rules.proofs.slots.WholeLaws.{Whole, names}
 use Rattle.bound.proofs.AcceptedLaws.{accepted-few}
 use Rattle.lines.specs.Parts.{Scheduled}
 

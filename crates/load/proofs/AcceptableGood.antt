@@ -7,7 +7,7 @@ use native.Mathlib.Omega.{arith}
 use borrow.Author.Tests.{eqb-true, le-ltb, lt-leb, ne-eqb}
 use lib.Dec.{eqb, ltb}
 use lib.ListN.{length, length-take}
-use Rattle.counting.proofs.TestLaws.{or-neither, false-anyTo, true-allFrom}
+use Rattle.counting.proofs.tests.TestLaws.{or-neither, false-anyTo, true-allFrom}
 use Rattle.refusals.specs.declared.Checked.the-variants.{Good}
 use Rattle.refusals.proofs.FirstMetLaws.{good-firstFaultTo}
 use Rattle.load.specs.declared.Window.{Window}

@@ -12,7 +12,7 @@ use lib.Dec.{eqb, ltb}
 use lib.ListN.{length, length-take, List·getD-eq-default}
 use lib.Seq.{getD-take}
 use Rattle.counting.specs.Sums.{allFrom}
-use Rattle.counting.proofs.TestLaws.{or-left, or-right, anyTo-false, allFrom-true}
+use Rattle.counting.proofs.tests.TestLaws.{or-left, or-right, anyTo-false, allFrom-true}
 use Rattle.refusals.specs.declared.Refusal.the-variants.{OutOfRange}
 use Rattle.refusals.specs.declared.Checked.{Checked}
 use Rattle.refusals.specs.declared.Checked.the-variants.{Good}

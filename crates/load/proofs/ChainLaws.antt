@@ -3,7 +3,7 @@ use Prim.Native.Nat.{ℕ, _+_, _-_, _<_}
 use mathlib.Core.Path.{_≡_, ap}
 use native.Mathlib.Omega.{arith}
 use Rattle.counting.specs.Sums.{sumFrom}
-use Rattle.counting.proofs.SumLaws.{sumTo-add, sumTo-next}
+use Rattle.counting.proofs.sums.SumLaws.{sumTo-add, sumTo-next}
 use Rattle.load.specs.View.{chain}
 
 pub chain-next : (cost wait : ℕ → ℕ) (a b : ℕ) → a < b

@@ -6,8 +6,8 @@ use native.Mathlib.Nat.{min-eq-left}
 use lib.ListN.{getD}
 use Rattle.counting.specs.Sums.{anyTo}
 use Rattle.counting.specs.Lists.{filled}
-use Rattle.counting.proofs.TestLaws.{anyTo-ext}
-use Rattle.counting.proofs.ListLaws.{getD-filled}
+use Rattle.counting.proofs.tests.TestLaws.{anyTo-ext}
+use Rattle.counting.proofs.lists.ListLaws.{getD-filled}
 
 module _ {A : Type 0} where
   pub anyTo-filled : (p : A → Bool) (f : ℕ → A) (n last : ℕ) (z d : A) → n ≤ last

@@ -4,7 +4,7 @@ use Prim.Native.Nat.{ℕ, zero, suc, _+_, _-_, _≤_, _<_}
 use mathlib.Core.Path.{_≡_, ap₂}
 use native.Mathlib.Nat.{add-zero, add-suc}
 use native.Mathlib.Omega.{arith}
-use Rattle.counting.proofs.SumLaws.{sumFrom-none, sumFrom-front, sumFrom-ext}
+use Rattle.counting.proofs.sums.SumLaws.{sumFrom-none, sumFrom-front, sumFrom-ext}
 use Rattle.load.specs.View.{chain}
 
 module _ (cost wait : ℕ → ℕ) where

@@ -10,8 +10,8 @@ use borrow.Author.Tests.{ltb-true, leb-true, eqb-false, lt-ltb, le-leb, ne-eqb, 
 use lib.Dec.{eqb, leb, ltb}
 use lib.ListN.{length}
 use Rattle.counting.specs.Lists.{anyIn, firstIn}
-use Rattle.counting.proofs.TestLaws.{and-left, and-right, and-both, true-false, test-ext}
-use Rattle.counting.proofs.MemberLaws.{First, anyIn-true, true-anyIn, anyIn-ext, firstIn-only}
+use Rattle.counting.proofs.tests.TestLaws.{and-left, and-right, and-both, true-false, test-ext}
+use Rattle.counting.proofs.lists.MemberLaws.{First, anyIn-true, true-anyIn, anyIn-ext, firstIn-only}
 use Rattle.load.specs.declared.Window.{Window}
 use Rattle.load.specs.Load.{shown, noWindow}
 use Rattle.load.specs.View.{View, embeddedIn, embedded}

@@ -20,7 +20,7 @@ use Rattle.load_file.specs.declared.Reading.{Reading}
 use Rattle.load_file.specs.Places.{loadIn}
 use Rattle.load_file.specs.Reading.{fileFault, loadBeside, readLoad}
 use Rattle.load_file.specs.Calls.{ReadLoad}
-use Rattle.load_file.proofs.RoundTrip.{round-trip}
+use Rattle.load_file.proofs.round_trip.RoundTrip.{round-trip}
 use Rattle.reading_bench.specs.Calls.{Numbered, ForC}
 
 -- a refusal is given alike beside any answer

@@ -17,7 +17,7 @@ use Rattle.schedule.specs.ScheduleFile.{slotsFault}
 use Rattle.schedule.specs.Calls.{firstSlots, WriteSchedule, WriteArray}
 use Rattle.bench.specs.declared.Ran.{Ran}
 use Rattle.bench.specs.Calls.{Runs}
-use Rattle.bench.proofs.RunsLaws.{Runs-schedule, Runs-count, schedule-most}
+use Rattle.bench.proofs.running.RunsLaws.{Runs-schedule, Runs-count, schedule-most}
 use Rattle.reading_bench.specs.Calls.{scheduleFile}
 
 module _ (load : Load) (good : checkLoad load ≡ Good) where

@@ -8,7 +8,7 @@ use lib.Dec.{ltb}
 use lib.IntN.{pos, negsuc, _-ℤ_}
 use lib.ListN.{length}
 use borrow.Author.Tests.{not-true, ltb-false}
-use Rattle.counting.proofs.TestLaws.{allTo-true, true-false}
+use Rattle.counting.proofs.tests.TestLaws.{allTo-true, true-false}
 use Rattle.refusals.specs.declared.Checked.the-variants as found
 use Rattle.load.specs.declared.Load.{Load}
 use Rattle.load.specs.View.{View, viewOf}
@@ -20,17 +20,17 @@ use Rattle.rules.specs.Run.{schedule}
 use Rattle.rules.specs.Slots.{slotAt, rowOf, slotEnd}
 use Rattle.rules.specs.Check.{checkSchedule}
 use Rattle.rules.specs.Demand3.{Demand3}
-use Rattle.rules.proofs.TightBound.{tightBound, tightBound-le}
-use Rattle.rules.proofs.Good.{Good}
-use Rattle.rules.proofs.GoodLaws.{acceptable-good}
-use Rattle.rules.proofs.ClockBound.{tightBound-fits}
-use Rattle.rules.proofs.RunLaws.{run-done, run-number, run-clock, starts-joined, schedule-whole}
-use Rattle.rules.proofs.RunEnd.{schedule-ends}
-use Rattle.rules.proofs.WholeLaws.{Whole, free-last, rules-hold}
-use Rattle.rules.proofs.NextLaws.{slot-is}
-use Rattle.rules.proofs.RunMade.{finished-all, schedule-is-whole, schedule-lower, last-ends}
-use Rattle.rules.proofs.SlotsPass.{check-late, check-good}
-use Rattle.rules.proofs.CutRun.{row-in-bound}
+use Rattle.rules.proofs.bound.TightBound.{tightBound, tightBound-le}
+use Rattle.rules.proofs.invariant.Good.{Good}
+use Rattle.rules.proofs.invariant.GoodLaws.{acceptable-good}
+use Rattle.rules.proofs.invariant.ClockBound.{tightBound-fits}
+use Rattle.rules.proofs.run.RunLaws.{run-done, run-number, run-clock, starts-joined, schedule-whole}
+use Rattle.rules.proofs.run.RunEnd.{schedule-ends}
+use Rattle.rules.proofs.slots.WholeLaws.{Whole, free-last, rules-hold}
+use Rattle.rules.proofs.slots.NextLaws.{slot-is}
+use Rattle.rules.proofs.run.RunMade.{finished-all, schedule-is-whole, schedule-lower, last-ends}
+use Rattle.rules.proofs.check.SlotsPass.{check-late, check-good}
+use Rattle.rules.proofs.cut.CutRun.{row-in-bound}
 
 -- a margin that is not negative
 difference-le : (d b : ℕ) → isNegative (pos d -ℤ pos b) ≡ false → b ≤ d

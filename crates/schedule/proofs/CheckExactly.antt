@@ -10,7 +10,7 @@ use Rattle.load.specs.Check.{checkLoad}
 use Rattle.load.proofs.AcceptableLaws.{check-acceptable}
 use Rattle.rules.specs.declared.Slot.{Slot}
 use Rattle.rules.specs.Check.{checkSlots, checkSchedule}
-use Rattle.rules.proofs.CheckLaws.{check-rules, rules-check}
+use Rattle.rules.proofs.check.CheckLaws.{check-rules, rules-check}
 use Rattle.schedule.specs.CheckExactly.{KeepsRules, CheckExactly}
 
 module _ (load : Load) (slots : List Slot) where

@@ -9,7 +9,7 @@ use native.Mathlib.Omega.{arith}
 use lib.ListN.{length, drop, getD, set}
 use lib.Seq.{sets, sets-eq, set-out, set-comm, drop-cons}
 use Rattle.counting.specs.Lists.{joinTo}
-use Rattle.counting.proofs.ListLaws.{joinTo-zero, joinTo-next, joinTo-length-same}
+use Rattle.counting.proofs.lists.ListLaws.{joinTo-zero, joinTo-next, joinTo-length-same}
 
 module _ {A : Type 0} where
   -- from the end on nothing is written

@@ -11,9 +11,9 @@ use Rattle.load.specs.View.{viewOf}
 use Rattle.bench.specs.Held.{stateOf}
 use Rattle.bench.specs.Alike.{lookOf, Modest}
 use Rattle.bench.specs.Boards.{lookIn, Wide}
-use Rattle.bench.proofs.CheckedLaws.{checked-rows, checked-fitting, shaped-clock, shaped-row}
-use Rattle.bench.proofs.LookLaws.{look-of-row}
-use Rattle.bench.proofs.BoardLaws.{boardWith-same, boardWith-other, boardWith-wide}
+use Rattle.bench.proofs.shown.CheckedLaws.{checked-rows, checked-fitting, shaped-clock, shaped-row}
+use Rattle.bench.proofs.shown.LookLaws.{look-of-row}
+use Rattle.bench.proofs.shown.BoardLaws.{boardWith-same, boardWith-other, boardWith-wide}
 use borrow.Author.Needs.{needs}
 use Rattle.bench.proofs.boards.board_of.Statement.{statement}
 use Rattle.bench.proofs.boards.board_of.Tie as tie

@@ -9,7 +9,7 @@ use native.Mathlib.Omega.{arith}
 use borrow.Author.Needs.{needs}
 use lib.ListN.{getD}
 use lib.Pow.{pow-mono}
-use Rattle.counting.proofs.SumLaws.{sumTo-zero, sumTo-next}
+use Rattle.counting.proofs.sums.SumLaws.{sumTo-zero, sumTo-next}
 use Rattle.words.specs.LampWord.{wordOf}
 use Rattle.words.proofs.LampLaws.{wordOf-lt}
 use Rattle.bench.proofs.lamps.lamp_word.Statement.{statement}

@@ -1,7 +1,7 @@
 -- `look_of` puts together what the calls find of the row.
 use native.Mathlib.Omega.{arith}
 use borrow.Author.Needs.{needs}
-use Rattle.bench.proofs.LookLaws.{found-is}
+use Rattle.bench.proofs.shown.LookLaws.{found-is}
 use Rattle.bench.proofs.lookups.look_of.Statement.{statement}
 use Rattle.bench.proofs.lookups.look_of.Tie as tie
 

@@ -7,7 +7,7 @@ use borrow.Author.Needs.{needs}
 use borrow.Author.Tests.{le-leb, lt-leb, lt-ltb, le-ltb}
 use lib.ListN.{take, drop}
 use Rattle.counting.specs.Lists.{firstIn}
-use Rattle.counting.proofs.FirstInLaws.{firstIn-from, firstIn-past}
+use Rattle.counting.proofs.searches.FirstInLaws.{firstIn-from, firstIn-past}
 use Rattle.load.specs.Load.{noWindow}
 use Rattle.rules.specs.State.{openWith, openWindow}
 use Rattle.bench.proofs.lookups.open_window.Statement.{statement}

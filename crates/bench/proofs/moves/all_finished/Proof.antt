@@ -4,7 +4,7 @@ use mathlib.Core.Bool.{true}
 use mathlib.Core.Path.{_≡_, ap, sym, _∙_}
 use native.Mathlib.Omega.{arith}
 use borrow.Author.Tests.{le-leb, lt-leb}
-use Rattle.counting.proofs.TestLaws.{allTo-zero, allTo-next, false-allTo}
+use Rattle.counting.proofs.tests.TestLaws.{allTo-zero, allTo-next, false-allTo}
 use Rattle.bench.specs.Moves.{finishedIn}
 use borrow.Author.Needs.{needs}
 use Rattle.bench.proofs.moves.all_finished.Statement.{statement}

@@ -2,7 +2,7 @@
 use mathlib.Core.Path.{sym, _∙_}
 use borrow.Author.Tests.{not-true, not-false}
 use Rattle.load.specs.View.{viewOf}
-use Rattle.bench.proofs.NextLaws.{unshaped-move}
+use Rattle.bench.proofs.choice.NextLaws.{unshaped-move}
 use borrow.Author.Needs.{needs}
 use Rattle.bench.proofs.moves.move_checked.Statement.{statement}
 use Rattle.bench.proofs.moves.move_checked.Tie as tie

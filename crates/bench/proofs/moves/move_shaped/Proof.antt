@@ -5,10 +5,10 @@ use lib.ListN.{length-map}
 use Rattle.load.specs.View.{viewOf}
 use Rattle.rules.specs.Move.{allFinished}
 use Rattle.bench.specs.Held.{stateOf}
-use Rattle.bench.proofs.HeldLaws.{Sized}
-use Rattle.bench.proofs.CheckedLaws.{checked-rows, shaped-clock}
-use Rattle.bench.proofs.JoinLaws.{finished-same}
-use Rattle.bench.proofs.NextLaws.{full-move, finished-is, done-move, stepped-move}
+use Rattle.bench.proofs.shown.HeldLaws.{Sized}
+use Rattle.bench.proofs.shown.CheckedLaws.{checked-rows, shaped-clock}
+use Rattle.bench.proofs.choice.JoinLaws.{finished-same}
+use Rattle.bench.proofs.choice.NextLaws.{full-move, finished-is, done-move, stepped-move}
 use borrow.Author.Needs.{needs}
 use Rattle.bench.proofs.moves.move_shaped.Statement.{statement}
 use Rattle.bench.proofs.moves.move_shaped.Tie as tie

@@ -1,6 +1,6 @@
 -- `next_move` checks the load first: its refusal is the move's, and else the move is the rules'.
 use mathlib.Core.Path.{sym, _∙_}
-use Rattle.bench.proofs.NextLaws.{nextMove-good, nextMove-refused}
+use Rattle.bench.proofs.choice.NextLaws.{nextMove-good, nextMove-refused}
 use borrow.Author.Needs.{needs}
 use Rattle.bench.proofs.moves.next_move.Statement.{statement}
 use Rattle.bench.proofs.moves.next_move.Tie as tie

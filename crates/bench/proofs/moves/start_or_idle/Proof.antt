@@ -4,7 +4,7 @@ use native.Mathlib.Omega.{arith}
 use Rattle.counting.specs.Sums.{allTo}
 use Rattle.bench.specs.Boards.{lookIn}
 use Rattle.bench.specs.Choices.{belowIn}
-use Rattle.bench.proofs.SearchLaws.{candidate-more}
+use Rattle.bench.proofs.choice.SearchLaws.{candidate-more}
 use borrow.Author.Needs.{needs}
 use Rattle.bench.proofs.moves.start_or_idle.Statement.{statement}
 use Rattle.bench.proofs.moves.start_or_idle.Tie as tie

@@ -4,7 +4,7 @@ use mathlib.Core.Bool.{Bool, true, false, cond}
 use mathlib.Core.Path.{_≡_, ap₂, sym, _∙_}
 use native.Mathlib.Omega.{arith}
 use borrow.Author.Tests.{not-true, not-false}
-use Rattle.counting.proofs.SumLaws.{sumTo-zero, sumTo-next}
+use Rattle.counting.proofs.sums.SumLaws.{sumTo-zero, sumTo-next}
 use Rattle.bench.specs.Boards.{lookIn}
 use Rattle.bench.specs.Running.{isSooner, workBefore}
 use borrow.Author.Needs.{needs}

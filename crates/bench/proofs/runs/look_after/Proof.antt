@@ -6,7 +6,7 @@ use native.Mathlib.Omega.{arith}
 use Rattle.load.specs.Load.{lastMoment}
 use Rattle.bench.specs.Boards.{lookIn}
 use Rattle.bench.specs.Choices.{openingBy}
-use Rattle.bench.proofs.SearchLaws.{candidate-more, candidate-ends}
+use Rattle.bench.proofs.choice.SearchLaws.{candidate-more, candidate-ends}
 use borrow.Author.Needs.{needs}
 use Rattle.bench.proofs.runs.look_after.Statement.{statement}
 use Rattle.bench.proofs.runs.look_after.Tie as tie

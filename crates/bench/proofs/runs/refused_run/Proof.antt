@@ -1,7 +1,7 @@
 -- `refused_run` fills no place of the array.
 use mathlib.Core.List.{[]}
 use mathlib.Core.Path.{ap, sym}
-use Rattle.counting.proofs.ListLaws.{filled-none}
+use Rattle.counting.proofs.lists.ListLaws.{filled-none}
 use Rattle.refusals.specs.declared.Checked.the-variants.{Refused}
 use Rattle.rules.specs.Slots.{noSlot, places, slotAt}
 use Rattle.bench.proofs.runs.refused_run.Statement.{statement}

@@ -1,7 +1,7 @@
 -- `run` checks the load first: a load that is refused has no slot, and any other is run.
 use mathlib.Core.Path.{ap₂, sym, _∙_}
 use Rattle.bench.specs.Runs.{ranWith}
-use Rattle.bench.proofs.RunsLaws.{scheduleOr-good, scheduleOr-refused}
+use Rattle.bench.proofs.running.RunsLaws.{scheduleOr-good, scheduleOr-refused}
 use borrow.Author.Needs.{needs}
 use Rattle.bench.proofs.runs.run.Statement.{statement}
 use Rattle.bench.proofs.runs.run.Tie as tie

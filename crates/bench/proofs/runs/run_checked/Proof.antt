@@ -11,10 +11,10 @@ use Rattle.bench.specs.declared.Bench.{Bench}
 use Rattle.bench.specs.Boards.{Shows}
 use Rattle.bench.specs.Choices.{BoardFits}
 use Rattle.bench.specs.Moves.{finishedIn}
-use Rattle.bench.proofs.CheckedLaws.{checked-rows, checked-fitting}
-use Rattle.bench.proofs.RunningLaws.{Running, fresh-shaped, running-fresh, running-early}
-use Rattle.bench.proofs.RunningLaws.{running-done, running-on}
-use Rattle.bench.proofs.StartedRun.{Startable, running-startable, running-start}
+use Rattle.bench.proofs.shown.CheckedLaws.{checked-rows, checked-fitting}
+use Rattle.bench.proofs.running.RunningLaws.{Running, fresh-shaped, running-fresh, running-early}
+use Rattle.bench.proofs.running.RunningLaws.{running-done, running-on}
+use Rattle.bench.proofs.running.StartedRun.{Startable, running-startable, running-start}
 use borrow.Author.Needs.{needs}
 use Rattle.bench.proofs.runs.run_checked.Statement.{statement}
 use Rattle.bench.proofs.runs.run_checked.Tie as tie

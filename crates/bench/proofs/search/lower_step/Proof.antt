@@ -1,5 +1,5 @@
 -- `lower_step` takes a row's next step only where there is one, and it is lower.
-use Rattle.bench.proofs.SearchLaws.{lower-finished, lower-ahead, lower-behind}
+use Rattle.bench.proofs.choice.SearchLaws.{lower-finished, lower-ahead, lower-behind}
 use Rattle.bench.proofs.search.lower_step.Statement.{statement}
 use Rattle.bench.proofs.search.lower_step.Tie as tie
 

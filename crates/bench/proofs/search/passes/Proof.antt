@@ -3,7 +3,7 @@ use mathlib.Core.Path.{_∙_}
 use native.Mathlib.Omega.{arith}
 use Rattle.bench.specs.Boards.{lookIn}
 use Rattle.bench.specs.Choices.{passesIn}
-use Rattle.bench.proofs.PassLaws.{openingBy-le, plan-fits}
+use Rattle.bench.proofs.choice.PassLaws.{openingBy-le, plan-fits}
 use borrow.Author.Needs.{needs}
 use Rattle.bench.proofs.search.passes.Statement.{statement}
 use Rattle.bench.proofs.search.passes.Tie as tie

@@ -4,9 +4,9 @@ use Prim.Native.Nat.{_-_, _≤_}
 use mathlib.Core.Logic.{⊎-elim}
 use mathlib.Core.Path.{_≡_, refl, sym, _∙_, subst}
 use native.Mathlib.Omega.{arith}
-use Rattle.counting.proofs.TestLaws.{true-false}
+use Rattle.counting.proofs.tests.TestLaws.{true-false}
 use Rattle.bench.specs.Choices.{candidateIn}
-use Rattle.bench.proofs.SearchLaws.{
+use Rattle.bench.proofs.choice.SearchLaws.{
   PassedSteps,
   PassedRows,
   passed-lowest,

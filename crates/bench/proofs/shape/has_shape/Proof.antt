@@ -1,7 +1,7 @@
 -- `has_shape` asks the clock, the rows of the load and the places of the others in turn.
 use mathlib.Core.Path.{sym, _∙_}
 use borrow.Author.Tests.{le-leb, lt-leb, not-true, not-false}
-use Rattle.bench.proofs.LookLaws.{shaped-is}
+use Rattle.bench.proofs.shown.LookLaws.{shaped-is}
 use borrow.Author.Needs.{needs}
 use Rattle.bench.proofs.shape.has_shape.Statement.{statement}
 use Rattle.bench.proofs.shape.has_shape.Tie as tie

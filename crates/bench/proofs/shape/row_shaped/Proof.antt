@@ -2,7 +2,7 @@
 use borrow.Author.Needs.{needs}
 use borrow.Author.Tests.{le-leb, lt-leb}
 use Rattle.bench.specs.Alike.{viewAlike, stateAlike}
-use Rattle.bench.proofs.LookLaws.{isOpen-last}
+use Rattle.bench.proofs.shown.LookLaws.{isOpen-last}
 use Rattle.rules.specs.State.{openWindow}
 use Rattle.bench.proofs.shape.row_shaped.Statement.{statement}
 use Rattle.bench.proofs.shape.row_shaped.Tie as tie

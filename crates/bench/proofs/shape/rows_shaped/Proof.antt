@@ -5,12 +5,12 @@ use mathlib.Core.Path.{_≡_, sym, _∙_, ap}
 use native.Mathlib.Omega.{arith}
 use borrow.Author.Tests.{not-true, not-false}
 use Rattle.counting.specs.Sums.{allTo}
-use Rattle.counting.proofs.TestLaws.{allTo-zero, allTo-next, false-allTo}
+use Rattle.counting.proofs.tests.TestLaws.{allTo-zero, allTo-next, false-allTo}
 use Rattle.load.specs.View.{viewOf}
 use Rattle.rules.specs.State.{rowShaped}
 use Rattle.bench.specs.Held.{stateOf}
-use Rattle.bench.proofs.LookLaws.{shape-of-row}
-use Rattle.bench.proofs.CheckedLaws.{checked-rows, checked-fitting}
+use Rattle.bench.proofs.shown.LookLaws.{shape-of-row}
+use Rattle.bench.proofs.shown.CheckedLaws.{checked-rows, checked-fitting}
 use borrow.Author.Needs.{needs}
 use Rattle.bench.proofs.shape.rows_shaped.Statement.{statement}
 use Rattle.bench.proofs.shape.rows_shaped.Tie as tie

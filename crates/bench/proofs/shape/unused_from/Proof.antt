@@ -3,7 +3,7 @@ use Prim.Native.Nat.{_-_}
 use mathlib.Core.Path.{_≡_, refl, sym, _∙_}
 use borrow.Author.Tests.{not-true, not-false}
 use Rattle.counting.specs.Sums.{allFrom}
-use Rattle.counting.proofs.FromLaws.{allFrom-zero, allFrom-next}
+use Rattle.counting.proofs.tests.FromLaws.{allFrom-zero, allFrom-next}
 use Rattle.rules.specs.State.{rowUnused}
 use Rattle.bench.specs.Held.{stateOf}
 use borrow.Author.Needs.{needs}

@@ -4,7 +4,7 @@ use mathlib.Core.Path.{_≡_, _∙_, ap}
 use native.Mathlib.Omega.{arith}
 use borrow.Author.Needs.{needs}
 use lib.ListN.{getD}
-use Rattle.counting.proofs.ListLaws.{getD-listTo}
+use Rattle.counting.proofs.lists.ListLaws.{getD-listTo}
 use Rattle.load.specs.View.{viewOf}
 use Rattle.rules.specs.Cut.{cut}
 use Rattle.rules.specs.Bound.{bound}

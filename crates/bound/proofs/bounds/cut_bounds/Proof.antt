@@ -4,7 +4,7 @@ use mathlib.Core.Path.{_≡_, sym, _∙_, ap}
 use native.Mathlib.Omega.{arith}
 use borrow.Author.Needs.{needs}
 use Rattle.counting.specs.Lists.{listTo, filled}
-use Rattle.counting.proofs.ListLaws.{filled-none, filled-stored, filled-all}
+use Rattle.counting.proofs.lists.ListLaws.{filled-none, filled-stored, filled-all}
 use Rattle.load.specs.View.{View, viewOf}
 use Rattle.rules.specs.Cut.{cut}
 use Rattle.rules.specs.Bound.{bound}

@@ -6,8 +6,8 @@ use borrow.Author.Needs.{needs}
 use lib.ListN.{replicate}
 use Rattle.counting.specs.Sums.{sumTo}
 use Rattle.counting.specs.Lists.{joinTo, filled}
-use Rattle.counting.proofs.SumLaws.{sumTo-next}
-use Rattle.counting.proofs.ListLaws.{filled-stored, filled-all}
+use Rattle.counting.proofs.sums.SumLaws.{sumTo-next}
+use Rattle.counting.proofs.lists.ListLaws.{filled-stored, filled-all}
 use Rattle.load.specs.View.{View, viewOf}
 use Rattle.rules.specs.Bound.{largestW, smallestCosts}
 use Rattle.bound.specs.Parts.{waitsBelow}

@@ -9,7 +9,7 @@ use lib.ListN.{length, replicate, drop}
 use lib.Seq.{sets}
 use mir.Facts.{toZ-ofZ}
 use Rattle.counting.specs.Lists.{joinTo}
-use Rattle.counting.proofs.ListLaws.{joinTo-next, joinTo-length-same}
+use Rattle.counting.proofs.lists.ListLaws.{joinTo-next, joinTo-length-same}
 use Rattle.words.specs.LittleEndian.{littleEndian}
 use Rattle.words.specs.TwosComplement.{twosComplement}
 use Rattle.words.proofs.LittleEndianLaws.{littleEndian-length}

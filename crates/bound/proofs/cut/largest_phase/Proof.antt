@@ -5,7 +5,7 @@ use mathlib.Core.Logic.{⊎-elim}
 use native.Mathlib.Omega.{arith}
 use borrow.Author.Needs.{needs}
 use Rattle.counting.specs.Sums.{maxTo}
-use Rattle.counting.proofs.SumLaws.{maxTo-zero, maxTo-next}
+use Rattle.counting.proofs.sums.SumLaws.{maxTo-zero, maxTo-next}
 use Rattle.load.specs.declared.Load.{Load}
 use Rattle.load.specs.Load.{rowAt}
 use Rattle.load.specs.View.{viewOf}

@@ -9,7 +9,7 @@ use mir.Facts.{toZ-ofZ}
 use mir.Syntax.{w32}
 use mir.Val.{toZ, ofZ}
 use Rattle.counting.specs.Lists.{listTo, filled}
-use Rattle.counting.proofs.ListLaws.{filled-none, filled-stored, filled-listTo, getD-listTo}
+use Rattle.counting.proofs.lists.ListLaws.{filled-none, filled-stored, filled-listTo, getD-listTo}
 use Rattle.load.specs.declared.Load.{Load}
 use Rattle.load.specs.Load.{rowAt}
 use Rattle.load.specs.View.{viewOf}

@@ -10,7 +10,7 @@ use mir.Facts.{toZ-ofZ}
 use mir.Syntax.{w32}
 use mir.Val.{SFits}
 use Rattle.counting.specs.Sums.{allTo}
-use Rattle.counting.proofs.TestLaws.{and-both, allTo-zero, allTo-next, false-allTo}
+use Rattle.counting.proofs.tests.TestLaws.{and-both, allTo-zero, allTo-next, false-allTo}
 use Rattle.rules.specs.Margins.{isNegative}
 use Rattle.rules.specs.Margins.{marginIn}
 use Rattle.bound.proofs.SignLaws.{each-fits}

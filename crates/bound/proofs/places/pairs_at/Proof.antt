@@ -5,7 +5,7 @@ use mathlib.Core.Path.{_≡_, sym, _∙_, ap}
 use native.Mathlib.Omega.{arith}
 use borrow.Author.Needs.{needs}
 use Rattle.counting.specs.Lists.{filled}
-use Rattle.counting.proofs.ListLaws.{filled-none, filled-stored}
+use Rattle.counting.proofs.lists.ListLaws.{filled-none, filled-stored}
 use Rattle.load.specs.declared.Load.{Load}
 use Rattle.load.specs.Load.{rowAt}
 use Rattle.bound.specs.Parts.{freeIn}

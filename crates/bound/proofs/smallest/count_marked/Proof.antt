@@ -5,7 +5,7 @@ use mathlib.Core.Path.{_≡_, sym, _∙_, ap}
 use native.Mathlib.Omega.{arith}
 use borrow.Author.Needs.{needs}
 use Rattle.counting.specs.Sums.{countTo}
-use Rattle.counting.proofs.SumLaws.{sumTo-zero, sumTo-next}
+use Rattle.counting.proofs.sums.SumLaws.{sumTo-zero, sumTo-next}
 use Rattle.bound.specs.Parts.{isMarked}
 use Rattle.bound.proofs.FlagLaws.{boolByte-bit, bit-le}
 use Rattle.bound.proofs.smallest.count_marked.Statement.{statement}

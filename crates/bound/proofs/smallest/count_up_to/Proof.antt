@@ -8,7 +8,7 @@ use borrow.Author.Needs.{needs}
 use lib.Dec.{leb}
 use mir.Val.{boolByte}
 use Rattle.counting.specs.Sums.{bit}
-use Rattle.counting.proofs.PairLaws.{pairsUpTo, pairTotal-zero, pairTotal-next}
+use Rattle.counting.proofs.sorting.PairLaws.{pairsUpTo, pairTotal-zero, pairTotal-next}
 use Rattle.bound.specs.Parts.{at, isMarked}
 use Rattle.bound.proofs.FlagLaws.{boolByte-bit, bit-le}
 use Rattle.bound.proofs.smallest.count_up_to.Statement.{statement}

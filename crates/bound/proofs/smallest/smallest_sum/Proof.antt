@@ -4,7 +4,7 @@ use mathlib.Core.Path.{sym, ap, _∙_}
 use native.Mathlib.Nat.{mul-le-mul}
 use native.Mathlib.Omega.{arith}
 use borrow.Author.Needs.{needs}
-use Rattle.counting.proofs.PairLaws.{pairsSmallest-threshold}
+use Rattle.counting.proofs.sorting.PairLaws.{pairsSmallest-threshold}
 use Rattle.bound.proofs.smallest.smallest_sum.Statement.{statement}
 use Rattle.bound.proofs.smallest.smallest_sum.Tie as tie
 

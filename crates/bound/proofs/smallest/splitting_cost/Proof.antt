@@ -4,7 +4,7 @@ use Prim.Native.Nat.{ℕ, _+_, _-_, _/_, _≤_}
 use mathlib.Core.Path.{_≡_}
 use native.Mathlib.Omega.{arith}
 use borrow.Author.Needs.{needs}
-use Rattle.counting.proofs.PairLaws.{
+use Rattle.counting.proofs.sorting.PairLaws.{
   pairsBelow,
   pairsUpTo,
   pairsBelow-none,

@@ -4,7 +4,7 @@ use mathlib.Core.Path.{_≡_, sym, _∙_, ap}
 use mathlib.Core.Logic.{⊎-elim}
 use native.Mathlib.Omega.{arith}
 use borrow.Author.Needs.{needs}
-use Rattle.counting.proofs.PairLaws.{pairsSumBelow, pairTotal-zero, pairTotal-next}
+use Rattle.counting.proofs.sorting.PairLaws.{pairsSumBelow, pairTotal-zero, pairTotal-next}
 use Rattle.bound.specs.Parts.{at, isMarked}
 use Rattle.bound.proofs.smallest.sum_below.Statement.{statement}
 use Rattle.bound.proofs.smallest.sum_below.Tie as tie

@@ -5,7 +5,7 @@ use mathlib.Core.Path.{_≡_, sym, _∙_, ap}
 use native.Mathlib.Omega.{arith}
 use borrow.Author.Needs.{needs}
 use Rattle.counting.specs.Sums.{anyTo}
-use Rattle.counting.proofs.TestLaws.{or-neither, anyTo-zero, anyTo-next, true-anyTo}
+use Rattle.counting.proofs.tests.TestLaws.{or-neither, anyTo-zero, anyTo-next, true-anyTo}
 use Rattle.bound.specs.Parts.{isMarked}
 use Rattle.bound.proofs.waits.any_marked.Statement.{statement}
 use Rattle.bound.proofs.waits.any_marked.Tie as tie

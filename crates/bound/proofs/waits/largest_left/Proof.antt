@@ -7,8 +7,8 @@ use mathlib.Core.Logic.{⊎-elim}
 use native.Mathlib.Omega.{arith}
 use borrow.Author.Needs.{needs}
 use Rattle.counting.specs.Sums.{maxTo}
-use Rattle.counting.proofs.SumLaws.{maxTo-zero, maxTo-next}
-use Rattle.counting.proofs.PairLaws.{pairsSmallest}
+use Rattle.counting.proofs.sums.SumLaws.{maxTo-zero, maxTo-next}
+use Rattle.counting.proofs.sorting.PairLaws.{pairsSmallest}
 use Rattle.bound.specs.Parts.{at, isMarked, isOther}
 use Rattle.bound.proofs.waits.largest_left.Statement.{statement}
 use Rattle.bound.proofs.waits.largest_left.Tie as tie

@@ -2,7 +2,7 @@
 use mathlib.Core.Path.{_∙_}
 use native.Mathlib.Omega.{arith}
 use borrow.Author.Needs.{needs}
-use Rattle.bench.proofs.RunsLaws.{Runs-schedule, Runs-count, schedule-counted, schedule-most}
+use Rattle.bench.proofs.running.RunsLaws.{Runs-schedule, Runs-count, schedule-counted, schedule-most}
 use Rattle.lines.proofs.gather.put_load.Statement.{statement}
 use Rattle.lines.proofs.gather.put_load.Tie as tie
 

@@ -5,7 +5,7 @@ use mathlib.Core.Path.{_≡_, sym, _∙_, ap}
 use native.Mathlib.Omega.{arith}
 use borrow.Author.Needs.{needs}
 use Rattle.counting.specs.Sums.{sumTo}
-use Rattle.counting.proofs.SumLaws.{sumTo-zero, sumTo-next}
+use Rattle.counting.proofs.sums.SumLaws.{sumTo-zero, sumTo-next}
 use Rattle.load.specs.declared.Row.{Row}
 use Rattle.load.specs.Load.{stepAt}
 use Rattle.load.proofs.chains.ticks_between.Statement.{statement}

@@ -6,7 +6,7 @@ use native.Mathlib.Omega.{arith}
 use borrow.Author.Needs.{needs}
 use lib.Dec.{eqb}
 use Rattle.counting.specs.Lists.{filled}
-use Rattle.counting.proofs.ListLaws.{filled-none, set-filled}
+use Rattle.counting.proofs.lists.ListLaws.{filled-none, set-filled}
 use Rattle.refusals.specs.declared.Checked.{Checked}
 use Rattle.refusals.specs.declared.Checked.the-variants.{Good}
 use Rattle.refusals.specs.FirstMet.{firstFaultTo}

@@ -10,7 +10,7 @@ use borrow.Author.Tests.{eq-eqb, ne-eqb}
 use lib.Dec.{eqb}
 use lib.ListN.{getD}
 use Rattle.counting.specs.Sums.{anyTo}
-use Rattle.counting.proofs.TestLaws.{or-neither, anyTo-zero, anyTo-next, true-anyTo}
+use Rattle.counting.proofs.tests.TestLaws.{or-neither, anyTo-zero, anyTo-next, true-anyTo}
 use Rattle.load.specs.declared.BoxNumber.{BoxNumber}
 use Rattle.load.proofs.taken.box_taken.Statement.{statement}
 use Rattle.load.proofs.taken.box_taken.Tie as tie

@@ -7,8 +7,8 @@ use native.Mathlib.Omega.{arith}
 use lib.ListN.{length, length-map}
 use borrow.Author.Needs.{needs}
 use Rattle.counting.specs.Sums.{anyTo}
-use Rattle.counting.proofs.TestLaws.{or-neither, anyTo-zero, anyTo-next, true-anyTo}
-use Rattle.counting.proofs.MemberLaws.{anyIn-take}
+use Rattle.counting.proofs.tests.TestLaws.{or-neither, anyTo-zero, anyTo-next, true-anyTo}
+use Rattle.counting.proofs.lists.MemberLaws.{anyIn-take}
 use Rattle.load.specs.declared.Row.{Row}
 use Rattle.load.specs.Load.{shown, noWindow, windowAt}
 use Rattle.load.specs.View.{rowWindows, embeddedIn, embeddedAmong}

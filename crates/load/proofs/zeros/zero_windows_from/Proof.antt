@@ -5,7 +5,7 @@ use mathlib.Core.Path.{_≡_, refl, sym, _∙_}
 use borrow.Author.Needs.{needs}
 use borrow.Author.Tests.{not-true, not-false}
 use Rattle.counting.specs.Sums.{allFrom}
-use Rattle.counting.proofs.FromLaws.{allFrom-zero, allFrom-next}
+use Rattle.counting.proofs.tests.FromLaws.{allFrom-zero, allFrom-next}
 use Rattle.load.specs.declared.Row.{Row}
 use Rattle.load.specs.Load.{windowAt}
 use Rattle.load.specs.Check.{isZeroWindow}

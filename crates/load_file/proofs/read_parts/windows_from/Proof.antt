@@ -4,7 +4,7 @@ use Prim.Native.Nat.{_+_, _*_, _-_, _≤_, _<_}
 use mathlib.Core.Path.{_≡_, sym, _∙_, ap}
 use native.Mathlib.Omega.{arith}
 use borrow.Author.Needs.{needs}
-use Rattle.counting.proofs.ListLaws.{filled-none, filled-stored}
+use Rattle.counting.proofs.lists.ListLaws.{filled-none, filled-stored}
 use Rattle.load.specs.Load.{mostWindows, noWindow}
 use Rattle.load_file.specs.Places.{windowIn}
 use Rattle.load_file.specs.ReadingSteps.{windowsFrom}

@@ -6,7 +6,7 @@ use native.Mathlib.Omega.{arith}
 use borrow.Author.Needs.{needs}
 use lib.ListN.{length}
 use Rattle.load.specs.Load.{mostRows}
-use Rattle.load_file.proofs.WritingLaws.{
+use Rattle.load_file.proofs.layout.WritingLaws.{
   rowsBytes,
   rowsBytes-length-zero,
   rowsBytes-length-next,

@@ -1,7 +1,7 @@
 -- `load_file::writing::row_size` adds the sizes of the row's own record, of its steps' and of its windows' records.
 use mathlib.Core.Path.{sym}
 use borrow.Author.Needs.{needs}
-use Rattle.load_file.proofs.PlaceLaws.{rowBytes-length}
+use Rattle.load_file.proofs.layout.PlaceLaws.{rowBytes-length}
 use Rattle.load_file.proofs.writing.row_size.Statement.{statement}
 use Rattle.load_file.proofs.writing.row_size.Tie as tie
 

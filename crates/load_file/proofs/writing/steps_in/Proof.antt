@@ -5,10 +5,10 @@ use mathlib.Core.Path.{_≡_, sym}
 use native.Mathlib.Omega.{arith}
 use borrow.Author.Needs.{needs}
 use Rattle.counting.specs.Sums.{sumTo}
-use Rattle.counting.proofs.SumLaws.{sumTo-zero, sumTo-next, sumTo-le}
+use Rattle.counting.proofs.sums.SumLaws.{sumTo-zero, sumTo-next, sumTo-le}
 use Rattle.load.specs.Load.{mostRows, rowAt}
 use Rattle.load.specs.View.{viewOf}
-use Rattle.load_file.proofs.WritingLaws.{rows-le, steps-le}
+use Rattle.load_file.proofs.layout.WritingLaws.{rows-le, steps-le}
 use Rattle.load_file.proofs.writing.steps_in.Statement.{statement}
 use Rattle.load_file.proofs.writing.steps_in.Tie as tie
 

@@ -3,7 +3,7 @@ use mathlib.Core.Path.{ap, _∙_}
 use borrow.Author.Needs.{needs}
 use lib.Seq.{sets}
 use Rattle.load_file.specs.Records.{endRecord}
-use Rattle.load_file.proofs.WritingLaws.{load-written}
+use Rattle.load_file.proofs.layout.WritingLaws.{load-written}
 use Rattle.load_file.proofs.writing.write_file.Statement.{statement}
 use Rattle.load_file.proofs.writing.write_file.Tie as tie
 

@@ -2,7 +2,7 @@
 use mathlib.Core.Path.{ap, _∙_}
 use borrow.Author.Needs.{needs}
 use lib.Seq.{sets}
-use Rattle.load_file.proofs.WritingLaws.{row-written}
+use Rattle.load_file.proofs.layout.WritingLaws.{row-written}
 use Rattle.load_file.proofs.writing.write_row.Statement.{statement}
 use Rattle.load_file.proofs.writing.write_row.Tie as tie
 

@@ -9,7 +9,7 @@ use lib.Seq.{sets}
 use Rattle.words.proofs.OverwriteLaws.{sets-joined-zero, sets-joined-next}
 use Rattle.load.specs.Load.{mostRows, rowAt}
 use Rattle.load_file.specs.Writing.{rowBytes}
-use Rattle.load_file.proofs.WritingLaws.{
+use Rattle.load_file.proofs.layout.WritingLaws.{
   rowsBytes,
   rowsBytes-length-zero,
   rowsBytes-length-next,

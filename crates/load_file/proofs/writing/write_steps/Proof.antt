@@ -10,7 +10,7 @@ use Rattle.counting.specs.Lists.{joinTo}
 use Rattle.words.proofs.OverwriteLaws.{sets-joined-zero, sets-same-next}
 use Rattle.load.specs.Load.{stepAt}
 use Rattle.load_file.specs.Records.{stepRecord}
-use Rattle.load_file.proofs.FieldLaws.{stepRecord-length}
+use Rattle.load_file.proofs.layout.FieldLaws.{stepRecord-length}
 use Rattle.load_file.proofs.writing.write_steps.Statement.{statement}
 use Rattle.load_file.proofs.writing.write_steps.Tie as tie
 

@@ -10,7 +10,7 @@ use Rattle.counting.specs.Lists.{joinTo}
 use Rattle.words.proofs.OverwriteLaws.{sets-joined-zero, sets-same-next}
 use Rattle.load.specs.Load.{windowAt}
 use Rattle.load_file.specs.Records.{windowRecord}
-use Rattle.load_file.proofs.FieldLaws.{windowRecord-length}
+use Rattle.load_file.proofs.layout.FieldLaws.{windowRecord-length}
 use Rattle.load_file.proofs.writing.write_windows.Statement.{statement}
 use Rattle.load_file.proofs.writing.write_windows.Tie as tie
 

@@ -44,7 +44,7 @@ use denote.Triple.Walked.{ends-at, walked, walk-meets}
 use denote.Triple.Clauses.{ensured, lasts}
 use denote.Exit.{yes}
 use Rattle.rules.specs.Slots.{noSlot}
-use Rattle.schedule.proofs.SlotFields.{field-of}
+use Rattle.schedule.proofs.walks.SlotFields.{field-of}
 use Rattle.schedule.specs.SeenFold.{seenOf}
 use Rattle.rules.specs.declared.Slot.{Slot}
 use Rattle.load.specs.declared.Load.{Load}

@@ -54,9 +54,9 @@ use Rattle.rules.specs.Slots.{noSlot}
 use Rattle.rules.specs.Check.{checkSchedule}
 use Rattle.schedule.specs.Seen.{begun}
 use Rattle.schedule.specs.SeenFold.{seenOf, foldSlots}
-use Rattle.schedule.proofs.FoldLaws.{foldSlots-turn, foldSlots-end}
-use Rattle.schedule.proofs.CheckFold.{fold-checks}
-use Rattle.schedule.proofs.SlotCalls.{slice, word, Begin, next-fits, Finish}
+use Rattle.schedule.proofs.walks.FoldLaws.{foldSlots-turn, foldSlots-end}
+use Rattle.schedule.proofs.fold.CheckFold.{fold-checks}
+use Rattle.schedule.proofs.walks.SlotCalls.{slice, word, Begin, next-fits, Finish}
 use Rattle.rules.specs.declared.Slot.{Slot}
 use Rattle.load.specs.declared.Load.{Load}
 use Rattle.schedule.specs.declared.Seen.{Seen}

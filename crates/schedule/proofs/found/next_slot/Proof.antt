@@ -1,7 +1,7 @@
 -- `next_slot` keeps a slot that is right, and else what was found.
 use mathlib.Core.Path.{sym, _∙_}
 use borrow.Author.Needs.{needs}
-use Rattle.schedule.proofs.SeenLaws.{foundAt-row}
+use Rattle.schedule.proofs.fold.SeenLaws.{foundAt-row}
 use Rattle.schedule.proofs.found.next_slot.Statement.{statement}
 use Rattle.schedule.proofs.found.next_slot.Tie as tie
 

@@ -66,10 +66,10 @@ use Rattle.schedule.specs.declared.Gathered.{Gathered}
 use Rattle.schedule.specs.ScheduleFile.{mostSlots}
 use Rattle.schedule.specs.Gathered.{headed, gatheredOf, gathered}
 use Rattle.schedule.specs.Calls.{WriteSchedule}
-use Rattle.schedule.proofs.FoldLaws.{gathered-turn, gathered-end}
-use Rattle.schedule.proofs.GatheredLaws.{gathered-given}
-use Rattle.schedule.proofs.SlotCalls.{slice, word, byteRef, Head as Begin, next-fits, Flush, to-head}
-use Rattle.schedule.proofs.SlotCalls.{goes-head, said-head}
+use Rattle.schedule.proofs.walks.FoldLaws.{gathered-turn, gathered-end}
+use Rattle.schedule.proofs.fold.GatheredLaws.{gathered-given}
+use Rattle.schedule.proofs.walks.SlotCalls.{slice, word, byteRef, Head as Begin, next-fits, Flush, to-head}
+use Rattle.schedule.proofs.walks.SlotCalls.{goes-head, said-head}
 use Rattle.schedule.proofs.Gathered as S
 use Rattle.schedule.proofs.Gathered.Laws as S′
 use Rattle.schedule.proofs.write.head as begin

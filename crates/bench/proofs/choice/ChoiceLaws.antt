@@ -1,0 +1,214 @@
+-- A board that shows a load and its bench has the candidates of the rules, and its plan of a candidate is the rules'
+-- plan at the candidate's end: so what the search chooses is what the rules choose.
+use Prim.Native.Nat.{ℕ, suc, _+_, min, _≤_, _<_}
+use mathlib.Core.Bool.{true, false}
+use mathlib.Core.List.{List}
+use mathlib.Core.Path.{_≡_, ap, ap₂, sym, _∙_}
+use native.Mathlib.Decide.{ℕ-discrete}
+use native.Mathlib.Omega.{arith}
+use lib.Dec.{leb}
+use lib.ListN.{length, getD, set}
+use lib.Seq.{getD-set-same, getD-set-other}
+use Rattle.counting.specs.Sums.{allTo}
+use Rattle.counting.specs.Lists.{numbersWhere}
+use Rattle.counting.specs.Searches.{at, none, found}
+use Rattle.counting.specs.Sorting.{sorted, byKey}
+use Rattle.counting.proofs.tests.TestLaws.{allTo-ext}
+use Rattle.counting.proofs.searches.SelectionLaws.{found-least, found-nothing}
+use Rattle.load.specs.declared.Load.{Load}
+use Rattle.load.specs.View.{View, viewOf, embedded}
+use Rattle.load.proofs.WindowLaws.{open-embedded}
+use Rattle.rules.specs.State.{State, isOpen, opensAt, openWindow}
+use Rattle.rules.specs.Ready.{released, isAllowed, isCandidate, candidates, finishedBelow}
+use Rattle.rules.specs.Plan.{due, windowLeft}
+use Rattle.rules.specs.Move.{startedFull, passes, chosen, openingAfter}
+use Rattle.rules.proofs.invariant.Good.{openAt, limitAt}
+use Rattle.rules.proofs.moves.MoveLaws.{started-clock, started-finished-same}
+use Rattle.rules.proofs.plan.StackLaws.{
+  windowLeft-is,
+  isOpen-other,
+  job-other,
+  released-same,
+  windowLeft-same,
+  due-same,
+}
+use Rattle.bench.specs.declared.Bench.{Bench}
+use Rattle.bench.specs.declared.Board.{Board}
+use Rattle.bench.specs.Held.{stateOf}
+use Rattle.bench.specs.Alike.{further}
+use Rattle.bench.specs.Boards.{lookIn, Wide, Shows}
+use Rattle.bench.specs.Stacks.{planBy}
+use Rattle.bench.specs.Choices.{belowIn, candidateIn, openingIn, heldAfter, passesIn, ChosenIn}
+use Rattle.bench.proofs.choice.JoinLaws.{
+  planBy-is,
+  rows-are,
+  finished-same,
+  steps-same,
+  opening-same,
+  cost-same,
+  release-same,
+  held-same,
+  left-same,
+  due-now,
+  wait-same,
+  stays-same,
+  rest-same,
+  limit-same,
+}
+
+-- a list with one number stored, place by place
+pub stored : {A : Type 0} (l : List A) (i : ℕ) (v z : A) (f : ℕ → A) (rows : ℕ) → i < length l → v ≡ f i
+    → ((k : ℕ) → k < rows → (k ≡ i → ⊥) → getD l k z ≡ f k) → (k : ℕ) → k < rows → getD (set l i v) k z ≡ f k
+stored l i v z f rows inside here there k b =
+    elim (ℕ-discrete k i) [
+      | yes q ↦ rw q (getD-set-same l i v z inside ∙ here)
+      | no q ↦ getD-set-other l i k v z q ∙ there k b q
+    ]
+
+module _ (load : Load) (bench : Bench) (board : Board) (shows : Shows load bench board) where
+  abbrev L : View
+  L = viewOf load
+
+  abbrev s : State
+  s = stateOf bench
+
+  abbrev rows : ℕ
+  rows = load .rows
+
+  below-same : (j k : ℕ) → k < rows → belowIn board j k ≡ finishedBelow L s j k
+  below-same j k l =
+      ap₂ (λ a b. leb (min j a) b) (steps-same load bench board shows k l) (finished-same load bench board shows k l)
+
+  open-is : (i : ℕ) → isOpen L s i ≡ embedded L i (s .finished i)
+  unfolding opensAt
+  open-is i = open-embedded L i (s .finished i)
+
+  pub candidate-same : (i : ℕ) → i < rows → candidateIn board (bench .clock) rows i ≡ isCandidate L s i
+  unfolding isCandidate isAllowed
+  candidate-same i l =
+      let below : allTo (belowIn board (s .finished i)) rows ≡ allTo (finishedBelow L s (s .finished i)) (L .rows) =
+      allTo-ext (belowIn board (s .finished i)) (finishedBelow L s (s .finished i)) rows (below-same (s .finished i))
+      ∙ ap (allTo (finishedBelow L s (s .finished i))) (sym (rows-are load bench board shows)) in
+      rw (
+        finished-same load bench board shows i l,
+        steps-same load bench board shows i l,
+        release-same load bench board shows i l,
+        held-same load bench board shows i l,
+        cost-same load bench board shows i l,
+        below,
+        open-is i,
+      )
+
+  -- the row of a candidate once its step is over
+  module _ (i : ℕ) (l : i < rows) where
+    abbrev after : State
+    after = startedFull L s i
+
+    abbrev cost : ℕ
+    cost = L .cost i (s .finished i)
+
+    pub stays-after : lookIn board i .stays ≡ isOpen L after i
+    stays-after =
+        stays-same load bench board shows i l ∙ sym (ap (opensAt L i) (started-finished-same L s i cost))
+
+    rest-after : lookIn board i .rest ≡ windowLeft L after i
+    rest-after =
+        rest-same load bench board shows i l
+        ∙ windowLeft-is L (further s) i
+        ∙ sym (windowLeft-same L s i cost)
+
+    pub opening-after : openingIn board (bench .clock) i ≡ openingAfter L s i
+    opening-after =
+        rw (
+          stays-same load bench board shows i l,
+          held-same load bench board shows i l,
+          opening-same load bench board shows i l,
+        )
+
+    limit-after : lookIn board i .limit ≡ limitAt L i (suc (s .finished i))
+    unfolding openWindow openAt
+    limit-after = limit-same load bench board shows i l
+
+    inside : rows ≤ 24 → i < 24
+    inside h = omega arith
+
+    pub passes-same : rows ≤ 24 → passesIn board (bench .clock) rows i ≡ passes L s i
+    unfolding passesIn passes
+    passes-same most =
+        ap (λ t. planBy (record { waiting = heldAfter board i; time = t })
+        (set (board .release) i (t + lookIn board i .wait))
+        (set (board .left) i (lookIn board i .rest))
+        (set (board .due) i (opening + lookIn board i .limit))
+        rows) end-is
+        ∙ planBy-is L after rows (rows-are load bench board shows)
+        (heldAfter board i)
+        (set (board .release) i (after .clock + lookIn board i .wait))
+        (set (board .left) i (lookIn board i .rest))
+        (set (board .due) i (opening + lookIn board i .limit))
+        (stored (board .held) i (lookIn board i .stays) false (isOpen L after) rows
+        (omega (arith, wide .held-length)) stays-after
+        (λ k b ne. held-same load bench board shows k b ∙ sym (isOpen-other L s i cost k ne)))
+        (stored (board .release) i (after .clock + lookIn board i .wait) 0 (released L after) rows
+        (omega (arith, wide .release-length))
+        (ap₂ _+_ (started-clock L s i cost) (wait-same load bench board shows i l) ∙ sym (released-same L s i cost))
+        (λ k b ne. release-same load bench board shows k b ∙ sym (job-other L s i cost k ne .released-same)))
+        (stored (board .left) i (lookIn board i .rest) 0 (windowLeft L after) rows
+        (omega (arith, wide .left-length)) rest-after
+        (λ k b ne. left-same load bench board shows k b ∙ sym (job-other L s i cost k ne .left-same)))
+        (stored (board .due) i (opening + lookIn board i .limit) 0 (due L after) rows
+        (omega (arith, wide .due-length))
+        (ap₂ _+_ opening-after limit-after ∙ sym (due-same L s i cost))
+        (λ k b ne. due-now load bench board shows k b ∙ sym (job-other L s i cost k ne .due-same)))
+        (after .clock)
+      where
+        wide : Wide board
+        wide = shows .wide
+
+        opening : ℕ
+        opening = openingIn board (bench .clock) i
+
+        end-is : bench .clock + lookIn board i .cost ≡ after .clock
+        end-is =
+            ap (λ c. bench .clock + c) (cost-same load bench board shows i l) ∙ sym (started-clock L s i cost)
+
+  -- what the search chooses
+  module _ (most : rows ≤ 24) (r : ℕ) (c : ChosenIn board (bench .clock) rows r) where
+    candidate : (k : ℕ) → k < rows → isCandidate L s k ≡ true → candidateIn board (bench .clock) rows k ≡ true
+    candidate k l e = candidate-same k l ∙ e
+
+    pass : (k : ℕ) → k < rows → passes L s k ≡ true → passesIn board (bench .clock) rows k ≡ true
+    pass k l e = passes-same k l most ∙ e
+
+    keyed : r < rows → (k : ℕ) → k < rows → isCandidate L s k ≡ true → passes L s k ≡ true
+        → s .finished r ≤ s .finished k
+    keyed l k b ck pk =
+        omega (
+          arith,
+          c .keys l k b (candidate k b ck) (pass k b pk),
+          finished-same load bench board shows r l,
+          finished-same load bench board shows k b,
+        )
+
+    tied : r < rows → (k : ℕ) → k < rows → isCandidate L s k ≡ true → passes L s k ≡ true
+        → s .finished r ≡ s .finished k → r ≤ k
+    tied l k b ck pk e =
+        c .ties l k b (candidate k b ck) (pass k b pk)
+        (finished-same load bench board shows r l ∙ e ∙ sym (finished-same load bench board shows k b))
+
+    pub chosen-row : r < rows → chosen L s ≡ at r
+    unfolding chosen candidates
+    chosen-row l =
+        ap (λ n. found (passes L s) (sorted (byKey (s .finished)) (numbersWhere (isCandidate L s) n)))
+        (rows-are load bench board shows)
+        ∙ found-least (s .finished) (isCandidate L s) (passes L s) rows r l
+        (sym (candidate-same r l) ∙ c .candidate l)
+        (sym (passes-same r l most) ∙ c .passing l)
+        (λ k b ck pk. record { keys = keyed l k b ck pk; ties = tied l k b ck pk })
+
+    pub chosen-nothing : rows ≤ r → chosen L s ≡ none
+    unfolding chosen candidates
+    chosen-nothing h =
+        ap (λ n. found (passes L s) (sorted (byKey (s .finished)) (numbersWhere (isCandidate L s) n)))
+        (rows-are load bench board shows)
+        ∙ found-nothing (s .finished) (isCandidate L s) (passes L s) rows
+        (λ k b ck. sym (passes-same k b most) ∙ c .none h k b (candidate k b ck))

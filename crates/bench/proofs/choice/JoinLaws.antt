@@ -1,0 +1,118 @@
+-- A board that shows a load and its bench has the candidates of the rules, and its plan of a candidate is the rules'
+-- plan at the candidate's end: so what the search chooses is what the rules choose.
+use Prim.Native.Nat.{ℕ, _<_}
+use mathlib.Core.Bool.{Bool}
+use mathlib.Core.List.{List, [], _∷_}
+use mathlib.Core.Path.{_≡_, refl, ap, sym, _∙_}
+use Rattle.counting.proofs.sorting.SortLaws.{Every}
+use Rattle.counting.proofs.sorting.KeyLaws.{sorted-same}
+use Rattle.load.specs.declared.Load.{Load}
+use Rattle.load.specs.View.{View, viewOf}
+use Rattle.rules.specs.State.{State, isOpen, openWindow}
+use Rattle.rules.specs.Ready.{released}
+use Rattle.rules.specs.Plan.{due, stack, windowLeft, finish, inTime, planPasses}
+use Rattle.rules.proofs.plan.PlanLaws.{inTime-next, inTime-none}
+use Rattle.rules.proofs.plan.StackLaws.{
+  every-stack,
+}
+use Rattle.bench.specs.declared.Bench.{Bench}
+use Rattle.bench.specs.declared.Look.{Look}
+use Rattle.bench.specs.declared.Board.{Board}
+use Rattle.bench.specs.Held.{stateOf}
+use Rattle.bench.specs.Alike.{further, lookOf}
+use Rattle.bench.specs.Boards.{lookIn, Shows}
+use Rattle.bench.specs.Stacks.{inTimeBy, stackBy, number, test, planBy}
+use Rattle.bench.proofs.choice.StackLaws.{inTimeBy-none, inTimeBy-next}
+
+-- the plan over lists that agree with a state is the plan of that state
+module _ (L : View) (s : State) (rows : ℕ) (rows-are : L .rows ≡ rows)
+    (waiting : List Bool) (release left due′ : List ℕ)
+    (opens : (k : ℕ) → k < rows → test waiting k ≡ isOpen L s k)
+    (releases : (k : ℕ) → k < rows → number release k ≡ released L s k)
+    (lefts : (k : ℕ) → k < rows → number left k ≡ windowLeft L s k)
+    (dues : (k : ℕ) → k < rows → number due′ k ≡ due L s k) where
+  along : (t : ℕ) (list : List ℕ) → Every (λ k. k < rows) list
+      → inTimeBy (number release) (number left) (number due′) t list ≡ inTime L s t list
+  along t [] e = inTimeBy-none (number release) (number left) (number due′) t ∙ sym (inTime-none L s t)
+  along t (i ∷ rest) e =
+      inTimeBy-next (number release) (number left) (number due′) t i rest
+      ∙ rw (releases i (e .0), lefts i (e .0), dues i (e .0), along (finish L s t i) rest (e .1))
+      (sym (inTime-next L s t i rest))
+
+  pub planBy-is : (t : ℕ) → planBy (record { waiting = waiting; time = t }) release left due′ rows ≡ planPasses L s t
+  unfolding stack
+  planBy-is t =
+      ap (inTimeBy (number release) (number left) (number due′) t) stacks
+      ∙ along t (stack L s) (every-stack L s (λ k. k < rows) (λ i l o. rw (sym rows-are) l))
+    where
+      stacks : stackBy (test waiting) (number due′) rows ≡ stack L s
+      stacks =
+          sorted-same (number due′) (due L s) (test waiting) (isOpen L s) rows opens (λ i l o. dues i l)
+          ∙ ap (stackBy (isOpen L s) (due L s)) (sym rows-are)
+
+module _ (load : Load) (bench : Bench) (board : Board) (shows : Shows load bench board) where
+  abbrev L : View
+  L = viewOf load
+
+  abbrev s : State
+  s = stateOf bench
+
+  abbrev rows : ℕ
+  rows = load .rows
+
+  pub rows-are : L .rows ≡ rows
+  unfolding viewOf
+  rows-are = refl
+
+  -- what the board has of a row, number by number
+  module _ (k : ℕ) (l : k < rows) where
+    looked : {A : Type 0} (f : Look → A) → f (lookIn board k) ≡ f (lookOf L s k)
+    looked f = ap f (shows .looks k l)
+
+    pub finished-same : lookIn board k .finished ≡ s .finished k
+    unfolding lookOf
+    finished-same = looked (λ look. look .finished)
+
+    pub steps-same : lookIn board k .steps ≡ L .steps k
+    unfolding lookOf
+    steps-same = looked (λ look. look .steps)
+
+    pub opening-same : lookIn board k .opening ≡ s .opening k
+    unfolding lookOf
+    opening-same = looked (λ look. look .opening)
+
+    pub cost-same : lookIn board k .cost ≡ L .cost k (s .finished k)
+    unfolding lookOf
+    cost-same = looked (λ look. look .cost)
+
+    pub release-same : lookIn board k .release ≡ released L s k
+    unfolding lookOf
+    release-same = looked (λ look. look .release)
+
+    pub held-same : lookIn board k .held ≡ isOpen L s k
+    unfolding lookOf
+    held-same = looked (λ look. look .held)
+
+    pub left-same : lookIn board k .left ≡ windowLeft L s k
+    unfolding lookOf
+    left-same = looked (λ look. look .left)
+
+    pub due-now : lookIn board k .due ≡ due L s k
+    unfolding lookOf
+    due-now = looked (λ look. look .due)
+
+    pub wait-same : lookIn board k .wait ≡ L .wait k (s .finished k)
+    unfolding lookOf
+    wait-same = looked (λ look. look .wait)
+
+    pub stays-same : lookIn board k .stays ≡ isOpen L (further s) k
+    unfolding lookOf
+    stays-same = looked (λ look. look .stays)
+
+    pub rest-same : lookIn board k .rest ≡ windowLeft L (further s) k
+    unfolding lookOf
+    rest-same = looked (λ look. look .rest)
+
+    pub limit-same : lookIn board k .limit ≡ openWindow L (further s) k .limit
+    unfolding lookOf
+    limit-same = looked (λ look. look .limit)

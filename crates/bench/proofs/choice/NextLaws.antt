@@ -1,0 +1,189 @@
+-- What the code hands back, over a board that shows the load and the bench, is the move of the rules in memory: Done, a
+-- refusal, Idle, or the start of the row that is chosen.
+use Prim.Native.Nat.{ℕ, _*_, _^_, _≤_, _<_}
+use mathlib.Core.Bool.{Bool, true, false}
+use mathlib.Core.List.{List}
+use mathlib.Core.Path.{_≡_, ap, ap₂, sym, _∙_}
+use native.Mathlib.Decide.{decLt}
+use native.Mathlib.Omega.{arith}
+use borrow.Author.Tests.{le-leb}
+use lib.Dec.{leb}
+use Rattle.counting.specs.Sums.{allTo, bit, countTo}
+use Rattle.counting.specs.Searches.{at, none}
+use Rattle.counting.proofs.sums.SumLaws.{sumTo-ext}
+use Rattle.counting.proofs.tests.TestLaws.{allTo-ext}
+use Rattle.refusals.specs.declared.Refusal.{Refusal}
+use Rattle.refusals.specs.declared.Refusal.the-variants.{StateShape, ClockFull}
+use Rattle.refusals.specs.declared.Checked.the-variants.{Good, Refused}
+use Rattle.words.specs.LampWord.{wordOf}
+use Rattle.load.specs.declared.Load.{Load}
+use Rattle.load.specs.Load.{lastMoment, shown}
+use Rattle.load.specs.Check.{checkLoad}
+use Rattle.load.specs.View.{View, viewOf}
+use Rattle.rules.specs.declared.Outcome.{Outcome}
+use Rattle.rules.specs.declared.Outcome.the-variants.{Start, Idle, Done}
+use Rattle.rules.specs.State.{State, isOpen, shaped}
+use Rattle.rules.specs.Lamps.{lampWord, lampCount}
+use Rattle.rules.specs.Move.{
+  startedFull,
+  ticked,
+  allFinished,
+  chosen,
+  nextSlot,
+  refusedMove,
+  startOrIdle,
+  shapedMove,
+  move,
+}
+use Rattle.rules.proofs.moves.MoveLaws.{move-done, move-goes}
+use Rattle.rules.proofs.plan.StackLaws.{isOpen-other}
+use Rattle.bench.specs.declared.Bench.{Bench}
+use Rattle.bench.specs.declared.Board.{Board}
+use Rattle.bench.specs.declared.Moved.{Moved}
+use Rattle.bench.specs.Held.{stateOf, benchOf, handedOn, refusedWith, nextMove}
+use Rattle.bench.specs.Updates.{benchStarted, benchTicked}
+use Rattle.bench.specs.Boards.{lookIn, Shows}
+use Rattle.bench.specs.Stacks.{test}
+use Rattle.bench.specs.Choices.{openingIn, heldAfter}
+use Rattle.bench.specs.Moves.{finishedIn, handedWith, startedIn, Stepped}
+use Rattle.bench.proofs.shown.HeldLaws.{Sized, benchOf-stateOf, benchTicked-is, benchStarted-is}
+use Rattle.bench.proofs.choice.JoinLaws.{rows-are, finished-same, steps-same, cost-same, held-same}
+use Rattle.bench.proofs.choice.ChoiceLaws.{stored, stays-after, opening-after, chosen-row, chosen-nothing}
+
+-- a load that is accepted, and one that is refused
+pub nextMove-good : (load : Load) (bench : Bench) → checkLoad load ≡ Good
+    → nextMove load bench ≡ handedOn bench (move (viewOf load) (stateOf bench))
+unfolding nextMove
+nextMove-good load bench e = rw (e, nextMove)
+
+pub nextMove-refused : (load : Load) (bench : Bench) (refusal : Refusal) → checkLoad load ≡ Refused refusal
+    → nextMove load bench ≡ refusedWith bench refusal
+unfolding nextMove
+nextMove-refused load bench refusal e = rw (e, nextMove)
+
+-- the lamps of a state, where a list of tests agrees with its open windows
+module _ (L : View) (s : State) (rows : ℕ) (rows-are′ : L .rows ≡ rows) (held : List Bool)
+    (opens : (k : ℕ) → k < rows → test held k ≡ isOpen L s k) where
+  word-is : lampWord L s ≡ wordOf (test held) rows
+  unfolding lampWord
+  word-is =
+      ap (wordOf (isOpen L s)) rows-are′
+      ∙ sym
+      (sumTo-ext (λ i. bit (test held i) * 2 ^ i) (λ i. bit (isOpen L s i) * 2 ^ i) rows
+      (λ i l. ap (λ b. bit b * 2 ^ i) (opens i l)))
+
+  count-is : lampCount L s ≡ countTo (test held) rows
+  unfolding lampCount
+  count-is =
+      ap (countTo (isOpen L s)) rows-are′
+      ∙ sym (sumTo-ext (λ i. bit (test held i)) (λ i. bit (isOpen L s i)) rows (λ i l. ap bit (opens i l)))
+
+-- the refusals of a move, 10 and 11
+move-unshaped : (L : View) (s : State) → shaped L s ≡ false → move L s ≡ refusedMove s StateShape
+unfolding move
+move-unshaped L s e = rw (e, move)
+
+move-full : (L : View) (s : State) → shaped L s ≡ true → allFinished L s ≡ false → lastMoment ≤ s .clock
+    → move L s ≡ refusedMove s ClockFull
+unfolding move shapedMove
+move-full L s e d h = rw (e, move) (rw (d, shapedMove) (rw (le-leb lastMoment (s .clock) h)))
+
+pub unshaped-move : (bench : Bench) (L : View) → shaped L (stateOf bench) ≡ false
+    → handedOn bench (move L (stateOf bench)) ≡ refusedWith bench StateShape
+unshaped-move bench L e = ap (handedOn bench) (move-unshaped L (stateOf bench) e)
+
+pub full-move : (bench : Bench) (L : View) → shaped L (stateOf bench) ≡ true → allFinished L (stateOf bench) ≡ false
+    → lastMoment ≤ bench .clock → handedOn bench (move L (stateOf bench)) ≡ refusedWith bench ClockFull
+full-move bench L e d h = ap (handedOn bench) (move-full L (stateOf bench) e d h)
+
+-- what a bench hands back, from its parts
+abbrev movedBy : Outcome → Bench → ℕ → ℕ → Moved
+movedBy outcome bench word count = record { bench = bench; outcome = outcome; lamps = word; count = count }
+
+parts : (outcome : Outcome) (bench bench′ : Bench) (word word′ count count′ : ℕ) → bench ≡ bench′ → word ≡ word′
+    → count ≡ count′ → movedBy outcome bench word count ≡ movedBy outcome bench′ word′ count′
+parts outcome bench bench′ word word′ count count′ e f g = rw (e, f, g)
+
+module _ (load : Load) (bench : Bench) (board : Board) (shows : Shows load bench board) (size : Sized bench)
+    (most : load .rows ≤ 24) where
+  abbrev L : View
+  L = viewOf load
+
+  abbrev s : State
+  s = stateOf bench
+
+  pub finished-is : finishedIn board (load .rows) ≡ allFinished L s
+  unfolding allFinished
+  finished-is =
+      allTo-ext (λ i. leb (lookIn board i .steps) (lookIn board i .finished)) (λ i. leb (L .steps i) (s .finished i))
+      (load .rows)
+      (λ i l. ap₂ leb (steps-same load bench board shows i l) (finished-same load bench board shows i l))
+      ∙ ap (allTo (λ i. leb (L .steps i) (s .finished i))) (sym (rows-are load bench board shows))
+
+  pub done-move : shaped L s ≡ true → allFinished L s ≡ true
+      → handedOn bench (move L s) ≡ handedWith bench Done (board .held) (load .rows)
+  done-move e d =
+      ap (handedOn bench) (move-done L s e d)
+      ∙ parts Done (benchOf s) bench _ _ _ _ (benchOf-stateOf bench size)
+      (word-is L s (load .rows) (rows-are load bench board shows) (board .held) (held-same load bench board shows))
+      (count-is L s (load .rows) (rows-are load bench board shows) (board .held) (held-same load bench board shows))
+
+  open-ticked : (k : ℕ) → k < load .rows → test (board .held) k ≡ isOpen L (ticked s) k
+  unfolding ticked
+  open-ticked = held-same load bench board shows
+
+  module _ (e : shaped L s ≡ true) (d : allFinished L s ≡ false) (h : bench .clock < lastMoment) where
+    idle-move : chosen L s ≡ none
+        → handedOn bench (move L s) ≡ handedWith (benchTicked bench) Idle (board .held) (load .rows)
+    idle-move q =
+        ap (handedOn bench) (move-goes L s e d h ∙ ap (startOrIdle L s) q)
+        ∙ parts Idle (benchOf (ticked s)) (benchTicked bench) _ _ _ _ (sym (benchTicked-is bench size))
+        (word-is L (ticked s) (load .rows) (rows-are load bench board shows) (board .held) open-ticked)
+        (count-is L (ticked s) (load .rows) (rows-are load bench board shows) (board .held) open-ticked)
+
+    start-move : (i : ℕ) → i < load .rows → chosen L s ≡ at i
+        → handedOn bench (move L s) ≡ startedIn bench board (load .rows) i
+    unfolding startedIn
+    start-move i l q =
+        ap (handedOn bench) (move-goes L s e d h ∙ ap (startOrIdle L s) q)
+        ∙ parts (Start (nextSlot s i)) (benchOf after) (benchStarted bench i (lookIn board i .cost) opening) _ _ _ _
+        bench-is
+        (word-is L after (load .rows) (rows-are load bench board shows) lit open-after)
+        (count-is L after (load .rows) (rows-are load bench board shows) lit open-after)
+        ∙ ap (λ f. handedWith (benchStarted bench i (lookIn board i .cost) opening)
+        (Start (record { row = shown i; step = shown f; start = bench .clock })) lit (load .rows))
+        (sym (finished-same load bench board shows i l))
+      where
+        after : State
+        after = startedFull L s i
+
+        opening : ℕ
+        opening = openingIn board (bench .clock) i
+
+        lit : List Bool
+        lit = heldAfter board i
+
+        bench-is : benchOf after ≡ benchStarted bench i (lookIn board i .cost) opening
+        bench-is =
+            sym (benchStarted-is bench size L i (L .cost i (s .finished i)) (omega arith))
+            ∙ sym
+            (ap₂ (benchStarted bench i) (cost-same load bench board shows i l)
+            (opening-after load bench board shows i l))
+
+        open-after : (k : ℕ) → k < load .rows → test lit k ≡ isOpen L after k
+        open-after =
+            stored (board .held) i (lookIn board i .stays) false (isOpen L after) (load .rows)
+            (omega (arith, shows .wide .held-length)) (stays-after load bench board shows i l)
+            (λ k b ne. held-same load bench board shows k b
+            ∙ sym (isOpen-other L s i (L .cost i (s .finished i)) k ne))
+
+    pub stepped-move : (moved : Moved) → Stepped bench board (load .rows) moved → moved ≡ handedOn bench (move L s)
+    stepped-move moved t =
+        elim (decLt (t .row) (load .rows)) [
+          | yes l ↦
+              t .starts l
+              ∙ sym (start-move (t .row) l (chosen-row load bench board shows most (t .row) (t .chosen) l))
+          | no l ↦
+              t .idles (omega arith)
+              ∙ sym (idle-move (chosen-nothing load bench board shows most (t .row) (t .chosen) (omega arith)))
+        ]

@@ -1,0 +1,167 @@
+-- The start of the row that is chosen keeps what holds at every turn of the run: its slot is the next of the schedule,
+-- there is a place for it, and the board with the row looked up anew shows the state after the start.
+use Prim.Native.Nat.{ℕ, suc, _+_, _-_, _≤_, _<_}
+use mathlib.Core.Bool.{false}
+use mathlib.Core.List.{List, [], _∷_, _++_, append-assoc}
+use mathlib.Core.Path.{_≡_, ap, ap₂, sym, _∙_, subst}
+use native.Mathlib.Omega.{arith}
+use lib.ListN.{length, set, length-append}
+use lib.Seq.{getD-at}
+use Rattle.counting.specs.Searches.{at}
+use Rattle.counting.proofs.lists.ListLaws.{filled-stored}
+use Rattle.refusals.specs.declared.Checked.the-variants.{Good}
+use Rattle.load.specs.declared.Load.{Load}
+use Rattle.load.specs.Load.{lastMoment, rowAt}
+use Rattle.load.specs.View.{View, viewOf}
+use Rattle.load.specs.Check.{checkLoad}
+use Rattle.load.proofs.AcceptableLaws.{check-acceptable}
+use Rattle.rules.specs.declared.Slot.{Slot}
+use Rattle.rules.specs.State.{State}
+use Rattle.rules.specs.Slots.{noSlot, places, slotAt}
+use Rattle.rules.specs.Move.{allFinished, chosen, nextSlot, startedFull}
+use Rattle.rules.specs.Run.{starts, schedule}
+use Rattle.rules.proofs.invariant.Good.{Good as GoodView}
+use Rattle.rules.proofs.invariant.GoodLaws.{acceptable-good}
+use Rattle.rules.proofs.invariant.MoveKeeps.{Kept}
+use Rattle.rules.proofs.moves.StretchLaws.{starts-start, chosen-kept}
+use Rattle.bench.specs.declared.Bench.{Bench}
+use Rattle.bench.specs.declared.Look.{Look}
+use Rattle.bench.specs.declared.Board.{Board}
+use Rattle.bench.specs.Held.{stateOf}
+use Rattle.bench.specs.Alike.{Modest}
+use Rattle.bench.specs.Boards.{lookIn, boardWith}
+use Rattle.bench.specs.Choices.{ChosenIn}
+use Rattle.bench.specs.Moves.{finishedIn}
+use Rattle.bench.specs.Running.{lookAfter}
+use Rattle.bench.proofs.choice.SearchLaws.{candidate-more, candidate-ends}
+use Rattle.bench.proofs.choice.JoinLaws.{finished-same, steps-same, cost-same}
+use Rattle.bench.proofs.choice.ChoiceLaws.{chosen-row}
+use Rattle.bench.proofs.choice.NextLaws.{finished-is}
+use Rattle.bench.proofs.shown.LaterBoards.{benchStarted-sized, benchOver, after-state, shows-started}
+use Rattle.bench.proofs.running.RunsLaws.{schedule-most}
+use Rattle.bench.proofs.running.RunningLaws.{Running, running-early}
+
+-- what the code counts on where a row is started
+pub record Startable (board : Board) (clock count i : ℕ) : Type 0 where
+  pub place : i < 24
+  pub more : lookIn board i .finished < 8
+  pub ends : clock + lookIn board i .cost ≤ lastMoment
+  -- the clock moves on
+  pub long : 1 ≤ lookIn board i .cost
+  -- there is a place for the slot
+  pub room : count < 192
+
+module _ (load : Load) (accepted : checkLoad load ≡ Good) (most : load .rows ≤ 24) (board : Board) (clock count : ℕ)
+    (slots : List Slot) (r : Running load board clock count slots) where
+  abbrev L : View
+  L = viewOf load
+
+  abbrev s : State
+  s = stateOf (r .bench)
+
+  good : GoodView L
+  good = acceptable-good L (check-acceptable load accepted)
+
+  asked : finishedIn board (load .rows) ≡ allFinished L s
+  asked = finished-is load (r .bench) board (r .shows) (r .sized) most
+
+  -- the start of the row that is chosen
+  module _ (nd : finishedIn board (load .rows) ≡ false) (i : ℕ) (l : i < load .rows)
+      (c : ChosenIn board clock (load .rows) i) where
+    early : clock < lastMoment
+    early = running-early load accepted most board clock count slots r nd
+
+    here : ChosenIn board (r .bench .clock) (load .rows) i
+    here = subst (λ t. ChosenIn board t (load .rows) i) (sym (r .clock-is)) c
+
+    chosen-is : chosen L s ≡ at i
+    chosen-is = chosen-row load (r .bench) board (r .shows) most i here l
+
+    abbrev slot : Slot
+    slot = record { row = i + 1; step = lookIn board i .finished + 1; start = clock }
+
+    slot-is : slot ≡ nextSlot s i
+    slot-is =
+        ap₂ (λ f t. record { row = i + 1; step = f + 1; start = t })
+        (finished-same load (r .bench) board (r .shows) i l) (sym (r .clock-is))
+
+    abbrev going : State
+    going = startedFull L s i
+
+    goes-on : schedule L ≡ (r .before ++ (slot ∷ [])) ++ starts L (r .moves - 1) going
+    goes-on =
+        let left : r .moves ≡ suc (r .moves - 1) = omega (arith, r .moves-most, early) in
+        r .schedule-is
+        ∙ (ap (λ l. r .before ++ l)
+        (ap (λ n. starts L n s) left
+        ∙ (starts-start L good s (r .kept) (sym asked ∙ nd) i chosen-is (r .moves - 1)
+        ∙ ap (λ x. x ∷ starts L (r .moves - 1) going) (sym slot-is)))
+        ∙ sym (append-assoc (r .before) (slot ∷ []) (starts L (r .moves - 1) going)))
+
+    place-left : count < 192
+    place-left =
+        omega (
+          arith,
+          schedule-most load accepted,
+          ap length goes-on,
+          length-append (r .before ++ (slot ∷ [])) (starts L (r .moves - 1) going),
+          length-append (r .before) (slot ∷ []),
+          r .count-is,
+        )
+
+    slot-stands : slotAt (schedule L) count ≡ slot
+    slot-stands =
+        ap (λ l. slotAt l count) (goes-on ∙ append-assoc (r .before) (slot ∷ []) (starts L (r .moves - 1) going))
+        ∙ getD-at (r .before) slot (starts L (r .moves - 1) going) noSlot count (r .count-is)
+
+    more : lookIn board i .finished < lookIn board i .steps
+    more = candidate-more (lookIn board i) clock _ (c .candidate l)
+
+    cost-least : 1 ≤ lookIn board i .cost
+    unfolding viewOf
+    cost-least =
+        omega (
+          arith,
+          good .cost-least i (s .finished i) l
+              (omega (
+                arith,
+                more,
+                finished-same load (r .bench) board (r .shows) i l,
+                steps-same load (r .bench) board (r .shows) i l,
+              )),
+          cost-same load (r .bench) board (r .shows) i l,
+        )
+
+    pub running-startable : Startable board clock count i
+    running-startable =
+        record {
+          place = omega arith;
+          more = omega (arith, more, r .shows .modest i l .steps-most);
+          ends = candidate-ends (lookIn board i) clock _ (c .candidate l);
+          long = cost-least;
+          room = place-left;
+        }
+
+    pub running-start : (look : Look) → look ≡ lookAfter (rowAt load i) board clock i → Modest look
+        → Running load (boardWith board i look) (clock + lookIn board i .cost) (count + 1) (set slots count slot)
+    running-start look e m =
+        let over : Bench = benchOver (r .bench) board i in
+        let state : stateOf over ≡ going = after-state load (r .bench) board (r .shows) (r .sized) i l (omega arith) in
+        record {
+          bench = over;
+          sized = benchStarted-sized (r .bench) i _ _ (r .sized);
+          clock-is = ap (λ t. t + lookIn board i .cost) (r .clock-is);
+          shows =
+              shows-started load (r .bench) board (r .shows) (r .sized) i l (omega arith) look
+              (e ∙ ap (λ t. lookAfter (rowAt load i) board t i) (sym (r .clock-is))) m;
+          kept = subst (Kept L) (sym state) (chosen-kept L good s (r .kept) (sym asked ∙ nd) i chosen-is);
+          moves = r .moves - 1;
+          moves-most = omega (arith, r .moves-most, cost-least);
+          before = r .before ++ (slot ∷ []);
+          count-is = length-append (r .before) (slot ∷ []) ∙ ap (λ n. n + 1) (r .count-is);
+          schedule-is =
+              goes-on ∙ ap (λ t. (r .before ++ (slot ∷ [])) ++ starts L (r .moves - 1) t) (sym state);
+          slots-are =
+              filled-stored (slotAt (schedule L)) count places noSlot slot slots (r .slots-are) (sym slot-stands)
+              (omega (arith, place-left));
+        }

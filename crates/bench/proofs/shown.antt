@@ -1,0 +1,6 @@
+-- A bench in memory and the state that it holds; a board and the rows that it shows.
+pub mod HeldLaws
+pub mod LookLaws
+pub mod CheckedLaws
+pub mod BoardLaws
+pub mod LaterBoards

@@ -1,0 +1,171 @@
+-- A board goes on showing its load: with the clock at another moment as it is, and with row i looked up anew once the
+-- row's next step is over. The bench that it shows is in no place of memory; it holds the state of the rules.
+use Prim.Native.Nat.{ℕ, _+_, _<_}
+use mathlib.Core.List.{List}
+use mathlib.Core.Path.{_≡_, refl, ap, ap₂, sym, _∙_, fun-ext}
+use mathlib.Core.Logic.{_≢_}
+use native.Mathlib.Decide.{ℕ-discrete, decLt}
+use native.Mathlib.Numerals.{add-one}
+use native.Mathlib.Omega.{arith}
+use lib.ListN.{length, getD, set, length-set, List·getD-eq-default}
+use lib.Seq.{getD-set-same, getD-set-other}
+use Rattle.counting.specs.Lists.{listTo, changed}
+use Rattle.counting.proofs.lists.ListLaws.{listTo-length, getD-listTo}
+use Rattle.counting.proofs.sums.ChangeLaws.{changed-same, changed-other}
+use Rattle.load.specs.declared.Load.{Load}
+use Rattle.load.specs.Load.{rowAt}
+use Rattle.load.specs.View.{View, viewOf}
+use Rattle.rules.specs.State.{fresh}
+use Rattle.rules.specs.Move.{openingAfter, started, startedFull}
+use Rattle.bench.specs.declared.Bench.{Bench}
+use Rattle.bench.specs.declared.Look.{Look}
+use Rattle.bench.specs.declared.Board.{Board}
+use Rattle.bench.specs.Held.{stateOf, benchOf}
+use Rattle.bench.specs.Updates.{benchStarted}
+use Rattle.bench.specs.Alike.{viewAlike, stateAlike, lookOf, Modest}
+use Rattle.bench.specs.Boards.{lookIn, boardWith, Shows}
+use Rattle.bench.specs.Choices.{openingIn}
+use Rattle.bench.specs.Running.{lookAfter}
+use Rattle.bench.proofs.shown.HeldLaws.{Sized}
+use Rattle.bench.proofs.shown.LookLaws.{look-of-row}
+use Rattle.bench.proofs.shown.BoardLaws.{boardWith-same, boardWith-other, boardWith-wide}
+use Rattle.bench.proofs.choice.JoinLaws.{finished-same, cost-same}
+use Rattle.bench.proofs.choice.ChoiceLaws.{opening-after}
+
+-- the fresh bench holds the fresh state
+abbrev nothing : ℕ → ℕ
+nothing i = 0
+
+zeros : (n : ℕ) → (λ k. getD (listTo nothing n) k 0) ≡ nothing
+zeros n = fun-ext each
+  where
+    each : (k : ℕ) → getD (listTo nothing n) k 0 ≡ 0
+    each k =
+        elim (decLt k n) [
+          | yes l ↦ getD-listTo nothing n k 0 l
+          | no l ↦ List·getD-eq-default (listTo nothing n) 0 (omega (arith, listTo-length nothing n))
+        ]
+
+pub fresh-state : stateOf (benchOf fresh) ≡ fresh
+unfolding benchOf fresh
+fresh-state = rw (zeros 24)
+
+pub fresh-sized : Sized (benchOf fresh)
+unfolding benchOf fresh
+fresh-sized =
+    record {
+      finished-length = listTo-length nothing 24;
+      end-length = listTo-length nothing 24;
+      opening-length = listTo-length nothing 24;
+    }
+
+-- a bench at another moment
+abbrev pub benchAt : Bench → ℕ → Bench
+benchAt bench t =
+    record { clock = t; finished = bench .finished; end = bench .end; opening = bench .opening }
+
+pub benchAt-sized : (bench : Bench) (t : ℕ) → Sized bench → Sized (benchAt bench t)
+benchAt-sized bench t size =
+    record {
+      finished-length = size .finished-length;
+      end-length = size .end-length;
+      opening-length = size .opening-length;
+    }
+
+pub benchStarted-sized : (bench : Bench) (i long opening : ℕ) → Sized bench → Sized (benchStarted bench i long opening)
+benchStarted-sized bench i long opening size =
+    record {
+      finished-length = length-set (bench .finished) i (getD (bench .finished) i 0 + 1) ∙ size .finished-length;
+      end-length = length-set (bench .end) i (bench .clock + long) ∙ size .end-length;
+      opening-length = length-set (bench .opening) i opening ∙ size .opening-length;
+    }
+
+-- a bench once row i's next step, of which a board tells, is over
+abbrev pub benchOver : Bench → Board → ℕ → Bench
+benchOver bench board i = benchStarted bench i (lookIn board i .cost) (openingIn board (bench .clock) i)
+
+-- a store in a list is a change of what is read
+set-changed : (l : List ℕ) (i v : ℕ) → i < length l → (λ k. getD (set l i v) k 0) ≡ changed (λ k. getD l k 0) i v
+set-changed l i v h = fun-ext each
+  where
+    each : (k : ℕ) → getD (set l i v) k 0 ≡ changed (λ k. getD l k 0) i v k
+    each k =
+        elim (ℕ-discrete k i) [
+          | yes q ↦ rw q (getD-set-same l i v 0 h ∙ sym (changed-same (λ k. getD l k 0) i v))
+          | no q ↦ getD-set-other l i k v 0 q ∙ sym (changed-other (λ k. getD l k 0) i v k q)
+        ]
+
+-- so the bench of a start holds the state of the start
+pub benchStarted-state : (bench : Bench) → Sized bench → (L : View) (i long : ℕ) → i < 24
+    → stateOf (benchStarted bench i long (openingAfter L (stateOf bench) i)) ≡ started L (stateOf bench) i long
+unfolding started
+benchStarted-state bench size L i long h =
+    rw (
+      set-changed (bench .finished) i (getD (bench .finished) i 0 + 1) (omega (arith, size .finished-length)),
+      set-changed (bench .end) i (bench .clock + long) (omega (arith, size .end-length)),
+      set-changed (bench .opening) i (openingAfter L (stateOf bench) i) (omega (arith, size .opening-length)),
+      add-one,
+    )
+
+-- what is looked up of row k, by its numbers
+abbrev lookBy : Load → ℕ → ℕ → ℕ → ℕ → Look
+lookBy load k finished end opening = lookOf (viewAlike (rowAt load k)) (stateAlike 0 finished end opening) 0
+
+look-same : (load : Load) (bench bench′ : Bench) (k : ℕ) → getD (bench′ .finished) k 0 ≡ getD (bench .finished) k 0
+    → getD (bench′ .end) k 0 ≡ getD (bench .end) k 0 → getD (bench′ .opening) k 0 ≡ getD (bench .opening) k 0
+    → lookOf (viewOf load) (stateOf bench) k ≡ lookOf (viewOf load) (stateOf bench′) k
+look-same load bench bench′ k e f g =
+    sym (look-of-row load bench k)
+    ∙ sym (ap₂ (λ a b. lookBy load k a b (getD (bench′ .opening) k 0)) e f ∙ ap (lookBy load k _ _) g)
+    ∙ look-of-row load bench′ k
+
+module _ (load : Load) (bench : Bench) (board : Board) (shows : Shows load bench board) where
+  pub shows-at : (t : ℕ) → Shows load (benchAt bench t) board
+  shows-at t =
+      record {
+        wide = shows .wide;
+        looks = λ k l. shows .looks k l ∙ look-same load bench (benchAt bench t) k refl refl refl;
+        modest = shows .modest;
+      }
+
+  module _ (size : Sized bench) (i : ℕ) (l : i < load .rows) (inside : i < 24) where
+    abbrev after : Bench
+    after = benchOver bench board i
+
+    -- it holds the state after the start
+    pub after-state : stateOf after ≡ startedFull (viewOf load) (stateOf bench) i
+    after-state =
+        ap₂ (λ c o. stateOf (benchStarted bench i c o)) (cost-same load bench board shows i l)
+        (opening-after load bench board shows i l)
+        ∙ benchStarted-state bench size (viewOf load) i _ inside
+
+    renewed : lookAfter (rowAt load i) board (bench .clock) i ≡ lookOf (viewOf load) (stateOf after) i
+    renewed =
+        sym
+        (ap₂ (λ a b. lookBy load i a b (getD (after .opening) i 0))
+        (getD-set-same (bench .finished) i _ 0 (omega (arith, size .finished-length))
+        ∙ ap (λ f. f + 1) (sym (finished-same load bench board shows i l)))
+        (getD-set-same (bench .end) i _ 0 (omega (arith, size .end-length)))
+        ∙ ap (lookBy load i _ _) (getD-set-same (bench .opening) i _ 0 (omega (arith, size .opening-length))))
+        ∙ look-of-row load after i
+
+    other : (k : ℕ) → k ≢ i → lookOf (viewOf load) (stateOf bench) k ≡ lookOf (viewOf load) (stateOf after) k
+    other k q =
+        look-same load bench after k (getD-set-other (bench .finished) i k _ 0 q)
+        (getD-set-other (bench .end) i k _ 0 q) (getD-set-other (bench .opening) i k _ 0 q)
+
+    -- the row is looked up anew, and the others are as they were
+    pub shows-started : (look : Look) → look ≡ lookAfter (rowAt load i) board (bench .clock) i → Modest look
+        → Shows load after (boardWith board i look)
+    shows-started look e m =
+        record {
+          wide = boardWith-wide board i look (shows .wide);
+          looks = λ k lk. elim (ℕ-discrete k i) [
+            | yes q ↦ rw q (boardWith-same board i look (shows .wide) inside ∙ e ∙ renewed)
+            | no q ↦ boardWith-other board i look k q ∙ shows .looks k lk ∙ other k q
+          ];
+          modest = λ k lk. elim (ℕ-discrete k i) [
+            | yes q ↦ rw (q, boardWith-same board i look (shows .wide) inside) m
+            | no q ↦ rw (boardWith-other board i look k q) (shows .modest k lk)
+          ];
+        }

@@ -1,0 +1,113 @@
+-- The numbers below n that have p, as a list and sorted: each is there once and nothing else is, there are as many as
+-- are counted, and a sum over them is a sum over the numbers below n.
+use Prim.Native.Nat.{ℕ, zero, suc, _+_, _<_}
+use mathlib.Core.Bool.{Bool, true, false, cond, _&&_}
+use mathlib.Core.List.{[], _∷_}
+use mathlib.Core.Path.{_≡_, refl, sym, ap, _∙_}
+use native.Mathlib.Decide.{ℕ-discrete, decLt}
+use native.Mathlib.Omega.{arith}
+use borrow.Author.Tests.{lt-ltb, le-ltb, eq-eqb, ne-eqb}
+use lib.Dec.{eqb, ltb}
+use lib.ListN.{length}
+use Rattle.counting.specs.Sums.{sumTo, bit, countTo}
+use Rattle.counting.specs.Lists.{joinTo, numbersWhere}
+use Rattle.counting.specs.Sorting.{sorted}
+use Rattle.counting.proofs.sums.SumLaws.{sumTo-ext}
+use Rattle.counting.proofs.sorting.SortLaws.{
+  totalIn,
+  Every,
+  totalIn-append,
+  totalIn-length,
+  totalIn-sorted,
+  Every-map,
+  Every-append,
+  Every-sorted,
+  sorted-length,
+}
+
+-- a sum over the numbers below n that have p
+pub totalIn-numbersWhere : (f : ℕ → ℕ) (p : ℕ → Bool) (n : ℕ)
+    → totalIn f (numbersWhere p n) ≡ sumTo (λ i. cond (p i) (f i) 0) n
+unfolding totalIn joinTo sumTo
+totalIn-numbersWhere f p zero = refl
+totalIn-numbersWhere f p (suc n) =
+    totalIn-append f (numbersWhere p n) (cond (p n) (n ∷ []) [])
+    ∙ omega (arith, totalIn-numbersWhere f p n, last (p n))
+  where
+    last : (b : Bool) → totalIn f (cond b (n ∷ []) []) ≡ cond b (f n) 0
+    last true = omega arith
+    last false = refl
+
+-- a sum with no term but that of i
+pub sumTo-only : (f : ℕ → ℕ) (n i : ℕ) → ((k : ℕ) → k < n → (k ≡ i → ⊥) → f k ≡ 0)
+    → sumTo f n ≡ cond (ltb i n) (f i) 0
+unfolding sumTo
+sumTo-only f zero i h = rw (le-ltb i 0 (omega arith))
+sumTo-only f (suc n) i h = step (sumTo-only f n i (λ k l. h k (omega arith)))
+  where
+    step : sumTo f n ≡ cond (ltb i n) (f i) 0 → sumTo f n + f n ≡ cond (ltb i (suc n)) (f i) 0
+    step ih =
+        elim (ℕ-discrete n i) [
+          | yes e ↦ rw (lt-ltb i (suc n) (omega arith), ih, le-ltb i n (omega arith)) (omega (arith, ap f e))
+          | no e ↦
+              elim (decLt i n) [
+                | yes l ↦ rw (lt-ltb i (suc n) (omega arith), ih, lt-ltb i n l) (omega (arith, h n (omega arith) e))
+                | no l ↦
+                    rw (le-ltb i (suc n) (omega arith), ih, le-ltb i n (omega arith))
+                    (omega (arith, h n (omega arith) e))
+              ]
+        ]
+
+-- the members of the sorted numbers are those below n that have p, each once
+pub sorted-numbers-once : (before : ℕ → ℕ → Bool) (p : ℕ → Bool) (n i : ℕ)
+    → totalIn (λ k. bit (eqb k i)) (sorted before (numbersWhere p n)) ≡ bit (ltb i n && p i)
+sorted-numbers-once before p n i =
+    totalIn-sorted before (λ k. bit (eqb k i)) (numbersWhere p n)
+    ∙ totalIn-numbersWhere (λ k. bit (eqb k i)) p n
+    ∙ sumTo-only (λ k. cond (p k) (bit (eqb k i)) 0) n i (λ k l e. other (p k) k e)
+    ∙ here (ltb i n) (p i)
+  where
+    other : (b : Bool) (k : ℕ) → (k ≡ i → ⊥) → cond b (bit (eqb k i)) 0 ≡ 0
+    other true k e = rw (ne-eqb k i e)
+    other false k e = refl
+
+    here : (s t : Bool) → cond s (cond t (bit (eqb i i)) 0) 0 ≡ bit (s && t)
+    here true true = rw (eq-eqb i i refl)
+    here true false = refl
+    here false t = refl
+
+pub numbersWhere-length : (p : ℕ → Bool) (n : ℕ) → length (numbersWhere p n) ≡ countTo p n
+numbersWhere-length p n =
+    sym (totalIn-length (numbersWhere p n))
+    ∙ totalIn-numbersWhere (λ k. 1) p n
+    ∙ sumTo-ext (λ k. cond (p k) 1 0) (λ k. bit (p k)) n (λ k l. one (p k))
+  where
+    one : (b : Bool) → cond b 1 0 ≡ bit b
+    one true = refl
+    one false = refl
+
+pub sorted-numbers-length : (before : ℕ → ℕ → Bool) (p : ℕ → Bool) (n : ℕ)
+    → length (sorted before (numbersWhere p n)) ≡ countTo p n
+sorted-numbers-length before p n = sorted-length before (numbersWhere p n) ∙ numbersWhere-length p n
+
+-- a number below n that has p
+pub record Chosen (p : ℕ → Bool) (n i : ℕ) : Type 0 where
+  pub below : i < n
+  pub has : p i ≡ true
+
+Every-numbersWhere : (p : ℕ → Bool) (n : ℕ) → Every (Chosen p n) (numbersWhere p n)
+unfolding joinTo
+Every-numbersWhere p zero = tt
+Every-numbersWhere p (suc n) =
+    Every-append (Chosen p (suc n)) (numbersWhere p n) (cond (p n) (n ∷ []) [])
+    (Every-map (Chosen p n) (Chosen p (suc n)) (numbersWhere p n)
+    (λ i c. record { below = omega arith; has = c .has }) (Every-numbersWhere p n))
+    (last (p n) refl)
+  where
+    last : (b : Bool) → p n ≡ b → Every (Chosen p (suc n)) (cond b (n ∷ []) [])
+    last true e = (record { below = omega arith; has = e }, tt)
+    last false e = tt
+
+pub sorted-numbers-chosen : (before : ℕ → ℕ → Bool) (p : ℕ → Bool) (n : ℕ)
+    → Every (Chosen p n) (sorted before (numbersWhere p n))
+sorted-numbers-chosen before p n = Every-sorted before (Chosen p n) (numbersWhere p n) (Every-numbersWhere p n)

@@ -1,0 +1,4 @@
+-- Laws of sums and of largest values.
+pub mod SumLaws
+pub mod MaxLaws
+pub mod ChangeLaws

@@ -1,0 +1,192 @@
+-- The numbers that a load, a file, a schedule and a move can be refused with: each definition is a list of tests, and
+-- those are looked through.
+use Prim.Native.Nat.{ℕ}
+use mathlib.Core.Bool.{Bool, true, false, not}
+use mathlib.Core.List.{List, [], _∷_, _++_}
+use mathlib.Core.Path.{_≡_, refl}
+use lib.Dec.{eqb, leb, ltb}
+use lib.ListN.{length}
+use Rattle.counting.specs.Sums.{allFrom}
+use Rattle.counting.specs.Lists.{anyIn}
+use Rattle.counting.specs.Searches.{Found, at, none}
+use Rattle.refusals.specs.declared.Refusal.the-variants.{OutOfRange, SlotCount}
+use Rattle.refusals.specs.declared.Checked.{Checked}
+use Rattle.refusals.specs.declared.Checked.the-variants as finding
+use Rattle.refusals.specs.Refusals.{numberOf, numberGiven}
+use Rattle.refusals.specs.FirstMet.{firstMet}
+use Rattle.load.specs.declared.Row.{Row}
+use Rattle.load.specs.declared.Load.{Load}
+use Rattle.load.specs.Load.{lastMoment, mostRows, rowAt}
+use Rattle.load.specs.View.{View, viewOf, stepsInAll}
+use Rattle.load.specs.Faults.{rowTests, takenTests, stepTests, windowTests}
+use Rattle.load.specs.Check.{
+  allZero,
+  zeroStepsFrom,
+  zeroWindowsFrom,
+  isZeroRow,
+  checkFields,
+  checkStep,
+  checkWindow,
+  rowFault,
+  checkLoad,
+}
+use Rattle.load_file.specs.Records.{rowKind, stepKind, windowKind}
+use Rattle.load_file.specs.Places.{
+  stepsSaid,
+  windowsSaid,
+  stepPlace,
+  windowPlace,
+  rowFrom,
+  rowPlace,
+  rowsSaid,
+  loadIn,
+}
+use Rattle.load_file.specs.Reading.{
+  dueTests,
+  headerTests,
+  stepFaultIn,
+  windowFaultIn,
+  ownFault,
+  rowFaultAt,
+  endTests,
+  fileFault,
+  readLoad,
+}
+use Rattle.rules.specs.declared.Slot.{Slot}
+use Rattle.rules.specs.declared.Outcome.{Outcome}
+use Rattle.rules.specs.declared.Outcome.the-variants.{Refused}
+use Rattle.rules.specs.Outcomes.{toldBy}
+use Rattle.rules.specs.State.{State, shaped}
+use Rattle.rules.specs.Move.{startOrIdle, allFinished, chosen, shapedMove, move}
+use Rattle.rules.specs.Slots.{slotAt}
+use Rattle.rules.specs.Check.{slotTests, checkSlots, checkSchedule}
+use Rattle.bench.specs.declared.Bench.{Bench}
+use Rattle.bench.specs.Held.{stateOf, nextMove}
+use Rattle.bench.proofs.choice.NextLaws.{nextMove-good, nextMove-refused}
+use Rattle.demands.specs.Numbers.{OneOf, ofLoad, ofFile, ofSlots, ofRange, ofWindow, ofState}
+use Rattle.demands.proofs.demand1.NumberLaws.{
+  Gives,
+  tests-give,
+  then-gives,
+  last-gives,
+  faultsTo-give,
+  OneOf-more,
+}
+
+-- the parts of a load
+pub fields-give : (row : Row) → Gives ofRange (checkFields row)
+unfolding rowTests anyIn
+fields-give row = tests-give ofRange (rowTests row) refl
+
+pub step-gives : (row : Row) (j : ℕ) → Gives ofRange (checkStep row j)
+unfolding stepTests anyIn
+step-gives row j = tests-give ofRange (stepTests row j) refl
+
+pub window-gives : (row : Row) (k : ℕ) → Gives ofWindow (checkWindow row k)
+unfolding windowTests anyIn
+window-gives row k = tests-give ofWindow (windowTests row k) refl
+
+zeros-give : (zeros : Bool) → Gives ofLoad (allZero zeros)
+unfolding anyIn
+zeros-give zeros = tests-give ofLoad ((not zeros, OutOfRange) ∷ []) refl
+
+row-gives : (load : Load) (i : ℕ) (row : Row) → Gives ofLoad (rowFault load i row)
+unfolding rowFault rowTests takenTests stepTests windowTests anyIn
+row-gives load i row =
+    then-gives ofLoad _ _ (tests-give ofLoad (rowTests row) refl)
+    (then-gives ofLoad _ _ (tests-give ofLoad (takenTests load i row) refl)
+    (then-gives ofLoad _ _
+    (faultsTo-give ofLoad (checkStep row) (λ j. tests-give ofLoad (stepTests row j) refl) (row .steps))
+    (then-gives ofLoad _ _ (zeros-give (zeroStepsFrom row (row .steps)))
+    (then-gives ofLoad _ _
+    (faultsTo-give ofLoad (checkWindow row) (λ k. tests-give ofLoad (windowTests row k) refl) (row .windows))
+    (last-gives ofLoad _ (zeros-give (zeroWindowsFrom row (row .windows))))))))
+
+pub load-gives : (load : Load) → Gives ofLoad (checkLoad load)
+unfolding checkLoad anyIn
+load-gives load =
+    then-gives ofLoad _ _ (tests-give ofLoad ((ltb mostRows (load .rows), OutOfRange) ∷ []) refl)
+    (then-gives ofLoad _ _
+    (faultsTo-give ofLoad (λ i. rowFault load i (rowAt load i)) (λ i. row-gives load i (rowAt load i)) (load .rows))
+    (last-gives ofLoad _ (zeros-give (allFrom (λ i. isZeroRow (rowAt load i)) (load .rows) mostRows))))
+
+file-row-gives : (bs : List ℕ) (i place : ℕ) → Gives ofFile (rowFaultAt bs i place)
+unfolding rowFaultAt ownFault stepFaultIn windowFaultIn rowTests takenTests stepTests windowTests anyIn
+file-row-gives bs i place =
+    then-gives ofFile _ _
+    (tests-give ofFile
+    (dueTests rowKind bs place ++ rowTests (rowFrom bs place) ++ takenTests (loadIn bs) i (rowFrom bs place)) refl)
+    (then-gives ofFile _ _
+    (faultsTo-give ofFile (stepFaultIn bs place)
+    (λ j. tests-give ofFile (dueTests stepKind bs (stepPlace place j) ++ stepTests (rowFrom bs place) j) refl)
+    (stepsSaid bs place))
+    (last-gives ofFile _
+    (faultsTo-give ofFile (windowFaultIn bs place)
+    (λ k. tests-give ofFile (dueTests windowKind bs (windowPlace bs place k) ++ windowTests (rowFrom bs place) k) refl)
+    (windowsSaid bs place))))
+
+pub file-gives : (bs : List ℕ) → Gives ofFile (readLoad bs .answer)
+unfolding readLoad fileFault headerTests endTests anyIn
+file-gives bs =
+    then-gives ofFile _ _ (tests-give ofFile (headerTests bs) refl)
+    (then-gives ofFile _ _
+    (faultsTo-give ofFile (λ i. rowFaultAt bs i (rowPlace bs i)) (λ i. file-row-gives bs i (rowPlace bs i))
+    (rowsSaid bs))
+    (last-gives ofFile _ (tests-give ofFile (endTests bs (rowPlace bs (rowsSaid bs))) refl)))
+
+-- 3 to 7, then 12 to 17
+abbrev ofSchedule : List ℕ
+ofSchedule = ofLoad ++ ofSlots
+
+pub schedule-gives : (load : Load) (slots : List Slot) → Gives ofSchedule (checkSchedule load slots)
+unfolding checkSchedule checkSlots slotTests anyIn
+schedule-gives load slots =
+    then-gives ofSchedule (checkLoad load) _
+    (record { number = OneOf-more ofLoad ofSchedule refl (numberGiven (checkLoad load)) (load-gives load .number) })
+    (last-gives ofSchedule _
+    (then-gives ofSchedule _ _
+    (tests-give ofSchedule ((not (eqb (length slots) (stepsInAll (viewOf load))), SlotCount) ∷ []) refl)
+    (last-gives ofSchedule _
+    (faultsTo-give ofSchedule (λ k. firstMet (slotTests (viewOf load) slots k (slotAt slots k)))
+    (λ k. tests-give ofSchedule (slotTests (viewOf load) slots k (slotAt slots k)) refl) (length slots)))))
+
+-- 3 to 7, 10 and 11
+abbrev ofMove : List ℕ
+ofMove = ofLoad ++ ofState
+
+-- the number of an answer
+abbrev numberIn : Outcome → ℕ
+numberIn outcome = toldBy outcome .number
+
+choice-gives : (L : View) (s : State) (choice : Found) → OneOf ofMove (numberIn (startOrIdle L s choice .outcome))
+unfolding anyIn
+choice-gives L s (at i) = refl
+choice-gives L s none = refl
+
+shaped-gives : (L : View) (s : State) → OneOf ofMove (numberIn (shapedMove L s .outcome))
+unfolding shapedMove anyIn
+shaped-gives L s = go (allFinished L s) (leb lastMoment (s .clock)) refl refl
+  where
+    go : (isDone isFull : Bool) → allFinished L s ≡ isDone → leb lastMoment (s .clock) ≡ isFull
+        → OneOf ofMove (numberIn (shapedMove L s .outcome))
+    go true isFull d f = rw (d, shapedMove)
+    go false true d f = rw (d, shapedMove) (rw f)
+    go false false d f = rw (d, shapedMove) (rw f (choice-gives L s (chosen L s)))
+
+rules-give : (L : View) (s : State) → OneOf ofMove (numberIn (move L s .outcome))
+unfolding move anyIn
+rules-give L s = go (shaped L s) refl
+  where
+    go : (isShaped : Bool) → shaped L s ≡ isShaped → OneOf ofMove (numberIn (move L s .outcome))
+    go true q = rw (q, move) (shaped-gives L s)
+    go false q = rw (q, move)
+
+pub move-gives : (load : Load) (bench : Bench) → OneOf ofMove (numberIn (nextMove load bench .outcome))
+unfolding nextMove anyIn
+move-gives load bench = go (checkLoad load) refl (load-gives load .number)
+  where
+    go : (found : Checked) → checkLoad load ≡ found → OneOf ofLoad (numberGiven found)
+        → OneOf ofMove (numberIn (nextMove load bench .outcome))
+    go finding.Good q own = rw (nextMove-good load bench q) (rules-give (viewOf load) (stateOf bench))
+    go (finding.Refused refusal) q own =
+        rw (nextMove-refused load bench refusal q) (OneOf-more ofLoad ofMove refl (numberOf refusal) own)

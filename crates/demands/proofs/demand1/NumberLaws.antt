@@ -1,0 +1,80 @@
+-- With which numbers a call can refuse: where each test of a list gives one of some numbers, so does the first that is
+-- met, and so does the first finding of several. The definitions are lists of tests, so that each list is decided by
+-- computing.
+use Prim.Native.Nat.{ℕ, zero, suc}
+use mathlib.Core.Bool.{Bool, true, false, cond, _&&_, _||_}
+use mathlib.Core.List.{List, [], _∷_}
+use mathlib.Core.Path.{_≡_, refl}
+use lib.Dec.{eqb}
+use borrow.Author.Tests.{eqb-true}
+use Rattle.counting.specs.Lists.{anyIn}
+use Rattle.counting.proofs.tests.TestLaws.{and-left, and-right, true-false}
+use Rattle.refusals.specs.declared.Refusal.{Refusal}
+use Rattle.refusals.specs.declared.Checked.{Checked}
+use Rattle.refusals.specs.declared.Checked.the-variants.{Good, Refused}
+use Rattle.refusals.specs.Refusals.{numberOf, numberGiven}
+use Rattle.refusals.specs.FirstMet.{firstMet, andThen, firstFaultTo}
+use Rattle.demands.specs.Numbers.{OneOf}
+
+-- what a check finds is Good, or its number is one of these
+pub record Gives (numbers : List ℕ) (found : Checked) : Type 0 where
+  pub number : OneOf numbers (numberGiven found)
+
+-- each test's refusal has one of these numbers
+abbrev pub eachOf : List ℕ → List (Bool × Refusal) → Bool
+eachOf numbers [] = true
+eachOf numbers (t ∷ ts) = anyIn (eqb (numberOf (t .1))) (0 ∷ numbers) && eachOf numbers ts
+
+module _ (numbers : List ℕ) where
+  good-gives : Gives numbers Good
+  unfolding anyIn
+  good-gives = record { number = refl }
+
+  pub tests-give : (ts : List (Bool × Refusal)) → eachOf numbers ts ≡ true → Gives numbers (firstMet ts)
+  tests-give [] e = good-gives
+  tests-give (t ∷ ts) e =
+      go (t .0) (record { number = and-left (anyIn (eqb (numberOf (t .1))) (0 ∷ numbers)) (eachOf numbers ts) e })
+      (tests-give ts (and-right (anyIn (eqb (numberOf (t .1))) (0 ∷ numbers)) (eachOf numbers ts) e))
+    where
+      go : (met : Bool) → Gives numbers (Refused (t .1)) → Gives numbers (firstMet ts)
+          → Gives numbers (cond met (Refused (t .1)) (firstMet ts))
+      go true mine rest = mine
+      go false mine rest = rest
+
+  pub then-gives : (a b : Checked) → Gives numbers a → Gives numbers b → Gives numbers (andThen a b)
+  then-gives Good b p q = q
+  then-gives (Refused refusal) b p q = p
+
+  pub last-gives : (a : Checked) → Gives numbers a → Gives numbers (andThen a Good)
+  last-gives a p = then-gives a Good p good-gives
+
+  pub faultsTo-give : (f : ℕ → Checked) → ((i : ℕ) → Gives numbers (f i)) → (n : ℕ) → Gives numbers (firstFaultTo f n)
+  unfolding firstFaultTo
+  faultsTo-give f each zero = good-gives
+  faultsTo-give f each (suc n) = then-gives (firstFaultTo f n) (f n) (faultsTo-give f each n) (each n)
+
+-- numbers that are all among others
+abbrev pub eachAmong : List ℕ → List ℕ → Bool
+eachAmong others [] = true
+eachAmong others (a ∷ rest) = anyIn (eqb a) (0 ∷ others) && eachAmong others rest
+
+pub among : (numbers others : List ℕ) → eachAmong others numbers ≡ true → (n : ℕ) → anyIn (eqb n) numbers ≡ true
+    → OneOf others n
+unfolding anyIn
+among [] others each n h = absurd (true-false false h refl)
+among (a ∷ rest) others each n h =
+    go (eqb n a) refl h (among rest others (and-right own (eachAmong others rest) each) n)
+  where
+    own : Bool
+    own = anyIn (eqb a) (0 ∷ others)
+
+    go : (b : Bool) → eqb n a ≡ b → (b || anyIn (eqb n) rest) ≡ true → (anyIn (eqb n) rest ≡ true → OneOf others n)
+        → OneOf others n
+    go true q p later = rw (eqb-true n a q) (and-left own (eachAmong others rest) each)
+    go false q p later = later p
+
+-- one of some numbers is one of more
+pub OneOf-more : (numbers others : List ℕ) → eachAmong others numbers ≡ true → (n : ℕ) → OneOf numbers n
+    → OneOf others n
+unfolding anyIn
+OneOf-more numbers others each = among (0 ∷ numbers) others each

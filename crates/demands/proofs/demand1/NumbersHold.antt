@@ -1,0 +1,41 @@
+-- Every call refuses with no other numbers than those named: each relation is an equation or a finding, and those were
+-- looked through test by test.
+use Rattle.rules.specs.Margins.{marginBytes}
+use Rattle.schedule.specs.Calls.{firstSlots}
+use Rattle.reading_bench.specs.Calls.{boundBytes, verdictBytes, scheduleFile}
+use Rattle.demands.specs.Numbers.{Numbers}
+use Rattle.demands.proofs.demand1.CallNumbers.{
+  load-gives,
+  fields-give,
+  step-gives,
+  window-gives,
+  file-gives,
+  schedule-gives,
+  move-gives,
+}
+use Rattle.demands.proofs.demand1.WritingCalls.{load-written-gives, slots-written-give, c-gives, lines-give}
+
+pub numbers : Numbers
+numbers =
+    record {
+      check-load = λ load r e. rw e (load-gives load .number);
+      check-fields = λ row r e. rw e (fields-give row .number);
+      check-step = λ row j r e. rw e (step-gives row j .number);
+      check-window = λ row k r e. rw e (window-gives row k .number);
+      read-load = λ bs r e. rw e (file-gives bs .number);
+      write-load = load-written-gives;
+      bound-of = λ load r e. rw e (load-gives load .number);
+      margins-of = λ load r e. rw e (load-gives load .number);
+      verdict-of = λ load r e. rw e (load-gives load .number);
+      check-schedule = λ load slots r e. rw e (schedule-gives load slots .number);
+      check-array = λ load slots n r e. rw e (schedule-gives load (firstSlots slots n) .number);
+      write-schedule = slots-written-give;
+      write-array = λ slots n out r after g. slots-written-give (firstSlots slots n) out r after g;
+      next-move = λ load bench r e. rw e (move-gives load bench);
+      run = λ load r e. rw e (load-gives load .number);
+      bench-bound = c-gives boundBytes;
+      bench-verdict = c-gives verdictBytes;
+      bench-margins = c-gives marginBytes;
+      bench-schedule = c-gives scheduleFile;
+      print-lines = lines-give;
+    }

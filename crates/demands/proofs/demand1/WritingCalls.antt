@@ -1,0 +1,97 @@
+-- The calls that write: with which numbers a call for C and printing refuse, and that a refusal leaves the output.
+use Prim.Native.Nat.{ℕ}
+use mathlib.Core.Bool.{true}
+use mathlib.Core.List.{List, [], _∷_, _++_}
+use mathlib.Core.Logic.{_≢_}
+use mathlib.Core.Path.{_≡_, refl, ap, _∙_}
+use lib.Dec.{ltb}
+use lib.ListN.{length}
+use Rattle.counting.specs.Lists.{anyIn}
+use Rattle.refusals.specs.declared.Refusal.{Refusal}
+use Rattle.refusals.specs.declared.Refusal.the-variants.{OutOfRange, OutputShort}
+use Rattle.refusals.specs.declared.Checked.{Checked}
+use Rattle.refusals.specs.declared.Checked.the-variants.{Good, Refused}
+use Rattle.refusals.specs.Refusals.{numberGiven}
+use Rattle.refusals.specs.Given.{outputAfter, Given}
+use Rattle.load.specs.declared.Load.{Load}
+use Rattle.load.specs.View.{View, viewOf}
+use Rattle.load.specs.Check.{checkLoad}
+use Rattle.load_file.specs.Writing.{loadBytes}
+use Rattle.load_file.specs.Places.{loadIn}
+use Rattle.load_file.specs.Reading.{fileFault, readLoad}
+use Rattle.load_file.specs.Calls.{WriteLoad}
+use Rattle.rules.specs.declared.Slot.{Slot}
+use Rattle.schedule.specs.ScheduleFile.{mostSlots, slotsFault, scheduleBytes}
+use Rattle.schedule.specs.Calls.{WriteSchedule}
+use Rattle.reading_bench.specs.Calls.{ForC}
+use Rattle.lines.specs.declared.Printed.{Printed}
+use Rattle.lines.specs.Lines.{printed}
+use Rattle.lines.specs.Calls.{PrintLines}
+use Rattle.demands.specs.Numbers.{OneOf, ofLoad, ofFile, ofRange, ofOutput}
+use Rattle.demands.proofs.demand1.NumberLaws.{Gives, tests-give, then-gives, last-gives, eachAmong, OneOf-more}
+use Rattle.demands.proofs.demand1.CallNumbers.{load-gives, file-gives}
+
+-- 9 comes last, behind whatever a finding gives
+given-gives : (numbers : List ℕ) (finding : Checked) (answer out : List ℕ) (found : Checked) (after : List ℕ)
+    → OneOf numbers 9 → Gives numbers finding → Given finding answer out found after
+    → OneOf numbers (numberGiven found)
+unfolding anyIn
+given-gives numbers finding answer out found after nine f g =
+    rw (g .finding-is)
+    (then-gives numbers finding _ f
+    (last-gives numbers _
+    (tests-give numbers ((ltb (length out) (length answer), OutputShort) ∷ []) (rw nine))) .number)
+
+-- one of some numbers is one of them and 9
+with-nine : (numbers : List ℕ) (found : Checked) → eachAmong (numbers ++ ofOutput) numbers ≡ true → Gives numbers found
+    → Gives (numbers ++ ofOutput) found
+with-nine numbers found each g =
+    record { number = OneOf-more numbers (numbers ++ ofOutput) each (numberGiven found) (g .number) }
+
+pub load-written-gives : (load : Load) (out : List ℕ) (r : Checked) (after : List ℕ) → WriteLoad load out r after
+    → OneOf (ofLoad ++ ofOutput) (numberGiven r)
+unfolding anyIn
+load-written-gives load out r after g =
+    given-gives (ofLoad ++ ofOutput) (checkLoad load) (loadBytes load) out r after refl
+    (with-nine ofLoad (checkLoad load) refl (load-gives load)) g
+
+pub slots-written-give : (slots : List Slot) (out : List ℕ) (r : Checked) (after : List ℕ)
+    → WriteSchedule slots out r after → OneOf (ofRange ++ ofOutput) (numberGiven r)
+unfolding anyIn
+slots-written-give slots out r after g =
+    given-gives (ofRange ++ ofOutput) (slotsFault slots) (scheduleBytes slots) out r after refl
+    (tests-give (ofRange ++ ofOutput) ((ltb mostSlots (length slots), OutOfRange) ∷ []) refl) g
+
+pub c-gives : (answer : View → List ℕ) (bs out : List ℕ) (r : ℕ) (after : List ℕ) → ForC answer bs out r after
+    → OneOf (ofFile ++ ofOutput) r
+unfolding readLoad anyIn
+c-gives answer bs out r after c =
+    rw (c .number-is)
+    (given-gives (ofFile ++ ofOutput) (fileFault bs) (answer (viewOf (loadIn bs))) out (c .found) after refl
+    (with-nine ofFile (fileFault bs) refl (file-gives bs)) (c .given))
+
+pub lines-give : (bs out : List ℕ) (r : Printed) (after : List ℕ) → PrintLines bs out r after
+    → OneOf ofOutput (numberGiven (r .answer))
+unfolding anyIn
+lines-give bs out r after p =
+    given-gives ofOutput Good (printed bs) out (r .answer) after refl (record { number = refl }) (p .given)
+
+-- a finding whose number is not 0 leaves the output
+number-stays : (finding : Checked) (answer out : List ℕ) (found : Checked) (after : List ℕ)
+    → Given finding answer out found after → numberGiven found ≢ 0 → after ≡ out
+number-stays finding answer out found after g ne = go found ne (g .output-is)
+  where
+    go : (c : Checked) → numberGiven c ≢ 0 → after ≡ outputAfter c answer out → after ≡ out
+    go Good other e = absurd (other refl)
+    go (Refused refusal) other e = e
+
+pub c-keeps : (answer : View → List ℕ) (bs out : List ℕ) (r : ℕ) (after : List ℕ) → ForC answer bs out r after
+    → r ≢ 0 → after ≡ out
+c-keeps answer bs out r after c ne =
+    number-stays (fileFault bs) (answer (viewOf (loadIn bs))) out (c .found) after (c .given)
+    (λ e. ne (c .number-is ∙ e))
+
+pub lines-keep : (bs out : List ℕ) (refusal : Refusal) (r : Printed) (after : List ℕ) → PrintLines bs out r after
+    → r .answer ≡ Refused refusal → after ≡ out
+lines-keep bs out refusal r after p e =
+    p .given .output-is ∙ ap (λ c. outputAfter c (printed bs) out) e

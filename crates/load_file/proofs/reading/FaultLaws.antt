@@ -1,0 +1,165 @@
+-- What the reading of a file asks, part by part: its finding is Good exactly when each record is due where it stands
+-- and passes the tests that the check in memory has.
+use Prim.Native.Nat.{ℕ, _+_, _≤_, _<_}
+use mathlib.Core.List.{List, [], _∷_, _++_}
+use mathlib.Core.Path.{_≡_}
+use lib.ListN.{length}
+use borrow.Author.Tests.{ltb-false, le-ltb}
+use Rattle.words.specs.LittleEndian.{byteAt, numberAt}
+use Rattle.refusals.specs.declared.Checked.the-variants.{Good}
+use Rattle.refusals.proofs.FirstMetLaws.{firstFaultTo-good, good-firstFaultTo}
+use Rattle.refusals.proofs.UnmetLaws.{
+  good-unmet,
+  unmet-good,
+  append-good-first,
+  append-good-second,
+  append-good-both,
+  good-allGood,
+  allGood-good,
+}
+use Rattle.load.specs.Load.{mostRows}
+use Rattle.load.specs.View.{viewOf, stepsInAll}
+use Rattle.load.specs.Faults.{rowTests, takenTests, stepTests, windowTests}
+use Rattle.load.specs.Check.{checkFields, checkTaken, checkStep, checkWindow}
+use Rattle.load_file.specs.Records.{headerKind, rowKind, stepKind, windowKind, endKind, version}
+use Rattle.load_file.specs.Places.{
+  stepsSaid,
+  windowsSaid,
+  stepPlace,
+  windowPlace,
+  rowFrom,
+  rowPlace,
+  rowsSaid,
+  loadIn,
+}
+use Rattle.load_file.specs.Reading.{
+  dueTests,
+  headerTests,
+  stepFaultIn,
+  windowFaultIn,
+  rowFaultAt,
+  endTests,
+  fileFault,
+  ownFault,
+}
+use Rattle.load_file.proofs.layout.RecordLaws.{
+  differs-false,
+  eq-differs,
+  Due,
+  unmet-due,
+  due-unmet,
+  good-due,
+  due-good,
+}
+
+-- what the reading asks of row i, whose record stands at a place
+pub record RowAccepted (bs : List ℕ) (i at : ℕ) : Type 0 where
+  pub due : Due rowKind bs at
+  pub fields-good : checkFields (rowFrom bs at) ≡ Good
+  pub taken-good : checkTaken (loadIn bs) i (rowFrom bs at) ≡ Good
+  pub each-step-due : (j : ℕ) → j < stepsSaid bs at → Due stepKind bs (stepPlace at j)
+  pub each-step-good : (j : ℕ) → j < stepsSaid bs at → checkStep (rowFrom bs at) j ≡ Good
+  pub each-window-due : (k : ℕ) → k < windowsSaid bs at → Due windowKind bs (windowPlace bs at k)
+  pub each-window-good : (k : ℕ) → k < windowsSaid bs at → checkWindow (rowFrom bs at) k ≡ Good
+
+module _ (bs : List ℕ) (i at : ℕ) where
+  pub rowFaultAt-good : rowFaultAt bs i at ≡ Good → RowAccepted bs i at
+  unfolding rowFaultAt ownFault stepFaultIn windowFaultIn
+  rowFaultAt-good h =
+      let g = good-allGood (_ ∷ _ ∷ _ ∷ []) h in
+      let row = rowFrom bs at in
+      let front = append-good-first (dueTests rowKind bs at ++ rowTests row) (takenTests (loadIn bs) i row) (g .0) in
+      let step = firstFaultTo-good (stepFaultIn bs at) (stepsSaid bs at) (g .1 .0) in
+      let window = firstFaultTo-good (windowFaultIn bs at) (windowsSaid bs at) (g .1 .1 .0) in
+      record {
+        due = good-due rowKind bs at (append-good-first (dueTests rowKind bs at) (rowTests row) front);
+        fields-good = append-good-second (dueTests rowKind bs at) (rowTests row) front;
+        taken-good =
+            append-good-second (dueTests rowKind bs at ++ rowTests row) (takenTests (loadIn bs) i row) (g .0);
+        each-step-due =
+            λ j l.
+            good-due stepKind bs (stepPlace at j)
+            (append-good-first (dueTests stepKind bs (stepPlace at j)) (stepTests row j) (step j l));
+        each-step-good =
+            λ j l. append-good-second (dueTests stepKind bs (stepPlace at j)) (stepTests row j) (step j l);
+        each-window-due =
+            λ k l.
+            good-due windowKind bs (windowPlace bs at k)
+            (append-good-first (dueTests windowKind bs (windowPlace bs at k)) (windowTests row k) (window k l));
+        each-window-good =
+            λ k l.
+            append-good-second (dueTests windowKind bs (windowPlace bs at k)) (windowTests row k) (window k l);
+      }
+
+  pub good-rowFaultAt : RowAccepted bs i at → rowFaultAt bs i at ≡ Good
+  unfolding rowFaultAt ownFault stepFaultIn windowFaultIn
+  good-rowFaultAt r =
+      let row = rowFrom bs at in
+      let fields =
+      append-good-both (dueTests rowKind bs at) (rowTests row) (due-good rowKind bs at (r .due)) (r .fields-good) in
+      let own =
+      append-good-both (dueTests rowKind bs at ++ rowTests row) (takenTests (loadIn bs) i row) fields (r .taken-good) in
+      let steps =
+      good-firstFaultTo (stepFaultIn bs at) (stepsSaid bs at)
+      (λ j l.
+      append-good-both (dueTests stepKind bs (stepPlace at j)) (stepTests row j)
+      (due-good stepKind bs (stepPlace at j) (r .each-step-due j l)) (r .each-step-good j l)) in
+      let windows =
+      good-firstFaultTo (windowFaultIn bs at) (windowsSaid bs at)
+      (λ k l.
+      append-good-both (dueTests windowKind bs (windowPlace bs at k)) (windowTests row k)
+      (due-good windowKind bs (windowPlace bs at k) (r .each-window-due k l)) (r .each-window-good k l)) in
+      allGood-good (_ ∷ _ ∷ _ ∷ []) (own, (steps, (windows, tt)))
+
+-- where the end record stands
+abbrev pub endPlace : List ℕ → ℕ
+endPlace bs = rowPlace bs (rowsSaid bs)
+
+-- what the reading asks of a file
+pub record FileAccepted (bs : List ℕ) : Type 0 where
+  pub header-due : Due headerKind bs 0
+  pub version-is : byteAt bs 2 ≡ version
+  pub few-rows : rowsSaid bs ≤ mostRows
+  pub each-row : (i : ℕ) → i < rowsSaid bs → RowAccepted bs i (rowPlace bs i)
+  pub end-due : Due endKind bs (endPlace bs)
+  pub count-is : numberAt 2 bs (endPlace bs + 2) ≡ stepsInAll (viewOf (loadIn bs))
+  pub no-more : length bs ≤ endPlace bs + 4
+
+module _ (bs : List ℕ) where
+  pub fileFault-good : fileFault bs ≡ Good → FileAccepted bs
+  unfolding fileFault headerTests endTests
+  fileFault-good h =
+      let g = good-allGood (_ ∷ _ ∷ _ ∷ []) h in
+      let head = good-unmet (headerTests bs) (g .0) in
+      let row = firstFaultTo-good (λ i. rowFaultAt bs i (rowPlace bs i)) (rowsSaid bs) (g .1 .0) in
+      let tail = good-unmet (endTests bs (endPlace bs)) (g .1 .1 .0) in
+      let said : ℕ = numberAt 2 bs (endPlace bs + 2) in
+      let count : ℕ = stepsInAll (viewOf (loadIn bs)) in
+      record {
+        header-due = unmet-due headerKind bs 0 (head .0, (head .1 .0, (head .1 .1 .0, tt)));
+        version-is = differs-false (byteAt bs 2) version (head .1 .1 .1 .0);
+        few-rows = ltb-false mostRows (rowsSaid bs) (head .1 .1 .1 .1 .0);
+        each-row = λ i l. rowFaultAt-good bs i (rowPlace bs i) (row i l);
+        end-due = unmet-due endKind bs (endPlace bs) (tail .0, (tail .1 .0, (tail .1 .1 .0, tt)));
+        count-is = differs-false said count (tail .1 .1 .1 .0);
+        no-more = ltb-false (endPlace bs + 4) (length bs) (tail .1 .1 .1 .1 .0);
+      }
+
+  pub good-fileFault : FileAccepted bs → fileFault bs ≡ Good
+  unfolding fileFault headerTests endTests
+  good-fileFault f =
+      let said : ℕ = numberAt 2 bs (endPlace bs + 2) in
+      let head = due-unmet headerKind bs 0 (f .header-due) in
+      let same-version = eq-differs (byteAt bs 2) version (f .version-is) in
+      let few = le-ltb mostRows (rowsSaid bs) (f .few-rows) in
+      let header =
+      unmet-good (headerTests bs) (head .0, (head .1 .0, (head .1 .1 .0, (same-version, (few, tt))))) in
+      let rows =
+      good-firstFaultTo (λ i. rowFaultAt bs i (rowPlace bs i)) (rowsSaid bs)
+      (λ i l. good-rowFaultAt bs i (rowPlace bs i) (f .each-row i l)) in
+      let tail = due-unmet endKind bs (endPlace bs) (f .end-due) in
+      let same-count = eq-differs said (stepsInAll (viewOf (loadIn bs))) (f .count-is) in
+      let no-more = le-ltb (endPlace bs + 4) (length bs) (f .no-more) in
+      let end =
+      unmet-good (endTests bs (endPlace bs)) (tail .0, (tail .1 .0, (tail .1 .1 .0, (same-count, (no-more, tt))))) in
+      allGood-good (_ ∷ _ ∷ _ ∷ []) (header, (rows, (end, tt)))

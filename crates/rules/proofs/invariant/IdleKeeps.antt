@@ -1,0 +1,234 @@
+-- An idle tick keeps the invariant. With a window open the first of the stack waits, or starting it would pass, and
+-- the tick lies in its embedded wait. With none open every lowest next step waits: a first step for its phase, and of
+-- the rows at a later step the one that ended first has been charged with all that the others worked since.
+use Prim.Native.Nat.{ℕ, suc, _+_, _≤_, _<_, min}
+use mathlib.Core.Bool.{Bool, true, false, not}
+use mathlib.Core.List.{List, [], _∷_}
+use mathlib.Core.Logic.{_≢_}
+use mathlib.Core.Path.{_≡_, refl, ap, sym, _∙_, subst}
+use native.Mathlib.Decide.{ℕ-discrete, decLt}
+use native.Mathlib.Omega.{arith}
+use lib.Dec.{ltb}
+use borrow.Author.Tests.{lt-ltb}
+use Rattle.counting.specs.Sums.{sumTo}
+use Rattle.counting.specs.Lists.{changed}
+use Rattle.counting.proofs.tests.TestLaws.{and-both}
+use Rattle.counting.proofs.sums.SumLaws.{value-le-maxTo}
+use Rattle.counting.proofs.sorting.SortLaws.{Every}
+use Rattle.counting.proofs.sums.ChangeLaws.{changed-same, changed-other, sumTo-change}
+use Rattle.load.specs.View.{View, embedded, isFree}
+use Rattle.rules.specs.Bound.{largestPhase, largestW}
+use Rattle.rules.specs.State.{State}
+use Rattle.rules.specs.Ready.{release, released}
+use Rattle.rules.specs.Plan.{stack, planPasses}
+use Rattle.rules.specs.Move.{ticked}
+use Rattle.rules.proofs.bound.TightBound.{minima}
+use Rattle.rules.proofs.invariant.Good.{Good}
+use Rattle.rules.proofs.moves.WindowsOpen.{opensAt-embedded}
+use Rattle.rules.proofs.moves.MoveLaws.{CanStart}
+use Rattle.rules.proofs.plan.PlanLaws.{FirstWaits}
+use Rattle.rules.proofs.plan.StackLaws.{stack-every, tick-passes}
+use Rattle.rules.proofs.plan.StartPasses.{head-there, head-embedded, head-passes, free-passes}
+use Rattle.rules.proofs.moves.ShapeLaws.{ticked-keeps-shape}
+use Rattle.rules.proofs.invariant.Invariant.{
+  worked,
+  workedSince,
+  waitPlaces,
+  Invariant,
+  isFree-lt,
+  worked-next,
+  worked-here,
+}
+use Rattle.rules.proofs.invariant.ClockBound.{room-for}
+use Rattle.rules.proofs.moves.TickLaws.{
+  allowed-embedded,
+  allowed-lowest,
+  tick-worked,
+  tick-spent,
+  tick-waited,
+  tick-waited-more,
+  minima-le,
+  waitLeft-le,
+}
+
+module _ (L : View) (s : State) (g : Good L) {E P : ℕ} {F : ℕ → ℕ} (v : Invariant L s E P F)
+    (none : (i : ℕ) → CanStart L s i → ⊥) where
+  -- the first of the stack is inside its embedded wait
+  head-waits : (r : ℕ) (rest : List ℕ) → stack L s ≡ r ∷ rest → s .clock < released L s r
+  head-waits r rest first =
+      elim (decLt (s .clock) (released L s r)) [
+        | yes l ↦ l
+        | no l ↦
+            absurd
+            (none r
+            (record {
+              there = there;
+              more = more;
+              ready = omega arith;
+              allowed = allowed-embedded L s r inside;
+              in-time = room-for L s g v r there more;
+              plan = head-passes L s g r rest first (omega arith) (v .plan);
+            }))
+      ]
+    where
+      there : r < L .rows
+      there = head-there L s r rest first .0
+
+      inside : embedded L r (s .finished r) ≡ true
+      inside = head-embedded L s g r rest first
+
+      more : s .finished r < L .steps r
+      more = g .embedded-in r (s .finished r) there inside
+
+  pub idle-open : (r : ℕ) (rest : List ℕ) → stack L s ≡ r ∷ rest → Invariant L (ticked s) (suc E) P F
+  unfolding ticked
+  idle-open r rest first =
+      record {
+        shape = ticked-keeps-shape L s (v .shape);
+        clock-sum = omega (arith, v .clock-sum, tick-spent L s);
+        plan = tick-passes L s (subst (FirstWaits L s (s .clock)) (sym first) waits) (v .plan);
+        open-ticks =
+            omega (
+              arith,
+              v .open-ticks,
+              tick-waited-more L s r there (head-embedded L s g r rest first) (g .first-free r there)
+                  (v .shape .end-le r there) waits,
+            );
+        phase-clock = omega (arith, v .phase-clock);
+        phase-ticks = v .phase-ticks;
+        stage = v .stage;
+        wait-ticks = v .wait-ticks;
+        reached = v .reached;
+        charge = λ p i lp l fi free. omega (arith, v .charge p i lp l fi free, tick-worked L s p i);
+      }
+    where
+      there : r < L .rows
+      there = head-there L s r rest first .0
+
+      waits : s .clock < released L s r
+      waits = head-waits r rest first
+
+  -- no window is open
+  module _ (shut : stack L s ≡ []) where
+    none-open : (i : ℕ) → i < L .rows → embedded L i (s .finished i) ≡ false
+    none-open i l = go (embedded L i (s .finished i)) refl
+      where
+        go : (b : Bool) → embedded L i (s .finished i) ≡ b → b ≡ false
+        go false e = refl
+        go true e =
+            absurd
+            (stack-every L s (λ k. ⊥) (subst (Every (λ k. ⊥)) (sym shut) tt) i l
+            (opensAt-embedded L i (s .finished i) ∙ e))
+
+    not-ready : (i : ℕ) → i < L .rows → s .finished i < L .steps i
+        → ((k : ℕ) → k < L .rows → min (s .finished i) (L .steps k) ≤ s .finished k) → s .clock < released L s i
+    not-ready i l more lowest =
+        elim (decLt (s .clock) (released L s i)) [
+          | yes h ↦ h
+          | no h ↦
+              absurd
+              (none i
+              (record {
+                there = l;
+                more = more;
+                ready = omega arith;
+                allowed = allowed-lowest L s i lowest;
+                in-time = room-for L s g v i l more;
+                plan = free-passes L s i g l none-open;
+              }))
+        ]
+
+    tick-plan : planPasses L (ticked s) (ticked s .clock) ≡ true
+    tick-plan = tick-passes L s (subst (FirstWaits L s (s .clock)) (sym shut) tt) (v .plan)
+
+    -- a row with its first step to come
+    pub idle-phase : (i : ℕ) → i < L .rows → s .finished i < L .steps i → s .finished i ≡ 0
+        → Invariant L (ticked s) E (suc P) F
+    unfolding ticked largestPhase
+    idle-phase i l more zero-steps =
+        record {
+          shape = ticked-keeps-shape L s (v .shape);
+          clock-sum = omega (arith, v .clock-sum, tick-spent L s);
+          plan = tick-plan;
+          open-ticks = omega (arith, v .open-ticks, tick-waited L s);
+          phase-clock = omega (arith, v .phase-clock);
+          phase-ticks =
+              omega (
+                arith,
+                v .phase-clock,
+                not-ready i l more (λ k lk. omega arith),
+                ap (λ f. release L i f (s .end i)) zero-steps,
+                value-le-maxTo (L .phase) (L .rows) i l,
+              );
+          stage = v .stage;
+          wait-ticks = v .wait-ticks;
+          reached = v .reached;
+          charge = λ p k lp lk fk free. omega (arith, v .charge p k lp lk fk free, tick-worked L s p k);
+        }
+
+    -- the lowest next step is p + 1, and of the rows that wait there i is the one that ended first
+    module _ (p i : ℕ) (lp : p < waitPlaces) (l : i < L .rows) (more : s .finished i < L .steps i)
+        (at-p : s .finished i ≡ suc p) (lowest : (k : ℕ) → k < L .rows → min (suc p) (L .steps k) ≤ s .finished k)
+        (oldest : (k : ℕ) → k < L .rows → s .finished k < L .steps k → s .finished k ≡ suc p → s .end i ≤ s .end k)
+      where
+        its-free : isFree L i (suc p) ≡ true
+        its-free =
+            and-both (ltb (suc p) (L .steps i)) (not (embedded L i (suc p))) (lt-ltb (suc p) (L .steps i) (omega arith))
+            (ap not (sym (ap (embedded L i) at-p) ∙ none-open i l))
+
+        late : s .clock < s .end i + L .wait i p
+        late =
+            omega (
+              arith,
+              not-ready i l more (λ k lk. omega (arith, lowest k lk)),
+              ap (λ f. release L i f (s .end i)) at-p,
+            )
+
+        enough : minima L p i ≤ workedSince L s p i
+        enough = minima-le L s p i at
+          where
+            at : (k : ℕ) → k < L .rows → k ≢ i → isFree L k (suc p) ≡ true
+                → min (L .cost k p) (L .cost k (suc p)) ≤ worked L s p i k
+            at k lk ne free =
+                let long = isFree-lt L k (suc p) free in
+                elim (ℕ-discrete (s .finished k) (suc p)) [
+                  | yes e ↦ omega (arith, worked-here L s p i k e (oldest k lk (omega arith) e))
+                  | no e ↦ omega (arith, worked-next L s p i k (omega (arith, lowest k lk)))
+                ]
+
+        one-more : suc (F p) ≤ largestW minima L p
+        one-more = omega (arith, enough, late, v .charge p i lp l at-p its-free, waitLeft-le L p i l its-free)
+
+        pub idle-wait : Invariant L (ticked s) E P (changed F p (suc (F p)))
+        unfolding ticked
+        idle-wait =
+            record {
+              shape = ticked-keeps-shape L s (v .shape);
+              clock-sum = omega (arith, v .clock-sum, tick-spent L s, more-ticks);
+              plan = tick-plan;
+              open-ticks = omega (arith, v .open-ticks, tick-waited L s);
+              phase-clock = omega (arith, v .phase-clock);
+              phase-ticks = v .phase-ticks;
+              stage = v .stage;
+              wait-ticks = λ x lx. elim (ℕ-discrete x p) [
+                | yes e ↦ rw (e, changed-same F p (suc (F p))) one-more
+                | no e ↦ rw (changed-other F p (suc (F p)) x e) (v .wait-ticks x lx)
+              ];
+              reached = λ x k lx lk h. elim (ℕ-discrete x p) [
+                | yes e ↦ rw e (lowest k lk)
+                | no e ↦ v .reached x k lx lk (rw (changed-other F p (suc (F p)) x e) at h)
+              ];
+              charge = λ x k lx lk fk free. elim (ℕ-discrete x p) [
+                | yes e ↦
+                    rw (e, changed-same F p (suc (F p)))
+                    (omega (arith, v .charge p k lp lk (rw e at fk) (rw e at free), tick-worked L s p k))
+                | no e ↦
+                    rw (changed-other F p (suc (F p)) x e)
+                    (omega (arith, v .charge x k lx lk fk free, tick-worked L s x k))
+              ];
+            }
+          where
+            more-ticks : sumTo F waitPlaces + 1 ≡ sumTo (changed F p (suc (F p))) waitPlaces
+            more-ticks =
+                sumTo-change F (changed F p (suc (F p))) waitPlaces p 1 lp
+                (λ x lx ne. sym (changed-other F p (suc (F p)) x ne)) (omega (arith, changed-same F p (suc (F p))))

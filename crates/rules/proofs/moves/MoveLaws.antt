@@ -1,0 +1,179 @@
+-- What a start and a tick change, and the three ways of a move that is not refused: Start of a candidate that passes,
+-- Idle where none passes, Done. The order of the candidates is not used.
+use Prim.Native.Nat.{ℕ, suc, _+_, _≤_, _<_}
+use mathlib.Core.Bool.{Bool, true, false, _&&_}
+use mathlib.Core.Logic.{_≢_}
+use mathlib.Core.Path.{_≡_, refl, ap, _∙_}
+use native.Mathlib.Decide.{ℕ-discrete}
+use native.Mathlib.Omega.{arith}
+use lib.Dec.{leb, ltb}
+use borrow.Author.Tests.{ltb-true, leb-true, lt-ltb, le-leb, lt-leb}
+use Rattle.counting.specs.Lists.{numbersWhere}
+use Rattle.counting.specs.Searches.{Found, at, none}
+use Rattle.counting.specs.Sorting.{byKey}
+use Rattle.counting.proofs.tests.TestLaws.{and-left, and-right, true-false}
+use Rattle.counting.proofs.sorting.SortLaws.{Every-sorted}
+use Rattle.counting.proofs.lists.EveryLaws.{every-numbersWhere, numbersWhere-every, sorted-every, found-at, found-none}
+use Rattle.counting.proofs.sums.ChangeLaws.{changed-same, changed-other}
+use Rattle.load.specs.Load.{lastMoment}
+use Rattle.load.specs.View.{View}
+use Rattle.rules.specs.declared.Outcome.the-variants.{Start, Idle, Done}
+use Rattle.rules.specs.State.{State, isOpen, opensAt, shaped}
+use Rattle.rules.specs.Ready.{released, isReady, isAllowed, wouldEnd, isCandidate, candidates}
+use Rattle.rules.specs.Move.{
+  openingAfter,
+  started,
+  startedFull,
+  ticked,
+  passes,
+  chosen,
+  allFinished,
+  nextSlot,
+  handedBack,
+  startOrIdle,
+  shapedMove,
+  move,
+}
+
+module _ (L : View) (s : State) (k long : ℕ) where
+  pub started-clock : started L s k long .clock ≡ s .clock + long
+  unfolding started
+  started-clock = refl
+
+  pub started-finished-same : started L s k long .finished k ≡ suc (s .finished k)
+  unfolding started
+  started-finished-same = changed-same (s .finished) k (suc (s .finished k))
+
+  pub started-finished-other : (i : ℕ) → i ≢ k → started L s k long .finished i ≡ s .finished i
+  unfolding started
+  started-finished-other i ne = changed-other (s .finished) k (suc (s .finished k)) i ne
+
+  pub started-end-same : started L s k long .end k ≡ s .clock + long
+  unfolding started
+  started-end-same = changed-same (s .end) k (s .clock + long)
+
+  pub started-end-other : (i : ℕ) → i ≢ k → started L s k long .end i ≡ s .end i
+  unfolding started
+  started-end-other i ne = changed-other (s .end) k (s .clock + long) i ne
+
+  pub started-opening-same : started L s k long .opening k ≡ openingAfter L s k
+  unfolding started
+  started-opening-same = changed-same (s .opening) k (openingAfter L s k)
+
+  pub started-opening-other : (i : ℕ) → i ≢ k → started L s k long .opening i ≡ s .opening i
+  unfolding started
+  started-opening-other i ne = changed-other (s .opening) k (openingAfter L s k) i ne
+
+  pub started-finished-le : (i : ℕ) → s .finished i ≤ started L s k long .finished i
+  started-finished-le i =
+      elim (ℕ-discrete i k) [
+        | yes e ↦ rw e (omega (arith, started-finished-same))
+        | no e ↦ omega (arith, started-finished-other i e)
+      ]
+
+-- the opening after a start: kept, new, or none
+module _ (L : View) (s : State) (k : ℕ) where
+  pub openingAfter-kept : isOpen L s k ≡ true → opensAt L k (suc (s .finished k)) ≡ true
+      → openingAfter L s k ≡ s .opening k
+  openingAfter-kept a b = rw (b, a)
+
+  pub openingAfter-new : isOpen L s k ≡ false → opensAt L k (suc (s .finished k)) ≡ true → openingAfter L s k ≡ s .clock
+  openingAfter-new a b = rw (b, a)
+
+  pub openingAfter-none : opensAt L k (suc (s .finished k)) ≡ false → openingAfter L s k ≡ 0
+  openingAfter-none b = rw b
+
+pub ticked-clock : (s : State) → ticked s .clock ≡ s .clock + 1
+unfolding ticked
+ticked-clock s = refl
+
+-- a candidate that passes
+pub record CanStart (L : View) (s : State) (i : ℕ) : Type 0 where
+  pub there : i < L .rows
+  pub more : s .finished i < L .steps i
+  pub ready : released L s i ≤ s .clock
+  pub allowed : isAllowed L s i ≡ true
+  pub in-time : wouldEnd L s i ≤ lastMoment
+  pub plan : passes L s i ≡ true
+
+pub isCandidate-true : (L : View) (s : State) (i : ℕ) → i < L .rows → isCandidate L s i ≡ true → passes L s i ≡ true
+    → CanStart L s i
+unfolding isCandidate
+isCandidate-true L s i l h p =
+    record {
+      there = l;
+      more = ltb-true (s .finished i) (L .steps i) (and-left a b (and-left (a && b) c (and-left (a && b && c) d h)));
+      ready = leb-true (released L s i) (s .clock) (and-right a b (and-left (a && b) c (and-left (a && b && c) d h)));
+      allowed = and-right (a && b) c (and-left (a && b && c) d h);
+      in-time = leb-true (wouldEnd L s i) lastMoment (and-right (a && b && c) d h);
+      plan = p;
+    }
+  where
+    a : Bool
+    a = ltb (s .finished i) (L .steps i)
+
+    b : Bool
+    b = isReady L s i
+
+    c : Bool
+    c = isAllowed L s i
+
+    d : Bool
+    d = leb (wouldEnd L s i) lastMoment
+
+pub canStart-isCandidate : (L : View) (s : State) (i : ℕ) → CanStart L s i → isCandidate L s i ≡ true
+unfolding isCandidate
+canStart-isCandidate L s i c =
+    rw (
+      lt-ltb (s .finished i) (L .steps i) (c .more),
+      le-leb (released L s i) (s .clock) (c .ready),
+      c .allowed,
+      le-leb (wouldEnd L s i) lastMoment (c .in-time),
+    )
+
+-- the ways of a move
+pub data Turn (L : View) (s : State) : Type 0 where
+  starts : (i : ℕ) → CanStart L s i → move L s ≡ handedBack L (startedFull L s i) (Start (nextSlot s i)) → Turn L s
+  idles : ((i : ℕ) → CanStart L s i → ⊥) → move L s ≡ handedBack L (ticked s) Idle → Turn L s
+
+move-shaped : (L : View) (s : State) → shaped L s ≡ true → move L s ≡ shapedMove L s
+unfolding move
+move-shaped L s h = rw (h, move)
+
+pub move-done : (L : View) (s : State) → shaped L s ≡ true → allFinished L s ≡ true → move L s ≡ handedBack L s Done
+unfolding shapedMove
+move-done L s h d = move-shaped L s h ∙ rw (d, shapedMove)
+
+pub chosen-at : (L : View) (s : State) (i : ℕ) → chosen L s ≡ at i → CanStart L s i
+unfolding chosen candidates
+chosen-at L s i e =
+    let f = found-at Right (passes L s) (candidates L s) i
+    (Every-sorted (byKey (s .finished)) Right (numbersWhere (isCandidate L s) (L .rows))
+    (every-numbersWhere Right (isCandidate L s) (L .rows) (λ k l q. (l, q)))) e in
+    isCandidate-true L s i (f .0 .0) (f .0 .1) (f .1)
+  where
+    Right : ℕ → Type 0
+    Right k = (k < L .rows) × (isCandidate L s k ≡ true)
+
+chosen-none : (L : View) (s : State) → chosen L s ≡ none → (i : ℕ) → CanStart L s i → ⊥
+unfolding chosen candidates
+chosen-none L s e i c =
+    true-false (passes L s i) (c .plan)
+    (numbersWhere-every (λ k. passes L s k ≡ false) (isCandidate L s) (L .rows)
+    (sorted-every (λ k. passes L s k ≡ false) (byKey (s .finished)) (numbersWhere (isCandidate L s) (L .rows))
+    (found-none (passes L s) (candidates L s) e)) i (c .there) (canStart-isCandidate L s i c))
+
+pub move-goes : (L : View) (s : State) → shaped L s ≡ true → allFinished L s ≡ false → s .clock < lastMoment
+    → move L s ≡ startOrIdle L s (chosen L s)
+unfolding shapedMove
+move-goes L s h d l = move-shaped L s h ∙ rw (d, shapedMove) (rw (lt-leb lastMoment (s .clock) l))
+
+pub move-turn : (L : View) (s : State) → shaped L s ≡ true → allFinished L s ≡ false → s .clock < lastMoment → Turn L s
+move-turn L s h d l = go (chosen L s) refl
+  where
+    goes : move L s ≡ startOrIdle L s (chosen L s)
+    goes = move-goes L s h d l
+
+    go : (f : Found) → chosen L s ≡ f → Turn L s
+    go (at i) e = starts i (chosen-at L s i e) (goes ∙ ap (startOrIdle L s) e)
+    go none e = idles (chosen-none L s e) (goes ∙ ap (startOrIdle L s) e)

@@ -1,0 +1,164 @@
+-- What every start and tick keeps of a bench state: with it a state has the load's shape, so that no move from fresh on
+-- is refused for it.
+use Prim.Native.Nat.{ℕ, suc, _+_, _≤_, _<_}
+use mathlib.Core.Bool.{Bool, true, false}
+use mathlib.Core.Logic.{_≢_}
+use mathlib.Core.Path.{_≡_, refl, ap, sym, _∙_}
+use native.Mathlib.Decide.{ℕ-discrete}
+use native.Mathlib.Omega.{arith}
+use Rattle.load.specs.Load.{lastMoment}
+use Rattle.load.specs.View.{View, embedded}
+use Rattle.rules.specs.State.{State, fresh, isOpen, opensAt}
+use Rattle.rules.specs.Shape.{HasOpen, Unused, Shape}
+use Rattle.rules.specs.Move.{started, ticked, openingAfter}
+use Rattle.rules.proofs.invariant.Good.{Good}
+use Rattle.rules.proofs.moves.WindowsOpen.{opensAt-embedded}
+use Rattle.rules.proofs.moves.ShapeExact.{hasOpen-isOpen, isOpen-hasOpen}
+use Rattle.rules.proofs.moves.MoveLaws.{
+  started-clock,
+  started-finished-same,
+  started-finished-other,
+  started-end-same,
+  started-end-other,
+  started-opening-same,
+  started-opening-other,
+  openingAfter-kept,
+  openingAfter-new,
+  openingAfter-none,
+}
+
+-- what a run keeps of its shape, whatever the clock: no row past the last holds anything
+pub record RowsShaped (L : View) (s : State) : Type 0 where
+  pub finished-le : (i : ℕ) → i < L .rows → s .finished i ≤ L .steps i
+  pub end-le : (i : ℕ) → i < L .rows → s .end i ≤ s .clock
+  pub end-zero : (i : ℕ) → i < L .rows → s .finished i ≡ 0 → s .end i ≡ 0
+  pub opening-le : (i : ℕ) → i < L .rows → embedded L i (s .finished i) ≡ true → s .opening i ≤ s .end i
+  pub opening-zero : (i : ℕ) → i < L .rows → embedded L i (s .finished i) ≡ false → s .opening i ≡ 0
+  pub unused : (i : ℕ) → L .rows ≤ i → Unused s i
+
+-- with a clock that goes no further than 1,000,000 it is the shape
+module _ (L : View) (s : State) (h : RowsShaped L s) where
+  closed : (i : ℕ) → i < L .rows → ¬ HasOpen L s i → s .opening i ≡ 0
+  closed i l none = go (isOpen L s i) refl
+    where
+      go : (b : Bool) → isOpen L s i ≡ b → s .opening i ≡ 0
+      go true e = absurd (none (isOpen-hasOpen L s i e))
+      go false e = h .opening-zero i l (sym (opensAt-embedded L i (s .finished i)) ∙ e)
+
+  pub rows-shape : s .clock ≤ lastMoment → Shape L s
+  rows-shape c =
+      record {
+        clock-most = c;
+        finished-most = h .finished-le;
+        end-most = h .end-le;
+        end-none = h .end-zero;
+        opening-most = λ i l o.
+            h .opening-le i l (sym (opensAt-embedded L i (s .finished i)) ∙ hasOpen-isOpen L s i o);
+        opening-none = closed;
+        unused = λ i l most. h .unused i l;
+      }
+
+pub fresh-shape : (L : View) → Good L → RowsShaped L fresh
+unfolding fresh
+fresh-shape L g =
+    record {
+      finished-le = λ i l. omega arith;
+      end-le = λ i l. omega arith;
+      end-zero = λ i l e. refl;
+      opening-le = λ i l e. omega arith;
+      opening-zero = λ i l e. refl;
+      unused = λ i l. record { no-steps = refl; no-end = refl; no-opening = refl };
+    }
+
+pub ticked-keeps-shape : (L : View) (s : State) → RowsShaped L s → RowsShaped L (ticked s)
+unfolding ticked
+ticked-keeps-shape L s h =
+    record {
+      finished-le = h .finished-le;
+      end-le = λ i l. omega (arith, h .end-le i l);
+      end-zero = h .end-zero;
+      opening-le = h .opening-le;
+      opening-zero = h .opening-zero;
+      unused = λ i l.
+          (let u = h .unused i l in
+          record { no-steps = u .no-steps; no-end = u .no-end; no-opening = u .no-opening });
+    }
+
+module _ (L : View) (s : State) (k long : ℕ) (g : Good L) (h : RowsShaped L s) (there : k < L .rows)
+    (more : s .finished k < L .steps k) where
+  own-opening-le : embedded L k (suc (s .finished k)) ≡ true → openingAfter L s k ≤ s .clock + long
+  own-opening-le e = go (isOpen L s k) refl
+    where
+      opened : opensAt L k (suc (s .finished k)) ≡ true
+      opened = opensAt-embedded L k (suc (s .finished k)) ∙ e
+
+      go : (b : Bool) → isOpen L s k ≡ b → openingAfter L s k ≤ s .clock + long
+      go true o =
+          omega (
+            arith,
+            openingAfter-kept L s k o opened,
+            h .opening-le k there (sym (opensAt-embedded L k (s .finished k)) ∙ o),
+            h .end-le k there,
+          )
+      go false o = omega (arith, openingAfter-new L s k o opened)
+
+  pub started-keeps-shape : RowsShaped L (started L s k long)
+  started-keeps-shape =
+      record {
+        finished-le = λ i l. elim (ℕ-discrete i k) [
+          | yes e ↦ rw e (omega (arith, started-finished-same L s k long))
+          | no e ↦ omega (arith, started-finished-other L s k long i e, h .finished-le i l)
+        ];
+        end-le = λ i l. elim (ℕ-discrete i k) [
+          | yes e ↦ rw e (omega (arith, started-end-same L s k long, started-clock L s k long))
+          | no e ↦ omega (arith, started-end-other L s k long i e, started-clock L s k long, h .end-le i l)
+        ];
+        end-zero = λ i l z. elim (ℕ-discrete i k) [
+          | yes e ↦ absurd (omega (arith, started-finished-same L s k long, ap (started L s k long .finished) e))
+          | no e ↦
+              started-end-other L s k long i e ∙ h .end-zero i l (sym (started-finished-other L s k long i e) ∙ z)
+        ];
+        opening-le = λ i l z. elim (ℕ-discrete i k) [
+          | yes e ↦ rw e (own z e)
+          | no e ↦
+              omega (
+                arith,
+                started-opening-other L s k long i e,
+                started-end-other L s k long i e,
+                h .opening-le i l (sym (ap (embedded L i) (started-finished-other L s k long i e)) ∙ z),
+              )
+        ];
+        opening-zero = λ i l z. elim (ℕ-discrete i k) [
+          | yes e ↦ rw e (own-zero z e)
+          | no e ↦
+              started-opening-other L s k long i e
+              ∙ h .opening-zero i l (sym (ap (embedded L i) (started-finished-other L s k long i e)) ∙ z)
+        ];
+        unused = λ i l.
+            (let ne : i ≢ k = λ e. omega arith in
+            let u = h .unused i l in
+            record {
+              no-steps = started-finished-other L s k long i ne ∙ u .no-steps;
+              no-end = started-end-other L s k long i ne ∙ u .no-end;
+              no-opening = started-opening-other L s k long i ne ∙ u .no-opening;
+            });
+      }
+    where
+      s′ : State
+      s′ = started L s k long
+
+      own : {i : ℕ} → embedded L i (s′ .finished i) ≡ true → i ≡ k → s′ .opening k ≤ s′ .end k
+      own z e =
+          omega (
+            arith,
+            started-opening-same L s k long,
+            started-end-same L s k long,
+            own-opening-le (sym (ap (embedded L k) (started-finished-same L s k long)) ∙ rw e at z),
+          )
+
+      own-zero : {i : ℕ} → embedded L i (s′ .finished i) ≡ false → i ≡ k → s′ .opening k ≡ 0
+      own-zero z e =
+          started-opening-same L s k long
+          ∙ openingAfter-none L s k
+          (opensAt-embedded L k (suc (s .finished k))
+          ∙ (sym (ap (embedded L k) (started-finished-same L s k long)) ∙ rw e at z))

@@ -1,0 +1,107 @@
+-- The starts from a state on, by the move that comes next; and a stretch of ticks at which nothing is chosen: it is
+-- that many Idle moves, so the starts go on from the later clock, and the invariant holds there.
+use Prim.Native.Nat.{ℕ, zero, suc, _+_, _<_}
+use mathlib.Core.Bool.{true, false}
+use mathlib.Core.List.{[], _∷_}
+use mathlib.Core.Path.{_≡_, refl, ap, sym, _∙_, subst}
+use native.Mathlib.Omega.{arith}
+use Rattle.counting.specs.Searches.{at, none}
+use Rattle.load.specs.View.{View}
+use Rattle.rules.specs.declared.Outcome.the-variants.{Start, Idle, Done}
+use Rattle.rules.specs.State.{State}
+use Rattle.rules.specs.Move.{
+  Moved,
+  startedFull,
+  ticked,
+  allFinished,
+  chosen,
+  nextSlot,
+  handedBack,
+  startOrIdle,
+  move,
+}
+use Rattle.rules.specs.Run.{starts}
+use Rattle.rules.proofs.invariant.Good.{Good}
+use Rattle.rules.proofs.moves.MoveLaws.{move-goes}
+use Rattle.rules.proofs.invariant.ClockBound.{tightBound-fits}
+use Rattle.rules.proofs.invariant.MoveKeeps.{Kept, kept-done, kept-early, kept-shaped, move-kept}
+use Rattle.rules.proofs.run.RunLaws.{starts-move, starts-zero}
+
+-- a state so many ticks later
+abbrev pub later : State → ℕ → State
+later s k =
+    record { clock = s .clock + k; finished = s .finished; end = s .end; opening = s .opening }
+
+-- at none of so many ticks is anything chosen
+abbrev pub Quiet : View → State → ℕ → Type 0
+Quiet L s k = (d : ℕ) → d < k → chosen L (later s d) ≡ none
+
+ticked-later : (s : State) (k : ℕ) → ticked (later s k) ≡ later s (suc k)
+unfolding ticked
+ticked-later s k =
+    let e : s .clock + k + 1 ≡ s .clock + suc k = omega arith in
+    ap (λ t. record { clock = t; finished = s .finished; end = s .end; opening = s .opening }) e
+
+pub later-none : (s : State) → later s 0 ≡ s
+later-none s =
+    let e : s .clock + 0 ≡ s .clock = omega arith in
+    ap (λ t. record { clock = t; finished = s .finished; end = s .end; opening = s .opening }) e
+
+finished-later : (L : View) (s : State) (k : ℕ) → allFinished L (later s k) ≡ allFinished L s
+unfolding allFinished
+finished-later L s k = refl
+
+module _ (L : View) (g : Good L) where
+  -- after Done there are no more
+  pub starts-done : (n : ℕ) (s : State) → Kept L s → allFinished L s ≡ true → starts L n s ≡ []
+  starts-done zero s v d = starts-zero L g s
+  starts-done (suc n) s v d = starts-move L n s (handedBack L s Done) (kept-done L s g v d)
+
+  module _ (s : State) (v : Kept L s) (nd : allFinished L s ≡ false) where
+    goes : move L s ≡ startOrIdle L s (chosen L s)
+    goes = move-goes L s (kept-shaped L s g v) nd (omega (arith, kept-early L s g v nd, tightBound-fits L g))
+
+    -- the row that is chosen starts
+    module _ (i : ℕ) (e : chosen L s ≡ at i) where
+      start-move : move L s ≡ handedBack L (startedFull L s i) (Start (nextSlot s i))
+      start-move = goes ∙ ap (startOrIdle L s) e
+
+      pub starts-start : (n : ℕ) → starts L (suc n) s ≡ nextSlot s i ∷ starts L n (startedFull L s i)
+      starts-start n = starts-move L n s (handedBack L (startedFull L s i) (Start (nextSlot s i))) start-move
+
+      pub chosen-kept : Kept L (startedFull L s i)
+      chosen-kept = subst (λ (m : Moved). Kept L (m .then)) start-move (move-kept L s g v)
+
+    -- where nothing is chosen, the clock moves one tick
+    module _ (e : chosen L s ≡ none) where
+      idle-move : move L s ≡ handedBack L (ticked s) Idle
+      idle-move = goes ∙ ap (startOrIdle L s) e
+
+      starts-idle : (n : ℕ) → starts L (suc n) s ≡ starts L n (ticked s)
+      starts-idle n = starts-move L n s (handedBack L (ticked s) Idle) idle-move
+
+      ticked-kept : Kept L (ticked s)
+      ticked-kept = subst (λ (m : Moved). Kept L (m .then)) idle-move (move-kept L s g v)
+
+  module _ (s : State) (v : Kept L s) (nd : allFinished L s ≡ false) where
+    still : (k : ℕ) → allFinished L (later s k) ≡ false
+    still k = finished-later L s k ∙ nd
+
+    pub quiet-kept : (k : ℕ) → Quiet L s k → Kept L (later s k)
+    quiet-kept zero q = subst (Kept L) (sym (later-none s)) v
+    quiet-kept (suc k) q =
+        subst (Kept L) (ticked-later s k)
+        (ticked-kept (later s k) (quiet-kept k (λ d l. q d (omega arith))) (still k) (q k (omega arith)))
+
+    -- a stretch of ticks at which nothing is chosen is that many Idle moves
+    pub quiet-starts : (k n : ℕ) → Quiet L s k → starts L (n + k) s ≡ starts L n (later s k)
+    quiet-starts zero n q =
+        let e : n + 0 ≡ n = omega arith in
+        ap (λ m. starts L m s) e ∙ ap (starts L n) (sym (later-none s))
+    quiet-starts (suc k) n q =
+        let e : n + suc k ≡ suc n + k = omega arith in
+        let before : Quiet L s k = λ d l. q d (omega arith) in
+        ap (λ m. starts L m s) e
+        ∙ (quiet-starts k (suc n) before
+        ∙ (starts-idle (later s k) (quiet-kept k before) (still k) (q k (omega arith)) n
+        ∙ ap (starts L n) (ticked-later s k)))

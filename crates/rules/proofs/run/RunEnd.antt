@@ -1,0 +1,80 @@
+-- The end of the last slot is the clock at Done: only a start or an idle tick moves the clock, and no tick comes after
+-- the last start.
+use Prim.Native.Nat.{ℕ, zero, suc, _≤_}
+use mathlib.Core.Bool.{Bool, true, false}
+use mathlib.Core.List.{List, [], _∷_, _++_, append-nil}
+use mathlib.Core.Path.{_≡_, refl, ap, sym, _∙_}
+use native.Mathlib.Omega.{arith}
+use Rattle.counting.proofs.tests.TestLaws.{true-false}
+use Rattle.load.specs.View.{View}
+use Rattle.rules.specs.declared.Slot.{Slot}
+use Rattle.rules.specs.Bound.{bound}
+use Rattle.rules.specs.State.{State, fresh}
+use Rattle.rules.specs.Outcomes.{toldBy}
+use Rattle.rules.specs.Move.{startedFull, ticked, allFinished, nextSlot, move}
+use Rattle.rules.specs.Run.{stateAfter, starts, schedule}
+use Rattle.rules.specs.Slots.{slotEnd, lastEnd}
+use Rattle.rules.proofs.bound.TightBound.{tightBound, tightBound-le}
+use Rattle.rules.proofs.invariant.Good.{Good}
+use Rattle.rules.proofs.moves.MoveLaws.{Turn, starts as starting, idles, started-clock}
+use Rattle.rules.proofs.invariant.MoveKeeps.{Kept, fresh-kept, kept-done, kept-turn}
+use Rattle.rules.proofs.run.RunLaws.{stateAfter-next, run-kept, run-finished, run-clock, starts-next, schedule-whole}
+use Rattle.rules.proofs.slots.SlotLaws.{slotEnd-is}
+
+lastEnd-last : (L : View) (slots : List Slot) (x : Slot) → lastEnd L (slots ++ x ∷ []) ≡ slotEnd L x
+unfolding lastEnd
+lastEnd-last L [] x = refl
+lastEnd-last L (a ∷ []) x = refl
+lastEnd-last L (a ∷ b ∷ rest) x = lastEnd-last L (b ∷ rest) x
+
+lastEnd-none : (L : View) → lastEnd L [] ≡ 0
+unfolding lastEnd
+lastEnd-none L = refl
+
+ticked-finished : (L : View) (s : State) → allFinished L (ticked s) ≡ allFinished L s
+unfolding allFinished ticked
+ticked-finished L s = refl
+
+-- the last slot ends at the clock, once all is finished
+abbrev EndsNow : View → State → List Slot → Type 0
+EndsNow L s slots = allFinished L s ≡ true → lastEnd L slots ≡ s .clock
+
+module _ (L : View) (g : Good L) where
+  move-ends : (s : State) (slots : List Slot) → Kept L s → EndsNow L s slots
+      → EndsNow L (move L s .then) (slots ++ toldBy (move L s .outcome) .starts)
+  move-ends s slots v h = go (allFinished L s) refl
+    where
+      start-ends : (i : ℕ) → lastEnd L (slots ++ nextSlot s i ∷ []) ≡ startedFull L s i .clock
+      start-ends i =
+          lastEnd-last L slots (nextSlot s i)
+          ∙ (slotEnd-is L i (s .finished i) (nextSlot s i) (record { its-row = refl; its-step = refl })
+          ∙ sym (started-clock L s i (L .cost i (s .finished i))))
+
+      by : allFinished L s ≡ false → Turn L s
+          → EndsNow L (move L s .then) (slots ++ toldBy (move L s .outcome) .starts)
+      by d (starting i c e) = rw e (λ _. start-ends i)
+      by d (idles none e) =
+          rw e (λ q. absurd (true-false (allFinished L s) (sym (ticked-finished L s) ∙ q) d))
+
+      go : (b : Bool) → allFinished L s ≡ b
+          → EndsNow L (move L s .then) (slots ++ toldBy (move L s .outcome) .starts)
+      go true d = rw (kept-done L s g v d) (rw (append-nil slots) h)
+      go false d = by d (kept-turn L s g v d)
+
+  fresh-ends : EndsNow L (stateAfter L 0 fresh) (starts L 0 fresh)
+  unfolding starts stateAfter fresh
+  fresh-ends _ = lastEnd-none L
+
+  pub run-ends-now : (n : ℕ) → EndsNow L (stateAfter L n fresh) (starts L n fresh)
+  run-ends-now zero = fresh-ends
+  run-ends-now (suc n) =
+      rw (stateAfter-next L n fresh, starts-next L g n fresh (fresh-kept L g))
+      (move-ends (stateAfter L n fresh) (starts L n fresh) (run-kept L g n) (run-ends-now n))
+
+  -- the schedule ends when the run does
+  pub schedule-ends : (n : ℕ) → tightBound L ≤ n → lastEnd L (schedule L) ≡ stateAfter L n fresh .clock
+  schedule-ends n h = ap (lastEnd L) (schedule-whole L g n h) ∙ run-ends-now n (run-finished L g n h)
+
+  pub lastEnd-le : lastEnd L (schedule L) ≤ bound L
+  lastEnd-le =
+      omega (arith, schedule-ends (tightBound L) (omega arith), run-clock L g (tightBound L), tightBound-le L)
