@@ -2,11 +2,5 @@
 pub mod Held
 pub mod Runs
 pub mod Calls
-pub mod Updates
-pub mod Alike
-pub mod Boards
-pub mod Stacks
-pub mod Choices
-pub mod Moves
-pub mod Running
+pub mod inner
 pub mod WorkedBench

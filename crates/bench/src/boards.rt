@@ -14,7 +14,7 @@ ghost use Rattle.load.specs.Check.{checkLoad};
 ghost use Rattle.load.specs.View.{viewOf};
 ghost use Rattle.rules.specs.State.{shaped};
 ghost use Rattle.bench.specs.Held.{stateOf};
-ghost use Rattle.bench.specs.Boards.{boardWith, Wide, Shows};
+ghost use Rattle.bench.specs.inner.Boards.{boardWith, Wide, Shows};
 
 impl Board {
     // Puts what was looked up of a row in the row's places.

@@ -25,10 +25,10 @@ ghost use Rattle.load.specs.View.{viewOf};
 ghost use Rattle.rules.specs.State.{shaped};
 ghost use Rattle.rules.specs.Move.{move};
 ghost use Rattle.bench.specs.Held.{stateOf, handedOn, refusedWith};
-ghost use Rattle.bench.specs.Boards.{lookIn};
-ghost use Rattle.bench.specs.Stacks.{number};
-ghost use Rattle.bench.specs.Choices.{BoardFits};
-ghost use Rattle.bench.specs.Moves.{finishedIn, handedWith, startedIn, Stepped};
+ghost use Rattle.bench.specs.inner.Boards.{lookIn};
+ghost use Rattle.bench.specs.inner.Stacks.{number};
+ghost use Rattle.bench.specs.inner.Choices.{BoardFits};
+ghost use Rattle.bench.specs.inner.Moves.{finishedIn, handedWith, startedIn, Stepped};
 ghost use Rattle.bench.specs.Calls.{NextMove};
 
 // Says whether all steps are finished.

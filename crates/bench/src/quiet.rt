@@ -8,8 +8,8 @@ ghost use mathlib.Core.Bool.{_&&_, _||_, cond, not};
 ghost use Prim.Native.Nat.{min, _<_};
 ghost use lib.Dec.{leb, ltb};
 ghost use Rattle.load.specs.Load.{lastMoment};
-ghost use Rattle.bench.specs.Choices.{BoardFits};
-ghost use Rattle.bench.specs.Running.{QuietTo, crowdedIn};
+ghost use Rattle.bench.specs.inner.Choices.{BoardFits};
+ghost use Rattle.bench.specs.inner.Running.{QuietTo, crowdedIn};
 
 // Gives what is left of a row's open window where it is due before a moment, else 0.
 fn work_of(held: bool, due: u32, left: u32, moment: u32) -> u32

@@ -25,10 +25,10 @@ ghost use Rattle.refusals.specs.declared.Checked.the-variants.{Good, Refused};
 ghost use Rattle.load.specs.Check.{checkLoad};
 ghost use Rattle.load.specs.View.{viewOf};
 ghost use Rattle.rules.specs.Run.{schedule};
-ghost use Rattle.bench.specs.Alike.{Fitting, Modest};
-ghost use Rattle.bench.specs.Choices.{BoardFits, candidateIn};
+ghost use Rattle.bench.specs.inner.Alike.{Fitting, Modest};
+ghost use Rattle.bench.specs.inner.Choices.{BoardFits, candidateIn};
 ghost use Rattle.bench.specs.Runs.{ranWith};
-ghost use Rattle.bench.specs.Running.{lookAfter};
+ghost use Rattle.bench.specs.inner.Running.{lookAfter};
 ghost use Rattle.bench.specs.Calls.{Runs};
 
 // Looks row i up as it will be once its next step, a candidate started at the clock, is over.

@@ -9,7 +9,7 @@ ghost use Prim.Native.Nat.{ℕ, _+_, min, _≤_, _<_};
 ghost use lib.Dec.{leb, ltb};
 ghost use Rattle.counting.specs.Sums.{allTo};
 ghost use Rattle.load.specs.Load.{lastMoment};
-ghost use Rattle.bench.specs.Choices.{
+ghost use Rattle.bench.specs.inner.Choices.{
   belowIn,
   openingBy,
   passesIn,

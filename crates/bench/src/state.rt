@@ -5,7 +5,7 @@ ghost use mathlib.Core.Path.{_≡_};
 ghost use Prim.Native.Nat.{_+_, _≤_, _<_};
 ghost use lib.ListN.{getD};
 ghost use Rattle.load.specs.Load.{lastMoment};
-ghost use Rattle.bench.specs.Updates.{benchStarted, benchTicked};
+ghost use Rattle.bench.specs.inner.Updates.{benchStarted, benchTicked};
 ghost use Rattle.bench.specs.Calls.{Fresh};
 
 // Gives the fresh bench, which is all zero.

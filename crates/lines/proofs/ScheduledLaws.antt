@@ -20,7 +20,7 @@ use Rattle.rules.proofs.invariant.GoodLaws.{acceptable-good}
 use Rattle.rules.proofs.run.RunMade.{schedule-is-whole}
 use Rattle.rules.proofs.slots.WholeLaws.{Whole, names}
 use Rattle.bound.proofs.AcceptedLaws.{accepted-few}
-use Rattle.lines.specs.Parts.{Scheduled}
+use Rattle.lines.specs.inner.Parts.{Scheduled}
 
 lastEnd-last : (L : View) (slots : List Slot) (slot : Slot) → lastEnd L (slots ++ slot ∷ []) ≡ slotEnd L slot
 unfolding lastEnd

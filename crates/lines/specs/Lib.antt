@@ -1,4 +1,4 @@
 -- What the program prints for a load file.
 pub mod Lines
 pub mod Calls
-pub mod Parts
+pub mod inner

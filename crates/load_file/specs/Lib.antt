@@ -5,6 +5,6 @@ pub mod Places
 pub mod Reading
 pub mod RoundTrip
 pub mod Calls
-pub mod ReadingSteps
+pub mod inner
 pub mod WorkedFile
 pub mod WorkedCases

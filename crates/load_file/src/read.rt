@@ -30,7 +30,7 @@ ghost use Rattle.load_file.specs.Records.{windowKind};
 ghost use Rattle.load_file.specs.Places.{stepPlace, rowsSaid, loadIn};
 ghost use Rattle.load_file.specs.Reading.{headerTests, endTests};
 ghost use Rattle.load_file.specs.Calls.{ReadLoad};
-ghost use Rattle.load_file.specs.ReadingSteps.{readRows};
+ghost use Rattle.load_file.specs.inner.ReadingSteps.{readRows};
 
 // Checks the header: 1, 2 for its mark and its version, 3 for its row count.
 fn check_header(bytes: &[u8]) -> Checked

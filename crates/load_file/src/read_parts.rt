@@ -28,7 +28,7 @@ ghost use Rattle.load_file.specs.Places.{
   rowWith,
 };
 ghost use Rattle.load_file.specs.Reading.{dueTests};
-ghost use Rattle.load_file.specs.ReadingSteps.{kindOf, stepsFrom, windowsFrom};
+ghost use Rattle.load_file.specs.inner.ReadingSteps.{kindOf, stepsFrom, windowsFrom};
 
 // Checks a record that is due at a place: that the file holds it whole, and then its mark.
 pub fn check_due(bytes: &[u8], at: usize, mark: [u8; 2], size: usize) -> Checked

@@ -25,7 +25,7 @@ ghost use Rattle.load.specs.Faults.{stepTests, windowTests};
 ghost use Rattle.load_file.specs.Records.{stepKind, windowKind};
 ghost use Rattle.load_file.specs.Places.{rowFrom};
 ghost use Rattle.load_file.specs.Reading.{dueTests, ownFault, stepsFault, windowsFault};
-ghost use Rattle.load_file.specs.ReadingSteps.{RowsBefore, readRow};
+ghost use Rattle.load_file.specs.inner.ReadingSteps.{RowsBefore, readRow};
 
 // What reading a row gives: the refusal that comes first, or Good and the row. A refused row is the
 // row of zeros.

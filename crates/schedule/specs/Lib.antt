@@ -3,6 +3,4 @@ pub mod ScheduleFile
 pub mod Calls
 pub mod WorkedCases
 pub mod CheckExactly
-pub mod Seen
-pub mod SeenFold
-pub mod Gathered
+pub mod inner

@@ -10,8 +10,8 @@ ghost use mathlib.Core.Path.{_≡_};
 ghost use Prim.Native.Nat.{_-_, _≤_, min};
 ghost use Rattle.load.specs.Load.{rowAt};
 ghost use Rattle.load.specs.View.{viewOf, stepsInAll};
-ghost use Rattle.schedule.specs.Seen.{begun, counted};
-ghost use Rattle.schedule.specs.SeenFold.{withFound};
+ghost use Rattle.schedule.specs.inner.Seen.{begun, counted};
+ghost use Rattle.schedule.specs.inner.SeenFold.{withFound};
 ghost use Rattle.rules.specs.Slots.{places};
 
 // Gives the number of steps of the row at a place, and past the last place 0.

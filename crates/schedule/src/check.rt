@@ -14,7 +14,7 @@ ghost use mathlib.Core.Path.{_≡_};
 ghost use Prim.Native.Nat.{_<_};
 ghost use lib.ListN.{length, getD};
 ghost use Rattle.rules.specs.Slots.{noSlot};
-ghost use Rattle.schedule.specs.SeenFold.{seenOf};
+ghost use Rattle.schedule.specs.inner.SeenFold.{seenOf};
 ghost use Rattle.schedule.specs.Calls.{CheckSchedule, CheckArray};
 
 // Takes the slot at a place apart, and checks it.

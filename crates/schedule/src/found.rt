@@ -17,9 +17,9 @@ ghost use lib.Dec.{eqb, ltb};
 ghost use Prim.Native.Nat.{_≤_, _<_};
 ghost use Rattle.counting.specs.Sums.{anyTo};
 ghost use Rattle.refusals.specs.FirstMet.{firstMet};
-ghost use Rattle.schedule.specs.Seen.{startAt, releasedAt, endAt, lateWindow};
-ghost use Rattle.schedule.specs.Seen.{stepTests, foundAt};
-ghost use Rattle.schedule.specs.SeenFold.{advanced, nextSlot, stepSlot};
+ghost use Rattle.schedule.specs.inner.Seen.{startAt, releasedAt, endAt, lateWindow};
+ghost use Rattle.schedule.specs.inner.Seen.{stepTests, foundAt};
+ghost use Rattle.schedule.specs.inner.SeenFold.{advanced, nextSlot, stepSlot};
 
 // Gives the start at a place of the table, and past the last place 0.
 fn start_of(starts: [u32; 192], place: usize) -> u64

@@ -21,7 +21,7 @@ ghost use Rattle.refusals.specs.FirstMet.{firstMet};
 ghost use Rattle.refusals.specs.Given.{Given};
 ghost use Rattle.rules.specs.Slots.{noSlot};
 ghost use Rattle.schedule.specs.ScheduleFile.{mostSlots};
-ghost use Rattle.schedule.specs.Gathered.{headed, withSlot, gatheredOf};
+ghost use Rattle.schedule.specs.inner.Gathered.{headed, withSlot, gatheredOf};
 ghost use Rattle.schedule.specs.Calls.{WriteSchedule, WriteArray};
 
 // A schedule has at most 192 slots.

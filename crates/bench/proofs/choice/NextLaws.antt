@@ -41,11 +41,11 @@ use Rattle.bench.specs.declared.Bench.{Bench}
 use Rattle.bench.specs.declared.Board.{Board}
 use Rattle.bench.specs.declared.Moved.{Moved}
 use Rattle.bench.specs.Held.{stateOf, benchOf, handedOn, refusedWith, nextMove}
-use Rattle.bench.specs.Updates.{benchStarted, benchTicked}
-use Rattle.bench.specs.Boards.{lookIn, Shows}
-use Rattle.bench.specs.Stacks.{test}
-use Rattle.bench.specs.Choices.{openingIn, heldAfter}
-use Rattle.bench.specs.Moves.{finishedIn, handedWith, startedIn, Stepped}
+use Rattle.bench.specs.inner.Updates.{benchStarted, benchTicked}
+use Rattle.bench.specs.inner.Boards.{lookIn, Shows}
+use Rattle.bench.specs.inner.Stacks.{test}
+use Rattle.bench.specs.inner.Choices.{openingIn, heldAfter}
+use Rattle.bench.specs.inner.Moves.{finishedIn, handedWith, startedIn, Stepped}
 use Rattle.bench.proofs.shown.HeldLaws.{Sized, benchOf-stateOf, benchTicked-is, benchStarted-is}
 use Rattle.bench.proofs.choice.JoinLaws.{rows-are, finished-same, steps-same, cost-same, held-same}
 use Rattle.bench.proofs.choice.ChoiceLaws.{stored, stays-after, opening-after, chosen-row, chosen-nothing}

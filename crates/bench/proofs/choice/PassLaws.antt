@@ -11,9 +11,9 @@ use lib.Seq.{getD-set-same, getD-set-other}
 use Rattle.load.specs.Load.{lastMoment}
 use Rattle.bench.specs.declared.Look.{Look}
 use Rattle.bench.specs.declared.Board.{Board}
-use Rattle.bench.specs.Boards.{lookIn}
-use Rattle.bench.specs.Stacks.{number, PlanFits}
-use Rattle.bench.specs.Choices.{openingBy, BoardFits}
+use Rattle.bench.specs.inner.Boards.{lookIn}
+use Rattle.bench.specs.inner.Stacks.{number, PlanFits}
+use Rattle.bench.specs.inner.Choices.{openingBy, BoardFits}
 
 pub openingBy-le : (stays held : Bool) (opening clock : ℕ) → opening ≤ lastMoment → clock ≤ lastMoment
     → openingBy stays held opening clock ≤ lastMoment

@@ -12,8 +12,8 @@ use Rattle.counting.proofs.tests.TestLaws.{and-left, and-right, allTo-true, tru
 use Rattle.load.specs.Load.{lastMoment}
 use Rattle.bench.specs.declared.Look.{Look}
 use Rattle.bench.specs.declared.Board.{Board}
-use Rattle.bench.specs.Boards.{lookIn}
-use Rattle.bench.specs.Choices.{belowIn, candidateBy, candidateIn, passesIn, BoardFits, ChosenIn}
+use Rattle.bench.specs.inner.Boards.{lookIn}
+use Rattle.bench.specs.inner.Choices.{belowIn, candidateBy, candidateIn, passesIn, BoardFits, ChosenIn}
 
 -- a row that has finished all its steps lowers nothing
 pub lower-finished : (j lowest finished steps : ℕ) → steps ≤ finished

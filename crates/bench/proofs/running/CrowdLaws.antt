@@ -16,14 +16,22 @@ use Rattle.counting.specs.Lists.{numbersWhere}
 use Rattle.counting.specs.Sorting.{sorted, byKey}
 use Rattle.counting.proofs.sums.SumLaws.{sumTo-ext}
 use Rattle.counting.proofs.tests.TestLaws.{and-left, and-right, true-false}
-use Rattle.counting.proofs.sorting.SortLaws.{totalIn, Every, InOrder, byKey-true, byKey-order, sorted-in-order, totalIn-sorted}
+use Rattle.counting.proofs.sorting.SortLaws.{
+  totalIn,
+  Every,
+  InOrder,
+  byKey-true,
+  byKey-order,
+  sorted-in-order,
+  totalIn-sorted,
+}
 use Rattle.counting.proofs.lists.NumbersLaws.{totalIn-numbersWhere, sorted-numbers-once}
 use Rattle.bench.specs.declared.Look.{Look}
 use Rattle.bench.specs.declared.Board.{Board}
-use Rattle.bench.specs.Boards.{lookIn, Wide}
-use Rattle.bench.specs.Stacks.{inTimeBy, number, test}
-use Rattle.bench.specs.Choices.{heldAfter, openingIn, passesIn}
-use Rattle.bench.specs.Running.{isSooner, workBefore, crowdedIn}
+use Rattle.bench.specs.inner.Boards.{lookIn, Wide}
+use Rattle.bench.specs.inner.Stacks.{inTimeBy, number, test}
+use Rattle.bench.specs.inner.Choices.{heldAfter, openingIn, passesIn}
+use Rattle.bench.specs.inner.Running.{isSooner, workBefore, crowdedIn}
 use Rattle.bench.proofs.choice.StackLaws.{inTimeBy-next}
 
 -- a list in order of what is due, each in time: row i is finished after all that are due before it

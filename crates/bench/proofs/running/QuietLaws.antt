@@ -9,9 +9,9 @@ use lib.Dec.{leb, ltb}
 use Rattle.counting.specs.Sums.{allTo}
 use Rattle.bench.specs.declared.Look.{Look}
 use Rattle.bench.specs.declared.Board.{Board}
-use Rattle.bench.specs.Boards.{lookIn}
-use Rattle.bench.specs.Choices.{belowIn, candidateIn, passesIn, BoardFits, ChosenIn}
-use Rattle.bench.specs.Running.{crowdedIn}
+use Rattle.bench.specs.inner.Boards.{lookIn}
+use Rattle.bench.specs.inner.Choices.{belowIn, candidateIn, passesIn, BoardFits, ChosenIn}
+use Rattle.bench.specs.inner.Running.{crowdedIn}
 use Rattle.bench.proofs.choice.SearchLaws.{candidate-more, candidate-ready, candidate-allowed}
 
 -- row j's next step is not crowded, is there and allowed, the lowest unfinished step being known

@@ -30,10 +30,10 @@ use Rattle.rules.proofs.moves.StretchLaws.{later, Quiet, starts-done, quiet-kep
 use Rattle.bench.specs.declared.Bench.{Bench}
 use Rattle.bench.specs.declared.Board.{Board}
 use Rattle.bench.specs.Held.{stateOf, benchOf}
-use Rattle.bench.specs.Boards.{Shows}
-use Rattle.bench.specs.Choices.{candidateIn, passesIn, ChosenIn}
-use Rattle.bench.specs.Moves.{finishedIn}
-use Rattle.bench.specs.Running.{QuietTo}
+use Rattle.bench.specs.inner.Boards.{Shows}
+use Rattle.bench.specs.inner.Choices.{candidateIn, passesIn, ChosenIn}
+use Rattle.bench.specs.inner.Moves.{finishedIn}
+use Rattle.bench.specs.inner.Running.{QuietTo}
 use Rattle.bench.specs.Runs.{ranWith}
 use Rattle.bench.proofs.shown.HeldLaws.{Sized}
 use Rattle.bench.proofs.choice.ChoiceLaws.{chosen-nothing}

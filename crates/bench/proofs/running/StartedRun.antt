@@ -28,11 +28,11 @@ use Rattle.bench.specs.declared.Bench.{Bench}
 use Rattle.bench.specs.declared.Look.{Look}
 use Rattle.bench.specs.declared.Board.{Board}
 use Rattle.bench.specs.Held.{stateOf}
-use Rattle.bench.specs.Alike.{Modest}
-use Rattle.bench.specs.Boards.{lookIn, boardWith}
-use Rattle.bench.specs.Choices.{ChosenIn}
-use Rattle.bench.specs.Moves.{finishedIn}
-use Rattle.bench.specs.Running.{lookAfter}
+use Rattle.bench.specs.inner.Alike.{Modest}
+use Rattle.bench.specs.inner.Boards.{lookIn, boardWith}
+use Rattle.bench.specs.inner.Choices.{ChosenIn}
+use Rattle.bench.specs.inner.Moves.{finishedIn}
+use Rattle.bench.specs.inner.Running.{lookAfter}
 use Rattle.bench.proofs.choice.SearchLaws.{candidate-more, candidate-ends}
 use Rattle.bench.proofs.choice.JoinLaws.{finished-same, steps-same, cost-same}
 use Rattle.bench.proofs.choice.ChoiceLaws.{chosen-row}

@@ -9,7 +9,7 @@ use lib.ListN.{length-set}
 use lib.Seq.{getD-set-same, getD-set-other}
 use Rattle.bench.specs.declared.Look.{Look}
 use Rattle.bench.specs.declared.Board.{Board}
-use Rattle.bench.specs.Boards.{lookIn, boardWith, Wide}
+use Rattle.bench.specs.inner.Boards.{lookIn, boardWith, Wide}
 
 module _ (board : Board) (i : ℕ) (look : Look) where
   pub boardWith-other : (k : ℕ) → k ≢ i → lookIn (boardWith board i look) k ≡ lookIn board k

@@ -15,7 +15,7 @@ use Rattle.load.specs.View.{View}
 use Rattle.rules.specs.Move.{openingAfter, started, ticked}
 use Rattle.bench.specs.declared.Bench.{Bench}
 use Rattle.bench.specs.Held.{stateOf, benchOf}
-use Rattle.bench.specs.Updates.{benchStarted, benchTicked}
+use Rattle.bench.specs.inner.Updates.{benchStarted, benchTicked}
 
 -- 24 places to a field
 pub record Sized (bench : Bench) : Type 0 where

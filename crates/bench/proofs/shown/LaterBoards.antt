@@ -21,11 +21,11 @@ use Rattle.bench.specs.declared.Bench.{Bench}
 use Rattle.bench.specs.declared.Look.{Look}
 use Rattle.bench.specs.declared.Board.{Board}
 use Rattle.bench.specs.Held.{stateOf, benchOf}
-use Rattle.bench.specs.Updates.{benchStarted}
-use Rattle.bench.specs.Alike.{viewAlike, stateAlike, lookOf, Modest}
-use Rattle.bench.specs.Boards.{lookIn, boardWith, Shows}
-use Rattle.bench.specs.Choices.{openingIn}
-use Rattle.bench.specs.Running.{lookAfter}
+use Rattle.bench.specs.inner.Updates.{benchStarted}
+use Rattle.bench.specs.inner.Alike.{viewAlike, stateAlike, lookOf, Modest}
+use Rattle.bench.specs.inner.Boards.{lookIn, boardWith, Shows}
+use Rattle.bench.specs.inner.Choices.{openingIn}
+use Rattle.bench.specs.inner.Running.{lookAfter}
 use Rattle.bench.proofs.shown.HeldLaws.{Sized}
 use Rattle.bench.proofs.shown.LookLaws.{look-of-row}
 use Rattle.bench.proofs.shown.BoardLaws.{boardWith-same, boardWith-other, boardWith-wide}

@@ -27,7 +27,7 @@ use Rattle.load.specs.Faults.{rowTests, takenTests, identifierTaken, boxTaken}
 use Rattle.load_file.specs.Records.{rowKind}
 use Rattle.load_file.specs.Places.{stepsSaid, windowsSaid, rowFrom, rowPlace, rowsSaid, loadIn, rowWith}
 use Rattle.load_file.specs.Reading.{dueTests, rowFaultAt, ownFault, stepsFault, windowsFault}
-use Rattle.load_file.specs.ReadingSteps.{RowsBefore, readRow}
+use Rattle.load_file.specs.inner.ReadingSteps.{RowsBefore, readRow}
 use Rattle.load_file.proofs.reading.CheckLaws.{fields-steps-le, fields-windows-le}
 
 -- tests, of which the first is found, and the tests behind them

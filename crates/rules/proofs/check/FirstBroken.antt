@@ -21,7 +21,17 @@ use Rattle.rules.specs.FirstBroken.{Rule, thirteen, refusalFor, Breaks, 
 use Rattle.rules.proofs.slots.SlotLaws.{ofRow}
 use Rattle.rules.proofs.slots.NextLaws.{NextTo}
 use Rattle.rules.proofs.check.BrokenTests.{asks13, met13, unmet13}
-use Rattle.rules.proofs.check.BrokenSlot.{numbered, rule-same, numbered-range, found, Kept, Way, fine, broken, way}
+use Rattle.rules.proofs.check.BrokenSlot.{
+  numbered,
+  rule-same,
+  numbered-range,
+  found,
+  Kept,
+  Way,
+  fine,
+  broken,
+  way,
+}
 
 module _ (L : View) (ok : Acceptable L) (slots : List Slot) where
   -- no slot before place n breaks a rule

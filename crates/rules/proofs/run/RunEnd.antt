@@ -18,7 +18,14 @@ use Rattle.rules.proofs.bound.TightBound.{tightBound, tightBound-le}
 use Rattle.rules.proofs.invariant.Good.{Good}
 use Rattle.rules.proofs.moves.MoveLaws.{Turn, starts as starting, idles, started-clock}
 use Rattle.rules.proofs.invariant.MoveKeeps.{Kept, fresh-kept, kept-done, kept-turn}
-use Rattle.rules.proofs.run.RunLaws.{stateAfter-next, run-kept, run-finished, run-clock, starts-next, schedule-whole}
+use Rattle.rules.proofs.run.RunLaws.{
+  stateAfter-next,
+  run-kept,
+  run-finished,
+  run-clock,
+  starts-next,
+  schedule-whole,
+}
 use Rattle.rules.proofs.slots.SlotLaws.{slotEnd-is}
 
 lastEnd-last : (L : View) (slots : List Slot) (x : Slot) → lastEnd L (slots ++ x ∷ []) ≡ slotEnd L x

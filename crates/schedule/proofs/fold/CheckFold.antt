@@ -23,8 +23,8 @@ use Rattle.rules.specs.declared.Slot.{Slot}
 use Rattle.rules.specs.Slots.{slotAt}
 use Rattle.rules.specs.Check.{checkSlots, checkSchedule}
 use Rattle.schedule.specs.declared.Seen.{Seen}
-use Rattle.schedule.specs.Seen.{counted, begun, foundAt}
-use Rattle.schedule.specs.SeenFold.{advanced, withFound, byFinding, nextSlot, stepSlot, seenOf, foldSlots}
+use Rattle.schedule.specs.inner.Seen.{counted, begun, foundAt}
+use Rattle.schedule.specs.inner.SeenFold.{advanced, withFound, byFinding, nextSlot, stepSlot, seenOf, foldSlots}
 use Rattle.schedule.proofs.fold.SeenLaws.{testsAt, Before}
 use Rattle.schedule.proofs.fold.RightLaws.{tests-right}
 use Rattle.schedule.proofs.fold.StepLaws.{tests-same}

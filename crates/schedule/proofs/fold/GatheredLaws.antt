@@ -21,7 +21,7 @@ use Rattle.refusals.specs.Given.{Given, outputAfter}
 use Rattle.rules.specs.declared.Slot.{Slot}
 use Rattle.schedule.specs.declared.Gathered.{Gathered}
 use Rattle.schedule.specs.ScheduleFile.{mostSlots, slotRecord, scheduleBytes}
-use Rattle.schedule.specs.Gathered.{headBytes, headed, withSlot, gatheredOf, gathered}
+use Rattle.schedule.specs.inner.Gathered.{headBytes, headed, withSlot, gatheredOf, gathered}
 use Rattle.schedule.specs.Calls.{WriteSchedule}
 
 -- a file of 1,540 places with these bytes at its front

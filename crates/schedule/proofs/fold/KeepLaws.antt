@@ -22,8 +22,8 @@ use Rattle.rules.specs.Slots.{slotAt, rowOf, stepOf}
 use Rattle.rules.proofs.slots.SlotLaws.{ofRow}
 use Rattle.rules.proofs.slots.NextLaws.{ofRow-lt}
 use Rattle.schedule.specs.declared.Seen.{Seen}
-use Rattle.schedule.specs.Seen.{startAt, withStart}
-use Rattle.schedule.specs.SeenFold.{advanced}
+use Rattle.schedule.specs.inner.Seen.{startAt, withStart}
+use Rattle.schedule.specs.inner.SeenFold.{advanced}
 use Rattle.schedule.proofs.fold.SeenLaws.{testsAt, Kept}
 use Rattle.schedule.proofs.fold.RightLaws.{Right}
 use Rattle.schedule.proofs.fold.StepLaws.{right}

@@ -25,7 +25,7 @@ use Rattle.rules.specs.Slots.{slotAt, rowOf, stepOf, slotEnd}
 use Rattle.rules.specs.Check.{slotTests as ruleTests}
 use Rattle.rules.proofs.slots.SlotLaws.{ofRow}
 use Rattle.schedule.specs.declared.Seen.{Seen}
-use Rattle.schedule.specs.Seen.{startAt, foundAt, slotTests}
+use Rattle.schedule.specs.inner.Seen.{startAt, foundAt, slotTests}
 
 -- a slot that is right names a row of the 24
 pub foundAt-row : (load : Load) (seen : Seen) (row step start : ℕ) → foundAt load seen row step start ≡ Good

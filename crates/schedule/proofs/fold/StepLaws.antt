@@ -34,7 +34,7 @@ use Rattle.rules.specs.Check.{slotTests as ruleTests, overlaps, notNext, starts
 use Rattle.rules.proofs.slots.SlotLaws.{ofRow}
 use Rattle.rules.proofs.slots.NextLaws.{Ranked, countTo-ranked}
 use Rattle.schedule.specs.declared.Seen.{Seen}
-use Rattle.schedule.specs.Seen.{startAt, started, releasedAt, endAt, lateWindow, stepTests, foundAt}
+use Rattle.schedule.specs.inner.Seen.{startAt, started, releasedAt, endAt, lateWindow, stepTests, foundAt}
 use Rattle.schedule.proofs.fold.RightLaws.{Right, tests-right}
 use Rattle.schedule.proofs.fold.SeenLaws.{rest-ext, names-ext, anyIn-take, endBefore, testsAt, Kept}
 

@@ -10,8 +10,8 @@ use Rattle.rules.specs.declared.Slot.{Slot}
 use Rattle.rules.specs.Slots.{slotAt}
 use Rattle.schedule.specs.declared.Seen.{Seen}
 use Rattle.schedule.specs.declared.Gathered.{Gathered}
-use Rattle.schedule.specs.SeenFold.{seenOf, foldSlots}
-use Rattle.schedule.specs.Gathered.{gatheredOf, gathered}
+use Rattle.schedule.specs.inner.SeenFold.{seenOf, foldSlots}
+use Rattle.schedule.specs.inner.Gathered.{gatheredOf, gathered}
 
 pub foldSlots-next : (load : Load) (slots : List Slot) (i : ℕ) (seen : Seen) → i < length slots
     → foldSlots load (drop i slots) seen ≡ foldSlots load (drop (suc i) slots) (seenOf load seen (slotAt slots i))

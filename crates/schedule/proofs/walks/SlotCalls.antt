@@ -25,7 +25,7 @@ use denote.Triple.Spec.{tripleOf}
 use denote.Triple.Clauses.{ensured, lasts}
 use Rattle.rules.proofs.Slot as T
 use Rattle.schedule.specs.declared.Gathered.{Gathered}
-use Rattle.schedule.specs.Gathered.{headed}
+use Rattle.schedule.specs.inner.Gathered.{headed}
 use Rattle.schedule.proofs.before.begin as begin
 use Rattle.schedule.proofs.before.finish as finish
 use Rattle.schedule.proofs.write.head as head

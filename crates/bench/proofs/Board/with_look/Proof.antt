@@ -1,6 +1,6 @@
 -- `Board::with_look` stores each number of the look in the row's place of its array.
 use borrow.Author.Needs.{needs}
-use Rattle.bench.specs.Boards.{boardWith}
+use Rattle.bench.specs.inner.Boards.{boardWith}
 use Rattle.bench.proofs.Board.with_look.Statement.{statement}
 use Rattle.bench.proofs.Board.with_look.Tie as tie
 

@@ -5,7 +5,7 @@ use mathlib.Core.Path.{_≡_, ap, sym, _∙_}
 use native.Mathlib.Omega.{arith}
 use borrow.Author.Tests.{le-leb, lt-leb}
 use Rattle.counting.proofs.tests.TestLaws.{allTo-zero, allTo-next, false-allTo}
-use Rattle.bench.specs.Moves.{finishedIn}
+use Rattle.bench.specs.inner.Moves.{finishedIn}
 use borrow.Author.Needs.{needs}
 use Rattle.bench.proofs.moves.all_finished.Statement.{statement}
 use Rattle.bench.proofs.moves.all_finished.Tie as tie

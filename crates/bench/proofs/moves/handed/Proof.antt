@@ -6,7 +6,7 @@ use Rattle.words.proofs.LampLaws.{wordOf-ones}
 use Rattle.rules.specs.declared.Outcome.{Outcome}
 use Rattle.bench.specs.declared.Bench.{Bench}
 use Rattle.bench.specs.declared.Moved.{Moved}
-use Rattle.bench.specs.Stacks.{test}
+use Rattle.bench.specs.inner.Stacks.{test}
 use borrow.Author.Needs.{needs}
 use Rattle.bench.proofs.moves.handed.Statement.{statement}
 use Rattle.bench.proofs.moves.handed.Tie as tie

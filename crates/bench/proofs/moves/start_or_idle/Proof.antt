@@ -2,8 +2,8 @@
 use mathlib.Core.Path.{_∙_}
 use native.Mathlib.Omega.{arith}
 use Rattle.counting.specs.Sums.{allTo}
-use Rattle.bench.specs.Boards.{lookIn}
-use Rattle.bench.specs.Choices.{belowIn}
+use Rattle.bench.specs.inner.Boards.{lookIn}
+use Rattle.bench.specs.inner.Choices.{belowIn}
 use Rattle.bench.proofs.choice.SearchLaws.{candidate-more}
 use borrow.Author.Needs.{needs}
 use Rattle.bench.proofs.moves.start_or_idle.Statement.{statement}

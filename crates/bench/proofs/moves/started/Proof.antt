@@ -1,7 +1,7 @@
 -- `started` puts the row as it will be in its places, and starts the step.
 use native.Mathlib.Omega.{arith}
 use mathlib.Core.Path.{_∙_}
-use Rattle.bench.specs.Moves.{startedIn}
+use Rattle.bench.specs.inner.Moves.{startedIn}
 use borrow.Author.Needs.{needs}
 use Rattle.bench.proofs.moves.started.Statement.{statement}
 use Rattle.bench.proofs.moves.started.Tie as tie

@@ -5,8 +5,8 @@ use mathlib.Core.Path.{_≡_, ap₂, sym, _∙_}
 use native.Mathlib.Omega.{arith}
 use borrow.Author.Tests.{not-true, not-false}
 use Rattle.counting.proofs.sums.SumLaws.{sumTo-zero, sumTo-next}
-use Rattle.bench.specs.Boards.{lookIn}
-use Rattle.bench.specs.Running.{isSooner, workBefore}
+use Rattle.bench.specs.inner.Boards.{lookIn}
+use Rattle.bench.specs.inner.Running.{isSooner, workBefore}
 use borrow.Author.Needs.{needs}
 use Rattle.bench.proofs.quiet.is_crowded.Statement.{statement}
 use Rattle.bench.proofs.quiet.is_crowded.Tie as tie

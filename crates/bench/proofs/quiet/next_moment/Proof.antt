@@ -5,7 +5,7 @@ use mathlib.Core.Path.{_≡_}
 use native.Mathlib.Decide.{ℕ-discrete}
 use native.Mathlib.Omega.{arith}
 use Rattle.load.specs.Load.{lastMoment}
-use Rattle.bench.specs.Boards.{lookIn}
+use Rattle.bench.specs.inner.Boards.{lookIn}
 use Rattle.bench.proofs.running.QuietLaws.{awaits, Awaits, sooner-le, sooner-release-le, awaits-quiet}
 use borrow.Author.Needs.{needs}
 use Rattle.bench.proofs.quiet.next_moment.Statement.{statement}

@@ -4,8 +4,8 @@ use mathlib.Core.Path.{_∙_}
 use mathlib.Core.Bool.{Bool, true, false}
 use native.Mathlib.Omega.{arith}
 use Rattle.load.specs.Load.{lastMoment}
-use Rattle.bench.specs.Boards.{lookIn}
-use Rattle.bench.specs.Choices.{openingBy}
+use Rattle.bench.specs.inner.Boards.{lookIn}
+use Rattle.bench.specs.inner.Choices.{openingBy}
 use Rattle.bench.proofs.choice.SearchLaws.{candidate-more, candidate-ends}
 use borrow.Author.Needs.{needs}
 use Rattle.bench.proofs.runs.look_after.Statement.{statement}

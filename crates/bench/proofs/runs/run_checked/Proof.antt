@@ -8,9 +8,9 @@ use borrow.Author.Tests.{not-true, not-false}
 use Rattle.load.specs.declared.Load.{Load}
 use Rattle.load.specs.Load.{lastMoment}
 use Rattle.bench.specs.declared.Bench.{Bench}
-use Rattle.bench.specs.Boards.{Shows}
-use Rattle.bench.specs.Choices.{BoardFits}
-use Rattle.bench.specs.Moves.{finishedIn}
+use Rattle.bench.specs.inner.Boards.{Shows}
+use Rattle.bench.specs.inner.Choices.{BoardFits}
+use Rattle.bench.specs.inner.Moves.{finishedIn}
 use Rattle.bench.proofs.shown.CheckedLaws.{checked-rows, checked-fitting}
 use Rattle.bench.proofs.running.RunningLaws.{Running, fresh-shaped, running-fresh, running-early}
 use Rattle.bench.proofs.running.RunningLaws.{running-done, running-on}

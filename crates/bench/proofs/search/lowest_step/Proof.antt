@@ -7,7 +7,7 @@ use borrow.Author.Tests.{le-leb}
 use lib.Dec.{leb}
 use Rattle.counting.specs.Sums.{allTo}
 use Rattle.counting.proofs.tests.TestLaws.{allTo-zero, allTo-next}
-use Rattle.bench.specs.Choices.{belowIn}
+use Rattle.bench.specs.inner.Choices.{belowIn}
 use borrow.Author.Needs.{needs}
 use Rattle.bench.proofs.search.lowest_step.Statement.{statement}
 use Rattle.bench.proofs.search.lowest_step.Tie as tie

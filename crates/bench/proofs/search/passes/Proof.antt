@@ -1,8 +1,8 @@
 -- `passes` puts the numbers that the row will have in its places, and asks the plan at the end of the step.
 use mathlib.Core.Path.{_∙_}
 use native.Mathlib.Omega.{arith}
-use Rattle.bench.specs.Boards.{lookIn}
-use Rattle.bench.specs.Choices.{passesIn}
+use Rattle.bench.specs.inner.Boards.{lookIn}
+use Rattle.bench.specs.inner.Choices.{passesIn}
 use Rattle.bench.proofs.choice.PassLaws.{openingBy-le, plan-fits}
 use borrow.Author.Needs.{needs}
 use Rattle.bench.proofs.search.passes.Statement.{statement}

@@ -5,7 +5,7 @@ use mathlib.Core.Logic.{⊎-elim}
 use mathlib.Core.Path.{_≡_, refl, sym, _∙_, subst}
 use native.Mathlib.Omega.{arith}
 use Rattle.counting.proofs.tests.TestLaws.{true-false}
-use Rattle.bench.specs.Choices.{candidateIn}
+use Rattle.bench.specs.inner.Choices.{candidateIn}
 use Rattle.bench.proofs.choice.SearchLaws.{
   PassedSteps,
   PassedRows,

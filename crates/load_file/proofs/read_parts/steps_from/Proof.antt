@@ -6,7 +6,7 @@ use borrow.Author.Needs.{needs}
 use Rattle.counting.proofs.lists.ListLaws.{filled-none, filled-stored}
 use Rattle.load.specs.Load.{mostSteps, noStep}
 use Rattle.load_file.specs.Places.{stepIn}
-use Rattle.load_file.specs.ReadingSteps.{stepsFrom}
+use Rattle.load_file.specs.inner.ReadingSteps.{stepsFrom}
 use Rattle.load_file.proofs.read_parts.steps_from.Statement.{statement}
 use Rattle.load_file.proofs.read_parts.steps_from.Tie as tie
 

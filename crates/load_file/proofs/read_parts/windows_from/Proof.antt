@@ -7,7 +7,7 @@ use borrow.Author.Needs.{needs}
 use Rattle.counting.proofs.lists.ListLaws.{filled-none, filled-stored}
 use Rattle.load.specs.Load.{mostWindows, noWindow}
 use Rattle.load_file.specs.Places.{windowIn}
-use Rattle.load_file.specs.ReadingSteps.{windowsFrom}
+use Rattle.load_file.specs.inner.ReadingSteps.{windowsFrom}
 use Rattle.load_file.proofs.read_parts.windows_from.Statement.{statement}
 use Rattle.load_file.proofs.read_parts.windows_from.Tie as tie
 

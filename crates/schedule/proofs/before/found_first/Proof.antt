@@ -1,7 +1,7 @@
 -- `found_first` asks the load, and then the count.
 use mathlib.Core.Path.{sym, _∙_}
 use borrow.Author.Needs.{needs}
-use Rattle.schedule.specs.Seen.{begun}
+use Rattle.schedule.specs.inner.Seen.{begun}
 use Rattle.schedule.proofs.before.found_first.Statement.{statement}
 use Rattle.schedule.proofs.before.found_first.Tie as tie
 

@@ -59,7 +59,15 @@ use Rattle.rules.proofs.Slot as T
 use Rattle.rules.proofs.Slot.Laws as T′
 use Rattle.schedule.proofs.walks.SlotCalls.{word}
 use Rattle.schedule.proofs.walks.LentFront.{Slots, slotVals, listVals, only, sized, room, row, others, front-out}
-use Rattle.schedule.proofs.walks.LentFront.{front-in, cell-out, cell-in, Counts, to-counts, goes-counts, said-counts}
+use Rattle.schedule.proofs.walks.LentFront.{
+  front-in,
+  cell-out,
+  cell-in,
+  Counts,
+  to-counts,
+  goes-counts,
+  said-counts,
+}
 use Rattle.schedule.proofs.before.at_most_places as counts
 use Rattle.schedule.proofs.before.at_most_places.Symbol as counts-def
 use Rattle.schedule.proofs.before.at_most_places.Symbol.{name as #schedule·at-most-places}

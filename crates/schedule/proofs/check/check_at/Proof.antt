@@ -45,7 +45,7 @@ use denote.Triple.Clauses.{ensured, lasts}
 use denote.Exit.{yes}
 use Rattle.rules.specs.Slots.{noSlot}
 use Rattle.schedule.proofs.walks.SlotFields.{field-of}
-use Rattle.schedule.specs.SeenFold.{seenOf}
+use Rattle.schedule.specs.inner.SeenFold.{seenOf}
 use Rattle.rules.specs.declared.Slot.{Slot}
 use Rattle.load.specs.declared.Load.{Load}
 use Rattle.schedule.specs.declared.Seen.{Seen}

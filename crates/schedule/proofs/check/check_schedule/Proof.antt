@@ -52,8 +52,8 @@ use denote.Triple.Clauses.{ensured, lasts}
 use denote.Exit.{yes}
 use Rattle.rules.specs.Slots.{noSlot}
 use Rattle.rules.specs.Check.{checkSchedule}
-use Rattle.schedule.specs.Seen.{begun}
-use Rattle.schedule.specs.SeenFold.{seenOf, foldSlots}
+use Rattle.schedule.specs.inner.Seen.{begun}
+use Rattle.schedule.specs.inner.SeenFold.{seenOf, foldSlots}
 use Rattle.schedule.proofs.walks.FoldLaws.{foldSlots-turn, foldSlots-end}
 use Rattle.schedule.proofs.fold.CheckFold.{fold-checks}
 use Rattle.schedule.proofs.walks.SlotCalls.{slice, word, Begin, next-fits, Finish}

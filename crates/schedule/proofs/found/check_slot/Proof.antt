@@ -1,7 +1,7 @@
 -- `check_slot` goes on where nothing was refused, and else stays.
 use mathlib.Core.Path.{ap, sym, _∙_}
 use borrow.Author.Needs.{needs}
-use Rattle.schedule.specs.SeenFold.{byFinding, nextSlot, stepSlot}
+use Rattle.schedule.specs.inner.SeenFold.{byFinding, nextSlot, stepSlot}
 use Rattle.schedule.proofs.found.check_slot.Statement.{statement}
 use Rattle.schedule.proofs.found.check_slot.Tie as tie
 

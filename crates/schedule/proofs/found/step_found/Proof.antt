@@ -8,7 +8,7 @@ use mir.Val.{Fits}
 use borrow.Author.Needs.{needs}
 use borrow.Author.Tests.{lt-ltb, le-ltb, eq-eqb, ne-eqb}
 use Rattle.refusals.specs.FirstMet.{firstMet}
-use Rattle.schedule.specs.Seen.{stepTests}
+use Rattle.schedule.specs.inner.Seen.{stepTests}
 use Rattle.schedule.proofs.found.step_found.Statement.{statement}
 use Rattle.schedule.proofs.found.step_found.Tie as tie
 

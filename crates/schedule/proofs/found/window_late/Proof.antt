@@ -6,7 +6,7 @@ use native.Mathlib.Omega.{arith}
 use borrow.Author.Needs.{needs}
 use Rattle.counting.specs.Sums.{anyTo}
 use Rattle.counting.proofs.tests.TestLaws.{or-neither, anyTo-zero, anyTo-next, true-anyTo}
-use Rattle.schedule.specs.Seen.{lateWindow}
+use Rattle.schedule.specs.inner.Seen.{lateWindow}
 use Rattle.schedule.proofs.found.window_late.Statement.{statement}
 use Rattle.schedule.proofs.found.window_late.Tie as tie
 

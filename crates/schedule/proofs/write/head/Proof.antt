@@ -1,6 +1,6 @@
 -- `head` stores four bytes, one by one.
 use borrow.Author.Needs.{needs}
-use Rattle.schedule.specs.Gathered.{headed}
+use Rattle.schedule.specs.inner.Gathered.{headed}
 use Rattle.words.specs.LittleEndian.{littleEndian}
 use Rattle.schedule.proofs.write.head.Statement.{statement}
 use Rattle.schedule.proofs.write.head.Tie as tie

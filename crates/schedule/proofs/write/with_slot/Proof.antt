@@ -2,7 +2,7 @@
 use borrow.Author.Needs.{needs}
 use borrow.Author.Tests.{lt-ltb, le-ltb}
 use Rattle.words.specs.LittleEndian.{littleEndian}
-use Rattle.schedule.specs.Gathered.{withSlot}
+use Rattle.schedule.specs.inner.Gathered.{withSlot}
 use Rattle.schedule.proofs.write.with_slot.Statement.{statement}
 use Rattle.schedule.proofs.write.with_slot.Tie as tie
 

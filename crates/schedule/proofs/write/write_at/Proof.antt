@@ -44,7 +44,7 @@ use denote.Triple.Clauses.{ensured, lasts}
 use denote.Exit.{yes}
 use Rattle.rules.specs.Slots.{noSlot}
 use Rattle.schedule.proofs.walks.SlotFields.{field-of}
-use Rattle.schedule.specs.Gathered.{gatheredOf}
+use Rattle.schedule.specs.inner.Gathered.{gatheredOf}
 use Rattle.rules.specs.declared.Slot.{Slot}
 use Rattle.schedule.specs.declared.Gathered.{Gathered}
 use Rattle.rules.proofs.Slot as T

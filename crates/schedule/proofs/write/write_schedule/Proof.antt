@@ -64,7 +64,7 @@ use Rattle.rules.specs.Slots.{noSlot}
 use Rattle.rules.proofs.Slot as T
 use Rattle.schedule.specs.declared.Gathered.{Gathered}
 use Rattle.schedule.specs.ScheduleFile.{mostSlots}
-use Rattle.schedule.specs.Gathered.{headed, gatheredOf, gathered}
+use Rattle.schedule.specs.inner.Gathered.{headed, gatheredOf, gathered}
 use Rattle.schedule.specs.Calls.{WriteSchedule}
 use Rattle.schedule.proofs.walks.FoldLaws.{gathered-turn, gathered-end}
 use Rattle.schedule.proofs.fold.GatheredLaws.{gathered-given}

@@ -14,10 +14,10 @@ use Rattle.rules.specs.declared.Slot.{Slot}
 use Rattle.bench.specs.declared.Bench.{Bench}
 use Rattle.bench.specs.declared.Board.{Board}
 use Rattle.bench.specs.declared.Moved.{Moved}
-use Rattle.bench.specs.Updates.{benchStarted, benchTicked}
-use Rattle.bench.specs.Boards.{lookIn}
-use Rattle.bench.specs.Stacks.{test}
-use Rattle.bench.specs.Choices.{openingIn, heldAfter, ChosenIn}
+use Rattle.bench.specs.inner.Updates.{benchStarted, benchTicked}
+use Rattle.bench.specs.inner.Boards.{lookIn}
+use Rattle.bench.specs.inner.Stacks.{test}
+use Rattle.bench.specs.inner.Choices.{openingIn, heldAfter, ChosenIn}
 
 -- all steps are finished
 abbrev pub finishedIn : Board → ℕ → Bool

@@ -10,9 +10,9 @@ use Rattle.load.specs.declared.Row.{Row}
 use Rattle.load.specs.Load.{lastMoment}
 use Rattle.bench.specs.declared.Look.{Look}
 use Rattle.bench.specs.declared.Board.{Board}
-use Rattle.bench.specs.Alike.{viewAlike, stateAlike, lookOf}
-use Rattle.bench.specs.Boards.{lookIn}
-use Rattle.bench.specs.Choices.{openingIn, candidateIn}
+use Rattle.bench.specs.inner.Alike.{viewAlike, stateAlike, lookOf}
+use Rattle.bench.specs.inner.Boards.{lookIn}
+use Rattle.bench.specs.inner.Choices.{openingIn, candidateIn}
 
 -- row i, which is that row, once its next step, started at a moment, is over
 abbrev pub lookAfter : Row → Board → ℕ → ℕ → Look

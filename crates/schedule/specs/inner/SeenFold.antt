@@ -10,7 +10,7 @@ use Rattle.load.specs.declared.Load.{Load}
 use Rattle.load.specs.Load.{rowAt}
 use Rattle.rules.specs.declared.Slot.{Slot}
 use Rattle.schedule.specs.declared.Seen.{Seen}
-use Rattle.schedule.specs.Seen.{withStart, endAt, foundAt}
+use Rattle.schedule.specs.inner.Seen.{withStart, endAt, foundAt}
 
 -- a slot that is right is kept
 abbrev pub advanced : Load → Seen → ℕ → ℕ → ℕ → Seen

@@ -10,7 +10,7 @@ use Rattle.bench.specs.declared.Bench.{Bench}
 use Rattle.bench.specs.declared.Look.{Look}
 use Rattle.bench.specs.declared.Board.{Board}
 use Rattle.bench.specs.Held.{stateOf}
-use Rattle.bench.specs.Alike.{lookOf, Modest}
+use Rattle.bench.specs.inner.Alike.{lookOf, Modest}
 
 -- what a board has of row i
 abbrev pub lookIn : Board → ℕ → Look

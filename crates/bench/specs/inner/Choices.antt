@@ -10,9 +10,9 @@ use Rattle.counting.specs.Sums.{allTo}
 use Rattle.load.specs.Load.{mostRows, lastMoment}
 use Rattle.bench.specs.declared.Look.{Look}
 use Rattle.bench.specs.declared.Board.{Board}
-use Rattle.bench.specs.Alike.{Modest}
-use Rattle.bench.specs.Boards.{lookIn, Wide}
-use Rattle.bench.specs.Stacks.{planBy}
+use Rattle.bench.specs.inner.Alike.{Modest}
+use Rattle.bench.specs.inner.Boards.{lookIn, Wide}
+use Rattle.bench.specs.inner.Stacks.{planBy}
 
 -- row k has finished all its steps below place j
 abbrev pub belowIn : Board → ℕ → ℕ → Bool

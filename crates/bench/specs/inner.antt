@@ -1,0 +1,8 @@
+-- What the parts of the code give, for private functions alone: nothing here needs to be believed.
+pub mod Updates
+pub mod Alike
+pub mod Boards
+pub mod Stacks
+pub mod Choices
+pub mod Moves
+pub mod Running
