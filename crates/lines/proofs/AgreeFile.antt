@@ -40,7 +40,7 @@ use Rattle.load_file.specs.Reading.{
   stepsFault,
   windowsFault,
 }
-use Rattle.load_file.proofs.reading.ReadingLaws.{
+use Rattle.load_file.proofs.faults.ReadingLaws.{
   rowAt-read,
   rowFaultAt-parts,
   own-steps-le,

@@ -29,7 +29,7 @@ use Rattle.load_file.specs.Places.{
   rowFrom,
 }
 use Rattle.load_file.specs.Reading.{dueTests}
-use Rattle.load_file.proofs.reading.ReadingLaws.{rowTests-with, identifier-with, box-with}
+use Rattle.load_file.proofs.faults.ReadingLaws.{rowTests-with, identifier-with, box-with}
 
 -- two lists of at least n bytes that agree in the first n
 pub record Agree (n : ℕ) (bs cs : List ℕ) : Type 0 where

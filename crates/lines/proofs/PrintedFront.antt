@@ -29,7 +29,7 @@ use Rattle.load.specs.View.{viewOf, stepsInAll}
 use Rattle.load_file.specs.Records.{headerKind, endKind, version}
 use Rattle.load_file.specs.Places.{stepsSaid, rowPlace, rowsSaid, loadIn}
 use Rattle.load_file.specs.Reading.{dueTests, headerTests, endTests, fileFault}
-use Rattle.load_file.proofs.reading.ReadingLaws.{stepsInAll-read}
+use Rattle.load_file.proofs.faults.ReadingLaws.{stepsInAll-read}
 use Rattle.lines.specs.Lines.{linesBeside, printed, filePlaces}
 use Rattle.lines.proofs.AgreeLaws.{Agree, numberAt-agree, dueTests-agree, stepsSaid-agree}
 use Rattle.lines.proofs.AgreeFile.{

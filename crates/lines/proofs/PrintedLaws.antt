@@ -15,8 +15,8 @@ use Rattle.load_file.specs.declared.Reading.{Reading}
 use Rattle.load_file.specs.Places.{loadIn}
 use Rattle.load_file.specs.Reading.{fileFault, loadBeside, readLoad}
 use Rattle.load_file.specs.Calls.{ReadLoad}
-use Rattle.load_file.proofs.reading.CheckLaws.{good-checkLoad}
-use Rattle.load_file.proofs.reading.FaultLaws.{fileFault-good}
+use Rattle.load_file.proofs.faults.CheckLaws.{good-checkLoad}
+use Rattle.load_file.proofs.faults.FaultLaws.{fileFault-good}
 use Rattle.load_file.proofs.round_trip.ReadFile.{read-good}
 use Rattle.lines.specs.declared.Text.{Text}
 use Rattle.lines.specs.Lines.{loadLines, refusedLine, linesBeside, printed}

@@ -1,6 +1,6 @@
 -- Laws of load files: what stands at a place, lengths, the two round trips, and worked cases.
 pub mod layout
-pub mod reading
+pub mod faults
 pub mod round_trip
 pub mod CallLaws
 pub mod WorkedHold

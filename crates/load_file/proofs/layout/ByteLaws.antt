@@ -22,7 +22,7 @@ use Rattle.load_file.specs.Records.{
 }
 use Rattle.load_file.specs.Writing.{rowBytes, loadBytes}
 use Rattle.load_file.specs.RoundTrip.{HeldRow, Held}
-use Rattle.load_file.proofs.reading.CheckLaws.{LoadGood, fields-windows-le}
+use Rattle.load_file.proofs.faults.CheckLaws.{LoadGood, fields-windows-le}
 
 -- a piece of bytes
 record Piece (bs : List ℕ) : Type 0 where

@@ -20,7 +20,7 @@ use Rattle.load_file.specs.Records.{headerRecord, rowRecord, stepRecord,
 use Rattle.load_file.specs.Writing.{rowBytes, loadBytes}
 use Rattle.load_file.proofs.layout.FieldLaws.{rowRecord-length, stepRecord-length, endRecord-length}
 use Rattle.load_file.proofs.layout.PlaceLaws.{rowBytes-length}
-use Rattle.load_file.proofs.reading.CheckLaws.{checkLoad-good, fields-steps-le, fields-windows-le}
+use Rattle.load_file.proofs.faults.CheckLaws.{checkLoad-good, fields-steps-le, fields-windows-le}
 
 -- the bytes of the first n rows
 abbrev pub rowsBytes : Load → ℕ → List ℕ

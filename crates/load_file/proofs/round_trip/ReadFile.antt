@@ -48,8 +48,8 @@ use Rattle.load_file.proofs.layout.FieldLaws.{
   header-stands,
 }
 use Rattle.load_file.proofs.layout.PlaceLaws.{parts-row, row-behind, parts-file}
-use Rattle.load_file.proofs.reading.CheckLaws.{RowGood, LoadGood, fields-steps-le, fields-windows-le}
-use Rattle.load_file.proofs.reading.ZeroLaws.{
+use Rattle.load_file.proofs.faults.CheckLaws.{RowGood, LoadGood, fields-steps-le, fields-windows-le}
+use Rattle.load_file.proofs.faults.ZeroLaws.{
   unused-steps,
   unused-windows,
   noStep-held,
@@ -57,7 +57,7 @@ use Rattle.load_file.proofs.reading.ZeroLaws.{
   zeroRow-zero,
   zeroRow-held,
 }
-use Rattle.load_file.proofs.reading.FaultLaws.{RowAccepted, endPlace, FileAccepted}
+use Rattle.load_file.proofs.faults.FaultLaws.{RowAccepted, endPlace, FileAccepted}
 
 -- what stands in the row that is read at a place
 module _ (bs : List ℕ) (at : ℕ) where

@@ -17,13 +17,13 @@ use Rattle.load_file.specs.Places.{loadIn}
 use Rattle.load_file.specs.Reading.{fileFault, loadBeside, readLoad}
 use Rattle.load_file.specs.RoundTrip.{Held, accepted, AcceptedFile, WrittenLoad, RoundTrip}
 use Rattle.load_file.proofs.layout.PlaceLaws.{loadBytes-length-le}
-use Rattle.load_file.proofs.reading.CheckLaws.{
+use Rattle.load_file.proofs.faults.CheckLaws.{
   checkLoad-good,
   good-checkLoad,
   fields-steps-le,
   fields-windows-le,
 }
-use Rattle.load_file.proofs.reading.FaultLaws.{fileFault-good, good-fileFault}
+use Rattle.load_file.proofs.faults.FaultLaws.{fileFault-good, good-fileFault}
 use Rattle.load_file.proofs.layout.ByteLaws.{loadBytes-bytes}
 use Rattle.load_file.proofs.round_trip.WrittenFile.{written-load, written-accepted}
 use Rattle.load_file.proofs.round_trip.ReadFile.{read-held, read-good, read-file}

@@ -55,9 +55,9 @@ use Rattle.load_file.proofs.layout.FieldLaws.{
   rows-read,
 }
 use Rattle.load_file.proofs.layout.PlaceLaws.{RowStands, row-parts, row-behind, FileStands, file-parts}
-use Rattle.load_file.proofs.reading.CheckLaws.{RowGood, LoadGood, fields-steps-le, fields-windows-le}
-use Rattle.load_file.proofs.reading.ZeroLaws.{steps-unused, windows-unused, zero-row}
-use Rattle.load_file.proofs.reading.FaultLaws.{RowAccepted, endPlace, FileAccepted}
+use Rattle.load_file.proofs.faults.CheckLaws.{RowGood, LoadGood, fields-steps-le, fields-windows-le}
+use Rattle.load_file.proofs.faults.ZeroLaws.{steps-unused, windows-unused, zero-row}
+use Rattle.load_file.proofs.faults.FaultLaws.{RowAccepted, endPlace, FileAccepted}
 
 -- a row that the check passes, held in memory, whose bytes stand at a place
 module _ (bs : List ℕ) (load : Load) (i at : ℕ) (row : Row) (held : HeldRow row) (good : RowGood load i row)

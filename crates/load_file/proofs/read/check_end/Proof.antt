@@ -15,7 +15,7 @@ use Rattle.load.specs.View.{viewOf, stepsInAll}
 use Rattle.load_file.specs.Records.{endKind}
 use Rattle.load_file.specs.Places.{loadIn}
 use Rattle.load_file.specs.Reading.{dueTests, endTests}
-use Rattle.load_file.proofs.reading.ReadingLaws.{behind-refused, behind-good}
+use Rattle.load_file.proofs.faults.ReadingLaws.{behind-refused, behind-good}
 use Rattle.load_file.proofs.read.check_end.Statement.{statement}
 use Rattle.load_file.proofs.read.check_end.Tie as tie
 

@@ -14,7 +14,7 @@ use Rattle.load.specs.Load.{mostRows}
 use Rattle.load_file.specs.Records.{headerKind, version}
 use Rattle.load_file.specs.Places.{rowsSaid}
 use Rattle.load_file.specs.Reading.{dueTests, headerTests}
-use Rattle.load_file.proofs.reading.ReadingLaws.{behind-refused, behind-good}
+use Rattle.load_file.proofs.faults.ReadingLaws.{behind-refused, behind-good}
 use Rattle.load_file.proofs.read.check_header.Statement.{statement}
 use Rattle.load_file.proofs.read.check_header.Tie as tie
 

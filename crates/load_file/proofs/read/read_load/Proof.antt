@@ -5,7 +5,7 @@ use borrow.Author.Needs.{needs}
 use Rattle.refusals.specs.declared.Checked.the-variants.{Good}
 use Rattle.refusals.specs.FirstMet.{firstMet}
 use Rattle.load_file.specs.Reading.{headerTests}
-use Rattle.load_file.proofs.reading.ReadingRowsLaws.{readLoad-header, readLoad-rows, header-rows-le}
+use Rattle.load_file.proofs.faults.ReadingRowsLaws.{readLoad-header, readLoad-rows, header-rows-le}
 use Rattle.load_file.proofs.read.read_load.Statement.{statement}
 use Rattle.load_file.proofs.read.read_load.Tie as tie
 

@@ -5,7 +5,7 @@ use mathlib.Core.Path.{_≡_, _∙_}
 use native.Mathlib.Omega.{arith}
 use borrow.Author.Needs.{needs}
 use Rattle.load_file.specs.Places.{rowsSaid}
-use Rattle.load_file.proofs.reading.ReadingRowsLaws.{
+use Rattle.load_file.proofs.faults.ReadingRowsLaws.{
   RowsRead,
   rows-none,
   rows-refused,

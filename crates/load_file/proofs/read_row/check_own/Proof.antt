@@ -8,7 +8,7 @@ use Rattle.load.specs.Faults.{rowTests, takenTests, identifierTaken, boxTaken}
 use Rattle.load_file.specs.Records.{rowKind}
 use Rattle.load_file.specs.Places.{rowFrom, loadIn}
 use Rattle.load_file.specs.Reading.{dueTests, ownFault}
-use Rattle.load_file.proofs.reading.ReadingLaws.{
+use Rattle.load_file.proofs.faults.ReadingLaws.{
   behind-refused,
   behind-good,
   rowTests-with,

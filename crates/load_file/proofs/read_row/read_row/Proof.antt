@@ -5,7 +5,7 @@ use native.Mathlib.Omega.{arith}
 use borrow.Author.Needs.{needs}
 use Rattle.refusals.specs.declared.Checked.the-variants.{Good, Refused}
 use Rattle.load_file.specs.Reading.{ownFault, stepsFault, windowsFault}
-use Rattle.load_file.proofs.reading.ReadingLaws.{
+use Rattle.load_file.proofs.faults.ReadingLaws.{
   rowFaultAt-parts,
   own-steps-le,
   own-windows-le,

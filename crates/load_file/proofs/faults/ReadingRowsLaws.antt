@@ -41,7 +41,7 @@ use Rattle.load_file.specs.Places.{
 }
 use Rattle.load_file.specs.Reading.{headerTests, rowFaultAt, endTests, fileFault, readLoad, ownFault}
 use Rattle.load_file.specs.inner.ReadingSteps.{RowsBefore, readRow, rowsFault, readRows}
-use Rattle.load_file.proofs.reading.ReadingLaws.{rowFaultAt-parts, own-steps-le, own-windows-le, stepsInAll-read}
+use Rattle.load_file.proofs.faults.ReadingLaws.{rowFaultAt-parts, own-steps-le, own-windows-le, stepsInAll-read}
 
 -- what is found in row k, at its place
 abbrev pub faultOf : List ℕ → ℕ → Checked
