@@ -1,15 +1,27 @@
 /* A host of the reading bench: reads a load file and says in plain words what the bench gives.
  *
- * usage: example [FILE]      without FILE it reads standard input
+ * usage: example [FILE]      without FILE, or where FILE is -, it reads standard input
+ *        example --help
  *
- * Exit status: 0 where the file is accepted, 1 where it is refused, 2 where it cannot be read. */
+ * Exit status: 0 where the file is accepted, 1 where it is refused, 2 for a wrong use, 3 where the
+ * file cannot be read, 4 where what it says cannot be written. For 2, 3 and 4 a line on standard
+ * error says what went wrong. */
+#include <errno.h>
 #include <inttypes.h>
 #include <stdbool.h>
 #include <stdio.h>
+#include <string.h>
 
 #include "reading_bench.h"
 
-enum { ACCEPTED = 0, REFUSED = 1, CANNOT = 2, HEADER_BYTES = 4, SLOT_BYTES = 8 };
+enum { ACCEPTED = 0, REFUSED = 1, WRONG_USE = 2, NOT_READ = 3, NOT_WRITTEN = 4 };
+enum { HEADER_BYTES = 4, SLOT_BYTES = 8 };
+
+static const char HELP[] =
+    "usage: example [FILE]\n"
+    "Says what the reading bench gives for a load file. Without FILE, or where FILE is -, it\n"
+    "reads standard input.\n"
+    "Exit status: 0 accepted, 1 refused, 2 wrong use, 3 not read, 4 not written.\n";
 
 /* One byte more than the longest load file: a file that fills it all is refused like any other that
    is too long. */
@@ -96,28 +108,61 @@ static void show_answers(const struct load_file *file, const struct answers *ans
     show_starts(answers->schedule);
 }
 
-static bool read_file(FILE *from, struct load_file *file)
+/* Reads FILE, and closes it; whether that could be done. Where not, `errno` says why. */
+static bool read_file(const char *name, struct load_file *file)
 {
+    bool is_input = strcmp(name, "-") == 0;
+    FILE *from = is_input ? stdin : fopen(name, "rb");
+    if (from == NULL)
+        return false;
     file->length = fread(file->bytes, 1, sizeof file->bytes, from);
-    return ferror(from) == 0;
+    bool is_read = ferror(from) == 0;
+    int why = errno;
+    if (!is_input)
+        fclose(from);
+    errno = why;
+    return is_read;
+}
+
+/* Says what the bench gives for the file. */
+static int answer(const struct load_file *file)
+{
+    struct answers answers;
+    uint32_t number = ask_bench(file, &answers);
+    if (number != BENCH_GOOD) {
+        printf("The load file is refused with %" PRIu32 ": %s.\n", number, reason_of(number));
+        return REFUSED;
+    }
+    show_answers(file, &answers);
+    return ACCEPTED;
+}
+
+/* Ends with the status given, or with that of an output which cannot be written. What was printed
+   may wait in memory until here, so that no print before could tell. */
+static int finish(int status)
+{
+    if (fflush(stdout) == 0 && ferror(stdout) == 0)
+        return status;
+    fprintf(stderr, "example: standard output: cannot be written: %s\n", strerror(errno));
+    return NOT_WRITTEN;
 }
 
 int main(int count, char **words)
 {
     struct load_file file;
-    struct answers answers;
-    FILE *from = count == 2 ? fopen(words[1], "rb") : stdin;
-    if (count > 2 || from == NULL || !read_file(from, &file)) {
-        fprintf(stderr, "usage: example [FILE]: the load file cannot be read\n");
-        return CANNOT;
+    const char *name = count == 2 ? words[1] : "-";
+    if (count == 2 && strcmp(name, "--help") == 0) {
+        fputs(HELP, stdout);
+        return finish(ACCEPTED);
     }
-    if (from != stdin)
-        fclose(from);
-    uint32_t number = ask_bench(&file, &answers);
-    if (number != BENCH_GOOD) {
-        printf("The load file is refused with %" PRIu32 ": %s.\n", number, reason_of(number));
-        return REFUSED;
+    if (count > 2 || (name[0] == '-' && name[1] != '\0')) {
+        fputs("example: wrong use; it is example [FILE], or example --help\n", stderr);
+        return WRONG_USE;
     }
-    show_answers(&file, &answers);
-    return ACCEPTED;
+    if (!read_file(name, &file)) {
+        fprintf(stderr, "example: %s: cannot be read: %s\n",
+                strcmp(name, "-") == 0 ? "standard input" : name, strerror(errno));
+        return NOT_READ;
+    }
+    return finish(answer(&file));
 }
