@@ -14,11 +14,16 @@
 extern "C" {
 #endif
 
+/* The version of this header and of the archive beside it. A later MINOR only adds to this one. */
+#define BENCH_VERSION_MAJOR 1
+#define BENCH_VERSION_MINOR 0
+#define BENCH_VERSION "1.0"
+
 /* Duties and promises of every call
  *
  * The caller sees to this:
  * - `load` points to `load_len` bytes that can be read, `out` to `out_len` bytes that can be
- *   written. Neither is null, also where its length is 0.
+ *   written. Neither is null, also where its length is 0; neither needs to be aligned.
  * - The two do not overlap, and nobody else writes to them while the call runs.
  *
  * The call keeps this:
