@@ -33,7 +33,7 @@ extern "C" {
  *   has written nothing. Bytes after the answer stay as they were.
  * - Any bytes may be lent as a load file, of any length: what is wrong with them a number tells.
  * - It allocates nothing, keeps no state between calls, and always returns. Calls with outputs of
- *   their own may run at the same time. 32 KiB of stack are enough: measured, not proved.
+ *   their own may run at the same time.
  */
 
 /* The numbers that these calls give, in the order of document 01's table. */
@@ -55,6 +55,19 @@ extern "C" {
 #define BENCH_SCHEDULE_BYTES(slots) (4 + 8 * (slots))
 #define BENCH_SCHEDULE_BYTES_MAX 1540 /* 192 slots: 24 rows of 8 steps */
 #define BENCH_LOAD_BYTES_MAX 2216     /* the longest load file that is not refused */
+
+/* Stack and time, for x86-64: measured, not proved. docs/PERFORMANCE.md has loads and commands.
+ *
+ * Stack: so many bytes are enough for a call, from its return address down. A program that binds
+ *   names at their first use needs some 4 KiB more for its loader, once.
+ * Time: bound, verdict and margins took at most 0.2 ms on every load measured. So did the schedule
+ *   without windows; with them it takes milliseconds, and on the worst load known a quarter of a
+ *   second.
+ */
+#define BENCH_BOUND_STACK 8192
+#define BENCH_VERDICT_STACK 10240
+#define BENCH_MARGINS_STACK 10240
+#define BENCH_SCHEDULE_STACK 18432
 
 /* bench_bound gives the bound of the load.
  *
