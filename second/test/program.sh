@@ -19,6 +19,18 @@ fails() {
 103 203 0 18:2 w3 1
 ROWS
 
+# Costs 275, phase 60, embedded wait 600, and free waits of 600 at places 1 and 2 that nothing fills.
+same "README's rack" 'load 3 6 1305 2135 yes
+row 1 4711 12 1465
+row 2 4712 31 2090
+row 3 4720 7 630
+slot 0 1 1
+slot 40 2 1
+slot 80 3 1
+slot 640 1 2
+slot 680 2 2
+slot 1280 1 3' "$("$second" load < "$(dirname "$0")/../rack.txt" | "$second" report)"
+
 same 'empty input' 'refused 1' "$("$second" report < /dev/null)"
 same 'a byte follows' 'refused 8' "$({ cat "$work/a"; printf '\0'; } | "$second" report)"
 same 'much follows' 'refused 8' \
