@@ -20,7 +20,7 @@
 #include "reading_bench.h"
 
 enum { WITHIN = 0, BEYOND = 1, CANNOT = 2 };
-enum { STACK_BYTES = 1 << 17, KNOWN_BYTES = 5000, KNOWN_MORE = 64 };
+enum { STACK_BYTES = 1 << 17, KNOWN_BYTES = 5000, KNOWN_MORE = 128 };
 
 typedef uint32_t answer_call(const uint8_t *load, size_t load_len, uint8_t *out, size_t out_len);
 
@@ -52,7 +52,7 @@ static ucontext_t outside, inside;
 static answer_call *deeper_call;
 static size_t deeper_bytes;
 
-/* Finds where a call begins: over its frame address stand the caller's and the return address. */
+/* Finds where a call begins: above its frame address stand the caller's and the return address. */
 static uint32_t find_top(const uint8_t *load, size_t load_len, uint8_t *out, size_t out_len)
 {
     (void)load, (void)load_len, (void)out, (void)out_len;
@@ -132,11 +132,14 @@ static bool read_file(const char *path, struct load_file *file)
     return is_read;
 }
 
+/* Measures the call on a file; where that cannot be done, it is told. */
 static bool measure(struct measured *measured, const char *path, size_t deeper)
 {
     static struct load_file file;
-    if (!read_file(path, &file))
+    if (!read_file(path, &file)) {
+        fprintf(stderr, "stack: %s: cannot be read\n", path);
         return false;
+    }
     deeper_call = measured->call;
     deeper_bytes = deeper;
     size_t taken = taken_by(deeper == 0 ? measured->call : take_deeper, &file);
@@ -144,6 +147,8 @@ static bool measure(struct measured *measured, const char *path, size_t deeper)
         measured->taken = taken;
         measured->file = path;
     }
+    if (taken == 0)
+        fprintf(stderr, "stack: %s: %s cannot be measured\n", path, measured->name);
     return taken != 0;
 }
 
@@ -175,10 +180,8 @@ int main(int count, char **words)
     puts("| Call | Stack, bytes | Most on | The header says |\n|---|---|---|---|");
     for (size_t call = 0; call < sizeof calls / sizeof *calls; call++) {
         for (int at = 2; at < count; at++)
-            if (!measure(&calls[call], words[at], strtoull(words[1], NULL, 10))) {
-                fprintf(stderr, "stack: %s: cannot be measured\n", words[at]);
+            if (!measure(&calls[call], words[at], strtoull(words[1], NULL, 10)))
                 return CANNOT;
-            }
         found |= tell(&calls[call]);
     }
     return found;
