@@ -3,9 +3,10 @@
 
    usage: measure FILE...     prints two lines of a table for each load file
 
-   Both forms fill an output of their own, and the answers must agree before anything is timed. A
-   round times each form once, one right behind the other, so that whatever slows the machine slows
-   both. The fastest round of each counts. */
+   Both forms fill an output of their own, and the answers must agree before anything is timed.
+   Time is the processor's, so that other programs count for little. A round times each form once,
+   one right behind the other, so that whatever slows the machine slows both. The fastest round of
+   each counts. */
 #define _POSIX_C_SOURCE 199309L /* for clock_gettime */
 
 #include <stdint.h>
@@ -60,23 +61,24 @@ static uint32_t their_margins(const struct file *file, struct output *out)
 static double seconds_now(void)
 {
     struct timespec now;
-    clock_gettime(CLOCK_MONOTONIC, &now);
+    clock_gettime(CLOCK_PROCESS_CPUTIME_ID, &now);
     return (double)now.tv_sec + (double)now.tv_nsec / 1e9;
 }
 
-/* The seconds of one call, over as many calls as fill a round. */
+/* The seconds of one call, over as many calls as fill a round: twice as many until they do, since
+   to ask for the time takes time as well. */
 static double seconds_of(form *call, const struct file *file)
 {
     struct output out;
-    double begin = seconds_now();
     double spent = 0;
-    unsigned long calls = 0;
-    while (spent < LEAST_SECONDS) {
-        call(file, &out);
-        calls++;
+    unsigned long calls = 1;
+    for (; spent < LEAST_SECONDS; calls *= 2) {
+        double begin = seconds_now();
+        for (unsigned long made = 0; made < calls; made++)
+            call(file, &out);
         spent = seconds_now() - begin;
     }
-    return spent / (double)calls;
+    return spent / (double)(calls / 2);
 }
 
 static int agree(form *ours, form *theirs, const struct file *file)
