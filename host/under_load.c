@@ -4,8 +4,9 @@
  * usage: under_load FILES [ALTERED]      ALTERED is an answer, counted from 1, of which one byte
  *                                        is altered: a difference that must show
  *
- * Each call is lent rooms of several lengths, with guard bytes round every slice. Numbers, answers,
- * bytes past the answer, guard bytes and the lent file must all be the same afterwards. */
+ * Each call is lent rooms of several lengths, at any alignment, with guard bytes round every slice.
+ * Numbers, answers, bytes past the answer, guard bytes and the lent file must all be the same
+ * afterwards. */
 #include <inttypes.h>
 #include <stdbool.h>
 #include <stdio.h>
