@@ -171,7 +171,7 @@ static int with_load_file(const char *name, int (*command)(const struct load_inp
     return command(&input);
 }
 
-int main(int count, char **words)
+static int answer(int count, char **words)
 {
     const char *command = count < 2 ? "" : words[1];
     if (count == 2 && strcmp(command, "report") == 0)
@@ -195,4 +195,15 @@ int main(int count, char **words)
     bool asked = strcmp(command, "--help") == 0;
     fputs(HELP, asked ? stdout : stderr);
     return asked ? GOOD : CANNOT;
+}
+
+/* What is printed is kept back until the end: only then is it known whether it could be written. */
+int main(int count, char **words)
+{
+    int status = answer(count, words);
+    if (fflush(stdout) != 0 || ferror(stdout) != 0) {
+        perror("second: standard output");
+        return CANNOT;
+    }
+    return status;
 }

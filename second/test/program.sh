@@ -31,6 +31,10 @@ slot 640 1 2
 slot 680 2 2
 slot 1280 1 3' "$("$second" load < "$(dirname "$0")/../rack.txt" | "$second" report)"
 
+# An output that takes nothing is told in a line, and by the exit status.
+told=$("$second" report < "$work/a" 2>&1 > /dev/full)
+same 'a full output' '2 second: standard output: No space left on device' "$? $told"
+
 same 'empty input' 'refused 1' "$("$second" report < /dev/null)"
 same 'a byte follows' 'refused 8' "$({ cat "$work/a"; printf '\0'; } | "$second" report)"
 same 'much follows' 'refused 8' \
