@@ -16,7 +16,7 @@ use Rattle.rules.specs.declared.Slot.{Slot}
 use Rattle.rules.specs.Run.{schedule}
 use Rattle.rules.specs.Slots.{noSlot, slotAt, slotEnd, lastEnd}
 use Rattle.rules.specs.ScheduleRules.{NamesStep}
-use Rattle.rules.proofs.invariant.GoodLaws.{acceptable-good}
+use Rattle.rules.proofs.invariant.RunnableLaws.{acceptable-runnable}
 use Rattle.rules.proofs.run.RunMade.{schedule-is-whole}
 use Rattle.rules.proofs.slots.WholeLaws.{Whole, names}
 use Rattle.bound.proofs.AcceptedLaws.{accepted-few}
@@ -65,7 +65,7 @@ module _ (load : Load) (slots : List Slot) (count : ℕ) (s : Scheduled load slo
   rows-few = accepted-few load acceptable
 
   whole : Whole (viewOf load) (schedule (viewOf load))
-  whole = schedule-is-whole (viewOf load) (acceptable-good (viewOf load) acceptable)
+  whole = schedule-is-whole (viewOf load) (acceptable-runnable (viewOf load) acceptable)
 
   pub scheduled-names : (k : ℕ) → k < count → NamesStep (viewOf load) (slotAt slots k)
   scheduled-names k l =

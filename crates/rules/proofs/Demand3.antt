@@ -21,8 +21,8 @@ use Rattle.rules.specs.Slots.{slotAt, rowOf, slotEnd}
 use Rattle.rules.specs.Check.{checkSchedule}
 use Rattle.rules.specs.Demand3.{Demand3}
 use Rattle.rules.proofs.bound.TightBound.{tightBound, tightBound-le}
-use Rattle.rules.proofs.invariant.Good.{Good}
-use Rattle.rules.proofs.invariant.GoodLaws.{acceptable-good}
+use Rattle.rules.proofs.invariant.Runnable.{Runnable}
+use Rattle.rules.proofs.invariant.RunnableLaws.{acceptable-runnable}
 use Rattle.rules.proofs.invariant.ClockBound.{tightBound-fits}
 use Rattle.rules.proofs.run.RunLaws.{run-done, run-number, run-clock, starts-joined, schedule-whole}
 use Rattle.rules.proofs.run.RunEnd.{schedule-ends}
@@ -48,7 +48,7 @@ verdict-true L e i l =
     difference-le (L .deadline i) (rowBound L i)
     (not-true (isNegative (margin L i)) (allTo-true (λ k. not (isNegative (margin L k))) (L .rows) e i l))
 
-module _ (L : View) (g : Good L) where
+module _ (L : View) (g : Runnable L) where
   w : Whole L (schedule L)
   w = schedule-is-whole L g
 
@@ -78,8 +78,8 @@ module _ (L : View) (g : Good L) where
         verdict-true L v (rowOf (slotAt (schedule L) k)) (omega (arith, mine .row-from, mine .row-to)),
       )
 
-  pub good-demand3 : Demand3 L
-  good-demand3 =
+  pub runnable-demand3 : Demand3 L
+  runnable-demand3 =
       record {
         moves = tightBound L;
         moves-few = omega (arith, tightBound-fits L g);
@@ -100,7 +100,7 @@ module _ (L : View) (g : Good L) where
       }
 
 pub demand3 : (L : View) → Acceptable L → Demand3 L
-demand3 L ok = good-demand3 L (acceptable-good L ok)
+demand3 L ok = runnable-demand3 L (acceptable-runnable L ok)
 
 -- a load in memory that is not refused
 module _ (load : Load) (accepted : checkLoad load ≡ found.Good) where

@@ -2,7 +2,7 @@
 pub mod CutLaws
 pub mod CutBound
 pub mod CutWindows
-pub mod CutGood
+pub mod CutRunnable
 pub mod CutPlan
 pub mod CutMoves
 pub mod CutRun

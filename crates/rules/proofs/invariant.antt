@@ -1,6 +1,6 @@
 -- What every moment of a run keeps, and why the clock stays below the bound.
-pub mod Good
-pub mod GoodLaws
+pub mod Runnable
+pub mod RunnableLaws
 pub mod Invariant
 pub mod StartKeeps
 pub mod ClockBound

@@ -22,7 +22,7 @@ use Rattle.rules.specs.State.{State, isOpen, opensAt, openWindow}
 use Rattle.rules.specs.Ready.{released, isAllowed, isCandidate, candidates, finishedBelow}
 use Rattle.rules.specs.Plan.{due, windowLeft}
 use Rattle.rules.specs.Move.{startedFull, passes, chosen, openingAfter}
-use Rattle.rules.proofs.invariant.Good.{openAt, limitAt}
+use Rattle.rules.proofs.invariant.Runnable.{openAt, limitAt}
 use Rattle.rules.proofs.moves.MoveLaws.{started-clock, started-finished-same}
 use Rattle.rules.proofs.plan.StackLaws.{
   windowLeft-is,

@@ -22,11 +22,11 @@ use Rattle.rules.specs.State.{State, fresh, shaped}
 use Rattle.rules.specs.Slots.{noSlot, places, slotAt}
 use Rattle.rules.specs.Move.{allFinished, chosen}
 use Rattle.rules.specs.Run.{starts, enoughMoves, schedule}
-use Rattle.rules.proofs.invariant.Good.{Good as GoodView}
-use Rattle.rules.proofs.invariant.GoodLaws.{acceptable-good}
-use Rattle.rules.proofs.invariant.MoveKeeps.{Kept, fresh-kept, kept-early, kept-shaped}
+use Rattle.rules.proofs.invariant.Runnable.{Runnable}
+use Rattle.rules.proofs.invariant.RunnableLaws.{acceptable-runnable}
+use Rattle.rules.proofs.invariant.MoveKeeps.{Accounted, fresh-accounted, accounted-early, accounted-shaped}
 use Rattle.rules.proofs.invariant.ClockBound.{tightBound-fits}
-use Rattle.rules.proofs.moves.StretchLaws.{later, Quiet, starts-done, quiet-kept, quiet-starts}
+use Rattle.rules.proofs.moves.StretchLaws.{later, Quiet, starts-done, quiet-accounted, quiet-starts}
 use Rattle.bench.specs.declared.Bench.{Bench}
 use Rattle.bench.specs.declared.Board.{Board}
 use Rattle.bench.specs.Held.{stateOf, benchOf}
@@ -48,7 +48,7 @@ pub record Running (load : Load) (board : Board) (clock count : ℕ) (slots : Li
   pub sized : Sized bench
   pub clock-is : bench .clock ≡ clock
   pub shows : Shows load bench board
-  pub kept : Kept (viewOf load) (stateOf bench)
+  pub kept : Accounted (viewOf load) (stateOf bench)
   -- the moves that are left, more than the clock can go on
   pub moves : ℕ
   pub moves-most : lastMoment < clock + moves
@@ -62,11 +62,11 @@ module _ (load : Load) (accepted : checkLoad load ≡ Good) (most : load .rows �
   abbrev L : View
   L = viewOf load
 
-  good : GoodView L
-  good = acceptable-good L (check-acceptable load accepted)
+  good : Runnable L
+  good = acceptable-runnable L (check-acceptable load accepted)
 
   pub fresh-shaped : shaped L (stateOf (benchOf fresh)) ≡ true
-  fresh-shaped = rw fresh-state (kept-shaped L fresh good (fresh-kept L good))
+  fresh-shaped = rw fresh-state (accounted-shaped L fresh good (fresh-accounted L good))
 
   -- before the first move
   pub running-fresh : (board : Board) → Shows load (benchOf fresh) board
@@ -78,7 +78,7 @@ module _ (load : Load) (accepted : checkLoad load ≡ Good) (most : load .rows �
         sized = fresh-sized;
         clock-is = refl;
         shows = shows;
-        kept = subst (Kept L) (sym fresh-state) (fresh-kept L good);
+        kept = subst (Accounted L) (sym fresh-state) (fresh-accounted L good);
         moves = enoughMoves;
         moves-most = omega arith;
         before = [];
@@ -97,7 +97,7 @@ module _ (load : Load) (accepted : checkLoad load ≡ Good) (most : load .rows �
     -- with work left the clock is before the last moment
     pub running-early : finishedIn board (load .rows) ≡ false → clock < lastMoment
     running-early nd =
-        omega (arith, kept-early L s good (r .kept) (sym asked ∙ nd), tightBound-fits L good, r .clock-is)
+        omega (arith, accounted-early L s good (r .kept) (sym asked ∙ nd), tightBound-fits L good, r .clock-is)
 
     -- after the last
     pub running-done : finishedIn board (load .rows) ≡ true
@@ -122,7 +122,7 @@ module _ (load : Load) (accepted : checkLoad load ≡ Good) (most : load .rows �
           sized = benchAt-sized (r .bench) (r .bench .clock + k) (r .sized);
           clock-is = ap (λ t. t + k) (r .clock-is);
           shows = shows-at load (r .bench) board (r .shows) (r .bench .clock + k);
-          kept = quiet-kept L good s (r .kept) pause k q;
+          kept = quiet-accounted L good s (r .kept) pause k q;
           moves = r .moves - k;
           moves-most = omega (arith, r .moves-most);
           before = r .before;

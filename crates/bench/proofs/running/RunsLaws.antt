@@ -19,7 +19,7 @@ use Rattle.load.proofs.AcceptableLaws.{check-acceptable}
 use Rattle.rules.specs.declared.Slot.{Slot}
 use Rattle.rules.specs.Slots.{noSlot, slotAt}
 use Rattle.rules.specs.Run.{schedule}
-use Rattle.rules.proofs.invariant.GoodLaws.{acceptable-good}
+use Rattle.rules.proofs.invariant.RunnableLaws.{acceptable-runnable}
 use Rattle.rules.proofs.run.RunMade.{schedule-is-whole}
 use Rattle.bench.specs.declared.Ran.{Ran}
 use Rattle.bench.specs.Runs.{scheduleOr}
@@ -62,7 +62,7 @@ module _ (load : Load) (accepted : checkLoad load ≡ Good) where
   -- each step is scheduled once, so there are as many slots as steps
   pub schedule-counted : length (schedule (viewOf load)) ≡ stepsInAll (viewOf load)
   schedule-counted =
-      let good = acceptable-good (viewOf load) (check-acceptable load accepted) in
+      let good = acceptable-runnable (viewOf load) (check-acceptable load accepted) in
       schedule-is-whole (viewOf load) good .in-all
 
   pub schedule-most : length (schedule (viewOf load)) ≤ 192

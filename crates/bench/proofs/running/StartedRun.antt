@@ -20,10 +20,10 @@ use Rattle.rules.specs.State.{State}
 use Rattle.rules.specs.Slots.{noSlot, places, slotAt}
 use Rattle.rules.specs.Move.{allFinished, chosen, nextSlot, startedFull}
 use Rattle.rules.specs.Run.{starts, schedule}
-use Rattle.rules.proofs.invariant.Good.{Good as GoodView}
-use Rattle.rules.proofs.invariant.GoodLaws.{acceptable-good}
-use Rattle.rules.proofs.invariant.MoveKeeps.{Kept}
-use Rattle.rules.proofs.moves.StretchLaws.{starts-start, chosen-kept}
+use Rattle.rules.proofs.invariant.Runnable.{Runnable}
+use Rattle.rules.proofs.invariant.RunnableLaws.{acceptable-runnable}
+use Rattle.rules.proofs.invariant.MoveKeeps.{Accounted}
+use Rattle.rules.proofs.moves.StretchLaws.{starts-start, chosen-accounted}
 use Rattle.bench.specs.declared.Bench.{Bench}
 use Rattle.bench.specs.declared.Look.{Look}
 use Rattle.bench.specs.declared.Board.{Board}
@@ -59,8 +59,8 @@ module _ (load : Load) (accepted : checkLoad load ≡ Good) (most : load .rows �
   abbrev s : State
   s = stateOf (r .bench)
 
-  good : GoodView L
-  good = acceptable-good L (check-acceptable load accepted)
+  good : Runnable L
+  good = acceptable-runnable L (check-acceptable load accepted)
 
   asked : finishedIn board (load .rows) ≡ allFinished L s
   asked = finished-is load (r .bench) board (r .shows) (r .sized) most
@@ -154,7 +154,7 @@ module _ (load : Load) (accepted : checkLoad load ≡ Good) (most : load .rows �
           shows =
               shows-started load (r .bench) board (r .shows) (r .sized) i l (omega arith) look
               (e ∙ ap (λ t. lookAfter (rowAt load i) board t i) (sym (r .clock-is))) m;
-          kept = subst (Kept L) (sym state) (chosen-kept L good s (r .kept) (sym asked ∙ nd) i chosen-is);
+          kept = subst (Accounted L) (sym state) (chosen-accounted L good s (r .kept) (sym asked ∙ nd) i chosen-is);
           moves = r .moves - 1;
           moves-most = omega (arith, r .moves-most, cost-least);
           before = r .before ++ (slot ∷ []);

@@ -45,18 +45,18 @@ module _ {A : Type 0} (p : A → Bool) where
       go false h = h
 
   -- a kept member has p, and stood at its place in the list
-  pub record Kept (z : A) (l : List A) (k : ℕ) : Type 0 where
+  pub record KeptMember (z : A) (l : List A) (k : ℕ) : Type 0 where
     pub below : keptPlace l k < length l
     pub has : p (getD l (keptPlace l k) z) ≡ true
     pub is : getD (keepIn p l) k z ≡ getD l (keptPlace l k) z
 
-  pub keepIn-at : (z : A) (l : List A) (k : ℕ) → k < length (keepIn p l) → Kept z l k
+  pub keepIn-at : (z : A) (l : List A) (k : ℕ) → k < length (keepIn p l) → KeptMember z l k
   unfolding keepIn keptPlace
   keepIn-at z [] k h = absurd (omega arith)
   keepIn-at z (a ∷ l) k h = go k (p a) refl h (keepIn-at z l)
     where
       go : (k : ℕ) (b : Bool) → p a ≡ b → k < length (cond b (a ∷ keepIn p l) (keepIn p l))
-          → ((k : ℕ) → k < length (keepIn p l) → Kept z l k) → Kept z (a ∷ l) k
+          → ((k : ℕ) → k < length (keepIn p l) → KeptMember z l k) → KeptMember z (a ∷ l) k
       go zero true q b ih = record { below = rw q (omega arith); has = rw q q; is = rw q }
       go zero false q b ih =
           let m = ih 0 b in

@@ -101,14 +101,15 @@ module _ (L : View) (ok : Acceptable L) (slots : List Slot) where
       go false false false rest = refl
 
   -- a slot keeps the rules whose numbers are below n
-  abbrev pub Kept : ℕ → ℕ → Type 0
-  Kept n k = (other : Rule) → numbered other < n → ¬ Breaks other L slots k
+  abbrev pub KeepsBelow : ℕ → ℕ → Type 0
+  KeepsBelow n k = (other : Rule) → numbered other < n → ¬ Breaks other L slots k
 
-  kept-13 : (k : ℕ) → Kept 13 k
-  kept-13 k other l = absurd (omega (arith, numbered-range other .0))
+  keepsBelow-13 : (k : ℕ) → KeepsBelow 13 k
+  keepsBelow-13 k other l = absurd (omega (arith, numbered-range other .0))
 
   -- one rule more
-  keep : (k : ℕ) (rule : Rule) → Kept (numbered rule) k → ¬ Breaks rule L slots k → Kept (suc (numbered rule)) k
+  keep : (k : ℕ) (rule : Rule) → KeepsBelow (numbered rule) k → ¬ Breaks rule L slots k
+      → KeepsBelow (suc (numbered rule)) k
   keep k rule low mine other l =
       elim (ℕ-discrete (numbered other) (numbered rule)) [
         | yes e ↦ (λ b. mine (subst (λ (r : Rule). Breaks r L slots k) (rule-same other rule e) b))
@@ -118,7 +119,7 @@ module _ (L : View) (ok : Acceptable L) (slots : List Slot) where
   -- the two ways in which the tests of a slot end
   pub data Way (k : ℕ) : Type 0 where
     fine : found k ≡ Good → ((rule : Rule) → ¬ Breaks rule L slots k) → Way k
-    broken : (rule : Rule) → found k ≡ Refused (refusalFor rule) → Breaks rule L slots k → Kept (numbered rule) k
+    broken : (rule : Rule) → found k ≡ Refused (refusalFor rule) → Breaks rule L slots k → KeepsBelow (numbered rule) k
         → Way k
 
   pub way : (k : ℕ) → k < length slots → NextTo slots k → Way k
@@ -128,38 +129,38 @@ module _ (L : View) (ok : Acceptable L) (slots : List Slot) where
       x : Slot
       x = slotAt slots k
 
-      fifth : Kept 17 k → (e : Bool) → endsRowLate L (slotAt slots k) ≡ e → found k ≡ five false false false false e
-          → Way k
+      fifth : KeepsBelow 17 k → (e : Bool) → endsRowLate L (slotAt slots k) ≡ e
+          → found k ≡ five false false false false e → Way k
       fifth low true q is = broken seventeen is (met17 L slots k q) low
       fifth low false q is =
           fine is (λ rule. keep k seventeen low (unmet17 L slots k q) rule (numbered-range rule .1))
 
-      fourth : Named L slots k → Kept 16 k → (d : Bool) → endsWindowLate L slots (slotAt slots k) ≡ d
+      fourth : Named L slots k → KeepsBelow 16 k → (d : Bool) → endsWindowLate L slots (slotAt slots k) ≡ d
           → found k ≡ five false false false d (endsRowLate L (slotAt slots k)) → Way k
       fourth n low true q is = broken sixteen is (met16 L slots k l before n ok q) low
       fourth n low false q is = fifth (keep k sixteen low (unmet16 L slots k l before n ok q)) _ refl is
 
-      third : Named L slots k → Kept 15 k → (c : Bool) → startsEarly L slots (slotAt slots k) ≡ c
+      third : Named L slots k → KeepsBelow 15 k → (c : Bool) → startsEarly L slots (slotAt slots k) ≡ c
           → found k ≡ five false false c (endsWindowLate L slots (slotAt slots k)) (endsRowLate L (slotAt slots k))
           → Way k
       third n low true q is = broken fifteen is (met15 L slots k l before n q) low
       third n low false q is = fourth n (keep k fifteen low (unmet15 L slots k l before n q)) _ refl is
 
-      kept-14 : Named L slots k → Kept 14 k
-      kept-14 n = keep k thirteen (kept-13 k) (named-right L slots k n)
+      keepsBelow-14 : Named L slots k → KeepsBelow 14 k
+      keepsBelow-14 n = keep k thirteen (keepsBelow-13 k) (named-right L slots k n)
 
       second : Named L slots k → (b : Bool) → overlaps L slots k (slotAt slots k) ≡ b
           → found k
           ≡ five false b (startsEarly L slots (slotAt slots k)) (endsWindowLate L slots (slotAt slots k))
           (endsRowLate L (slotAt slots k))
           → Way k
-      second n true q is = broken fourteen is (met14 L slots k q) (kept-14 n)
-      second n false q is = third n (keep k fourteen (kept-14 n) (unmet14 L slots k q)) _ refl is
+      second n true q is = broken fourteen is (met14 L slots k q) (keepsBelow-14 n)
+      second n false q is = third n (keep k fourteen (keepsBelow-14 n) (unmet14 L slots k q)) _ refl is
 
       first : (a : Bool) → asks13 L slots k ≡ a
           → found k
           ≡ five a (overlaps L slots k (slotAt slots k)) (startsEarly L slots (slotAt slots k))
           (endsWindowLate L slots (slotAt slots k)) (endsRowLate L (slotAt slots k))
           → Way k
-      first true q is = broken thirteen is (met13 L slots k q) (kept-13 k)
+      first true q is = broken thirteen is (met13 L slots k q) (keepsBelow-13 k)
       first false q is = second (unmet13 L slots k q) _ refl is

@@ -26,7 +26,7 @@ use Rattle.rules.proofs.check.BrokenSlot.{
   rule-same,
   numbered-range,
   found,
-  Kept,
+  KeepsBelow,
   Way,
   fine,
   broken,
@@ -49,7 +49,7 @@ module _ (L : View) (ok : Acceptable L) (slots : List Slot) where
   data Ways (n : ℕ) : Type 0 where
     all-fine : firstFaultTo (found L ok slots) n ≡ Good → FineTo n → Ways n
     one : (rule : Rule) → firstFaultTo (found L ok slots) n ≡ Refused (refusalFor rule) → (k : ℕ) → k < n
-        → Breaks rule L slots k → Kept L ok slots (numbered rule) k → FineTo k → Ways n
+        → Breaks rule L slots k → KeepsBelow L ok slots (numbered rule) k → FineTo k → Ways n
 
   -- one slot more
   extend : (n : ℕ) → n < length slots → Ways n → Ways (suc n)

@@ -23,7 +23,7 @@ use Rattle.rules.specs.Ready.{isReady, isAllowed, wouldEnd, isCandidate,
 use Rattle.rules.specs.Plan.{planPasses}
 use Rattle.rules.specs.Move.{started, startedFull, passes, chosen}
 use Rattle.rules.proofs.cut.CutLaws.{firstKept-le, kept-le, steps-of-cut}
-use Rattle.rules.proofs.invariant.Good.{Good}
+use Rattle.rules.proofs.invariant.Runnable.{Runnable}
 use Rattle.rules.proofs.moves.MoveLaws.{started-finished-same, started-finished-other}
 use Rattle.rules.proofs.moves.TickLaws.{allowed-free}
 use Rattle.rules.proofs.cut.CutWindows.{kept-shut}
@@ -54,7 +54,8 @@ isCandidate-there L s i h = (
     d : Bool
     d = leb (wouldEnd L s i) lastMoment
 
-module _ (L : View) (m : ℕ) (g : Good L) (s : State) (inside : (i : ℕ) → i < L .rows → s .finished i ≤ kept L m i) where
+module _ (L : View) (m : ℕ) (g : Runnable L) (s : State)
+    (inside : (i : ℕ) → i < L .rows → s .finished i ≤ kept L m i) where
   abbrev K : View
   K = cut L m
 

@@ -15,7 +15,7 @@ use Rattle.rules.specs.Ready.{release, finishedBelow, isAllowed}
 use Rattle.rules.specs.Plan.{planPasses}
 use Rattle.rules.specs.Move.{started}
 use Rattle.rules.proofs.cut.CutLaws.{firstKept-le, kept-le, kept-embedded, wait-of-cut}
-use Rattle.rules.proofs.invariant.Good.{Good}
+use Rattle.rules.proofs.invariant.Runnable.{Runnable}
 use Rattle.rules.proofs.moves.WindowsOpen.{opensAt-embedded}
 use Rattle.rules.proofs.plan.PlanLaws.{SameJob}
 use Rattle.rules.proofs.plan.StackLaws.{due-is, windowLeft-is, plan-ext}
@@ -31,7 +31,8 @@ unfolding cut
 release-of-cut L m i zero ended l = refl
 release-of-cut L m i (suc j) ended l = ap (λ w. ended + w) (wait-of-cut L m i j l)
 
-module _ (L : View) (m : ℕ) (g : Good L) (s : State) (inside : (i : ℕ) → i < L .rows → s .finished i ≤ kept L m i) where
+module _ (L : View) (m : ℕ) (g : Runnable L) (s : State)
+    (inside : (i : ℕ) → i < L .rows → s .finished i ≤ kept L m i) where
   abbrev K : View
   K = cut L m
 

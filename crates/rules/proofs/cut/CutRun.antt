@@ -19,7 +19,7 @@ use Rattle.rules.specs.Move.{Moved, ticked, chosen, allFinished, startOr
 use Rattle.rules.specs.Run.{stateAfter}
 use Rattle.rules.proofs.bound.TightBound.{tightBound, tightBound-le}
 use Rattle.rules.proofs.cut.CutLaws.{firstKept-le, steps-of-cut}
-use Rattle.rules.proofs.invariant.Good.{Good}
+use Rattle.rules.proofs.invariant.Runnable.{Runnable}
 use Rattle.rules.proofs.moves.MoveLaws.{
   Turn,
   starts,
@@ -31,9 +31,15 @@ use Rattle.rules.proofs.moves.MoveLaws.{
   move-goes,
 }
 use Rattle.rules.proofs.invariant.ClockBound.{tightBound-fits}
-use Rattle.rules.proofs.invariant.MoveKeeps.{Kept, kept-shaped, kept-early, kept-done, kept-turn}
-use Rattle.rules.proofs.run.RunLaws.{stateAfter-next, run-kept, run-clock}
-use Rattle.rules.proofs.cut.CutGood.{good-of-cut}
+use Rattle.rules.proofs.invariant.MoveKeeps.{
+  Accounted,
+  accounted-shaped,
+  accounted-early,
+  accounted-done,
+  accounted-turn,
+}
+use Rattle.rules.proofs.run.RunLaws.{stateAfter-next, run-accounted, run-clock}
+use Rattle.rules.proofs.cut.CutRunnable.{runnable-of-cut}
 use Rattle.rules.proofs.cut.CutMoves.{startedFull-same, chosen-same}
 
 -- a row with steps left, and so not all finished
@@ -51,17 +57,17 @@ late-unfinished L s z lz late = go (allTo (λ i. leb (L .steps i) (s .finished i
         ))
 
 -- a move with work left
-kept-goes : (L : View) (s : State) → Good L → Kept L s → allFinished L s ≡ false
+accounted-goes : (L : View) (s : State) → Runnable L → Accounted L s → allFinished L s ≡ false
     → move L s ≡ startOrIdle L s (chosen L s)
-kept-goes L s g v nd =
-    move-goes L s (kept-shaped L s g v) nd (omega (arith, kept-early L s g v nd, tightBound-fits L g))
+accounted-goes L s g v nd =
+    move-goes L s (accounted-shaped L s g v) nd (omega (arith, accounted-early L s g v nd, tightBound-fits L g))
 
 -- a finished row stays as it is
 record Stays (s t : State) (z : ℕ) : Type 0 where
   finished-same : t .finished z ≡ s .finished z
   end-same : t .end z ≡ s .end z
 
-move-stays : (L : View) (s : State) (z : ℕ) → Good L → Kept L s → L .steps z ≤ s .finished z
+move-stays : (L : View) (s : State) (z : ℕ) → Runnable L → Accounted L s → L .steps z ≤ s .finished z
     → Stays s (move L s .then) z
 unfolding ticked
 move-stays L s z g v h = go (allFinished L s) refl
@@ -78,30 +84,30 @@ move-stays L s z g v h = go (allFinished L s) refl
     by (idles no-one e) = rw e (record { finished-same = refl; end-same = refl })
 
     go : (b : Bool) → allFinished L s ≡ b → Stays s (move L s .then) z
-    go true d = rw (kept-done L s g v d) (record { finished-same = refl; end-same = refl })
-    go false d = by (kept-turn L s g v d)
+    go true d = rw (accounted-done L s g v d) (record { finished-same = refl; end-same = refl })
+    go false d = by (accounted-turn L s g v d)
 
-module _ (L : View) (g : Good L) (z : ℕ) (lz : z < L .rows) where
+module _ (L : View) (g : Runnable L) (z : ℕ) (lz : z < L .rows) where
   abbrev m : ℕ
   m = L .steps z
 
   abbrev K : View
   K = cut L m
 
-  gK : Good K
-  gK = good-of-cut L m g (g .steps-least z lz)
+  gK : Runnable K
+  gK = runnable-of-cut L m g (g .steps-least z lz)
 
   lz′ : z < K .rows
   unfolding cut
   lz′ = lz
 
   -- the two loads move alike
-  move-same : (s : State) → Kept L s → Kept K s → s .finished z < L .steps z → move K s .then ≡ move L s .then
+  move-same : (s : State) → Accounted L s → Accounted K s → s .finished z < L .steps z → move K s .then ≡ move L s .then
   unfolding cut
   move-same s v vK late =
-      ap (λ (w : Moved). w .then) (kept-goes K s gK vK nK)
+      ap (λ (w : Moved). w .then) (accounted-goes K s gK vK nK)
       ∙ (ap (λ f. startOrIdle K s f .then) (chosen-same L m g s inside z lz (omega arith) late)
-      ∙ (go (chosen L s) refl ∙ sym (ap (λ (w : Moved). w .then) (kept-goes L s g v nL))))
+      ∙ (go (chosen L s) refl ∙ sym (ap (λ (w : Moved). w .then) (accounted-goes L s g v nL))))
     where
       inside : (i : ℕ) → i < L .rows → s .finished i ≤ kept L m i
       inside i l = omega (arith, vK .invariant .shape .finished-le i l, steps-of-cut L m i)
@@ -135,7 +141,7 @@ module _ (L : View) (g : Good L) (z : ℕ) (lz : z < L .rows) where
             (let same : stateAfter K (suc t) fresh ≡ stateAfter L (suc t) fresh =
             stateAfter-next K t fresh
             ∙ (ap (λ x. move K x .then) (r .still late) ∙ (alike late ∙ sym (stateAfter-next L t fresh))) in
-            let v = run-kept K gK (suc t) in
+            let v = run-accounted K gK (suc t) in
             record {
               still = λ _. same;
               over = λ _.
@@ -147,7 +153,7 @@ module _ (L : View) (g : Good L) (z : ℕ) (lz : z < L .rows) where
                   ));
             })
         | no done ↦
-            (let o = move-stays L s z g (run-kept L g t) (omega arith) in
+            (let o = move-stays L s z g (run-accounted L g t) (omega arith) in
             let e = stateAfter-next L t fresh in
             record {
               still = λ l. absurd (omega (arith, o .finished-same, ap (λ (x : State). x .finished z) e));
@@ -159,7 +165,7 @@ module _ (L : View) (g : Good L) (z : ℕ) (lz : z < L .rows) where
       s = stateAfter L t fresh
 
       alike : s .finished z < L .steps z → move K s .then ≡ move L s .then
-      alike late = move-same s (run-kept L g t) (subst (Kept K) (r .still late) (run-kept K gK t)) late
+      alike late = move-same s (run-accounted L g t) (subst (Accounted K) (r .still late) (run-accounted K gK t)) late
 
   race : (t : ℕ) → Race t
   race zero = start-race

@@ -30,10 +30,10 @@ use Rattle.rules.proofs.cut.CutLaws.{
   embedded-kept,
   wait-of-cut,
 }
-use Rattle.rules.proofs.invariant.Good.{Good, openAt, limitAt, leftAt}
+use Rattle.rules.proofs.invariant.Runnable.{Runnable, openAt, limitAt, leftAt}
 use Rattle.rules.proofs.moves.WindowsOpen.{Open, openWith-true, embedded-place}
 
-module _ (L : View) (m : ℕ) (g : Good L) where
+module _ (L : View) (m : ℕ) (g : Runnable L) where
   abbrev K : View
   K = cut L m
 

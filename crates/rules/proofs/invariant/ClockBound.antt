@@ -14,11 +14,11 @@ use Rattle.rules.specs.State.{State}
 use Rattle.rules.specs.Ready.{wouldEnd}
 use Rattle.rules.proofs.bound.TightBound.{minima, tightBound}
 use Rattle.rules.proofs.bound.BoundLaws.{Ranged, boundBy-le}
-use Rattle.rules.proofs.invariant.Good.{Good}
+use Rattle.rules.proofs.invariant.Runnable.{Runnable}
 use Rattle.rules.proofs.invariant.Invariant.{spent, waitedRow, waitedOf, waited, waitPlaces, Invariant}
 
-pub good-ranged : (L : View) → Good L → Ranged L
-good-ranged L g =
+pub runnable-ranged : (L : View) → Runnable L → Ranged L
+runnable-ranged L g =
     record {
       rows-most = g .rows-most;
       steps-most = g .steps-most;
@@ -27,12 +27,12 @@ good-ranged L g =
       wait-most = λ i j l h. g .wait-most i j l (omega arith);
     }
 
-pub tightBound-fits : (L : View) → Good L → tightBound L ≤ lastMoment
+pub tightBound-fits : (L : View) → Runnable L → tightBound L ≤ lastMoment
 unfolding tightBound
-tightBound-fits L g = omega (arith, boundBy-le L (good-ranged L g) minima)
+tightBound-fits L g = omega (arith, boundBy-le L (runnable-ranged L g) minima)
 
 -- all a row has waited is among its embedded waits
-waitedRow-le : (L : View) (i f since : ℕ) → Good L → i < L .rows → f ≤ L .steps i
+waitedRow-le : (L : View) (i f since : ℕ) → Runnable L → i < L .rows → f ≤ L .steps i
     → waitedRow L i f since ≤ sumTo (embeddedWaitAt L i) (L .steps i - 1)
 waitedRow-le L i zero since g l h = omega arith
 waitedRow-le L i (suc j) since g l h = go (embeddedWait L i j) refl
@@ -46,7 +46,7 @@ waitedRow-le L i (suc j) since g l h = go (embeddedWait L i j) refl
         let inside = g .embedded-in i (suc j) l e in
         omega (arith, w, sumTo-more-term (embeddedWaitAt L i) j (L .steps i - 1) (omega arith))
 
-module _ (L : View) (s : State) (g : Good L) {E P : ℕ} {F : ℕ → ℕ} (v : Invariant L s E P F) where
+module _ (L : View) (s : State) (g : Runnable L) {E P : ℕ} {F : ℕ → ℕ} (v : Invariant L s E P F) where
   waited-le : waited L s ≤ allEmbeddedWaits L
   unfolding waited allEmbeddedWaits
   waited-le =

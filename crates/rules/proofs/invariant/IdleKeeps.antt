@@ -23,7 +23,7 @@ use Rattle.rules.specs.Ready.{release, released}
 use Rattle.rules.specs.Plan.{stack, planPasses}
 use Rattle.rules.specs.Move.{ticked}
 use Rattle.rules.proofs.bound.TightBound.{minima}
-use Rattle.rules.proofs.invariant.Good.{Good}
+use Rattle.rules.proofs.invariant.Runnable.{Runnable}
 use Rattle.rules.proofs.moves.WindowsOpen.{opensAt-embedded}
 use Rattle.rules.proofs.moves.MoveLaws.{CanStart}
 use Rattle.rules.proofs.plan.PlanLaws.{FirstWaits}
@@ -51,7 +51,7 @@ use Rattle.rules.proofs.moves.TickLaws.{
   waitLeft-le,
 }
 
-module _ (L : View) (s : State) (g : Good L) {E P : ℕ} {F : ℕ → ℕ} (v : Invariant L s E P F)
+module _ (L : View) (s : State) (g : Runnable L) {E P : ℕ} {F : ℕ → ℕ} (v : Invariant L s E P F)
     (none : (i : ℕ) → CanStart L s i → ⊥) where
   -- the first of the stack is inside its embedded wait
   head-waits : (r : ℕ) (rest : List ℕ) → stack L s ≡ r ∷ rest → s .clock < released L s r

@@ -18,7 +18,7 @@ use Rattle.rules.specs.Plan.{stack}
 use Rattle.rules.specs.Move.{startedFull, ticked, allFinished, handedBack, move}
 use Rattle.rules.specs.declared.Outcome.the-variants.{Done}
 use Rattle.rules.proofs.bound.TightBound.{tightBound}
-use Rattle.rules.proofs.invariant.Good.{Good}
+use Rattle.rules.proofs.invariant.Runnable.{Runnable}
 use Rattle.rules.proofs.moves.MoveLaws.{CanStart, Turn, starts, idles, started-clock, move-done, move-turn}
 use Rattle.rules.proofs.plan.StartPasses.{fresh-passes}
 use Rattle.rules.proofs.moves.ShapeExact.{shape-shaped}
@@ -28,16 +28,16 @@ use Rattle.rules.proofs.invariant.StartKeeps.{start-keeps}
 use Rattle.rules.proofs.invariant.ClockBound.{tightBound-fits, clock-in-bound, next-le}
 use Rattle.rules.proofs.invariant.IdleKeeps.{idle-open, idle-phase, idle-wait}
 
--- the invariant holds for some counts of idle ticks
-pub record Kept (L : View) (s : State) : Type 0 where
+-- every tick is accounted for: the invariant holds for some counts of idle ticks
+pub record Accounted (L : View) (s : State) : Type 0 where
   pub openTicks : ℕ
   pub phaseTicks : ℕ
   pub waitTicks : ℕ → ℕ
   pub invariant : Invariant L s openTicks phaseTicks waitTicks
 
-pub fresh-kept : (L : View) → Good L → Kept L fresh
+pub fresh-accounted : (L : View) → Runnable L → Accounted L fresh
 unfolding fresh spent sumTo
-fresh-kept L g =
+fresh-accounted L g =
     record {
       openTicks = 0;
       phaseTicks = 0;
@@ -121,9 +121,9 @@ oldest L s j i l more e = go (least waits (s .end) (L .rows))
           old = λ k lk a b. f k lk (is k a b);
         }
 
-module _ (L : View) (s : State) (g : Good L) (v : Kept L s) where
-  pub start-kept : (i : ℕ) → CanStart L s i → Kept L (startedFull L s i)
-  start-kept i c =
+module _ (L : View) (s : State) (g : Runnable L) (v : Accounted L s) where
+  pub start-accounted : (i : ℕ) → CanStart L s i → Accounted L (startedFull L s i)
+  start-accounted i c =
       record {
         openTicks = v .openTicks;
         phaseTicks = v .phaseTicks;
@@ -131,13 +131,13 @@ module _ (L : View) (s : State) (g : Good L) (v : Kept L s) where
         invariant = start-keeps L s i g (c .there) (c .more) (v .invariant) (c .allowed) (c .plan);
       }
 
-  pub idle-kept : allFinished L s ≡ false → ((i : ℕ) → CanStart L s i → ⊥) → Kept L (ticked s)
-  idle-kept nd none = go (stack L s) refl
+  pub idle-accounted : allFinished L s ≡ false → ((i : ℕ) → CanStart L s i → ⊥) → Accounted L (ticked s)
+  idle-accounted nd none = go (stack L s) refl
     where
       lo : Lowest L s
       lo = lowest L s nd
 
-      at : stack L s ≡ [] → (j : ℕ) → s .finished (lo .row) ≡ j → Kept L (ticked s)
+      at : stack L s ≡ [] → (j : ℕ) → s .finished (lo .row) ≡ j → Accounted L (ticked s)
       at shut zero e =
           record {
             openTicks = v .openTicks;
@@ -157,7 +157,7 @@ module _ (L : View) (s : State) (g : Good L) (v : Kept L s) where
                 (λ k lk. omega (arith, lo .low k lk)) (o .old);
           })
 
-      go : (l : List ℕ) → stack L s ≡ l → Kept L (ticked s)
+      go : (l : List ℕ) → stack L s ≡ l → Accounted L (ticked s)
       go [] e = at e (s .finished (lo .row)) refl
       go (r ∷ rest) e =
           record {
@@ -167,16 +167,16 @@ module _ (L : View) (s : State) (g : Good L) (v : Kept L s) where
             invariant = idle-open L s g (v .invariant) none r rest e;
           }
 
-  pub kept-clock : s .clock ≤ tightBound L
-  kept-clock = clock-in-bound L s g (v .invariant)
+  pub accounted-clock : s .clock ≤ tightBound L
+  accounted-clock = clock-in-bound L s g (v .invariant)
 
-  pub kept-shaped : shaped L s ≡ true
-  kept-shaped =
-      shape-shaped L s (rows-shape L s (v .invariant .shape) (omega (arith, kept-clock, tightBound-fits L g)))
+  pub accounted-shaped : shaped L s ≡ true
+  accounted-shaped =
+      shape-shaped L s (rows-shape L s (v .invariant .shape) (omega (arith, accounted-clock, tightBound-fits L g)))
 
   -- with work left the clock is below the bound
-  pub kept-early : allFinished L s ≡ false → s .clock < tightBound L
-  kept-early nd =
+  pub accounted-early : allFinished L s ≡ false → s .clock < tightBound L
+  accounted-early nd =
       let lo = lowest L s nd in
       omega (
         arith,
@@ -184,15 +184,15 @@ module _ (L : View) (s : State) (g : Good L) (v : Kept L s) where
         g .cost-least (lo .row) (s .finished (lo .row)) (lo .there) (lo .more),
       )
 
-  pub kept-done : allFinished L s ≡ true → move L s ≡ handedBack L s Done
-  kept-done = move-done L s kept-shaped
+  pub accounted-done : allFinished L s ≡ true → move L s ≡ handedBack L s Done
+  accounted-done = move-done L s accounted-shaped
 
-  pub kept-turn : allFinished L s ≡ false → Turn L s
-  kept-turn nd = move-turn L s kept-shaped nd (omega (arith, kept-early nd, tightBound-fits L g))
+  pub accounted-turn : allFinished L s ≡ false → Turn L s
+  accounted-turn nd = move-turn L s accounted-shaped nd (omega (arith, accounted-early nd, tightBound-fits L g))
 
-  turn-kept : allFinished L s ≡ false → Turn L s → Kept L (move L s .then)
-  turn-kept nd (starts i c e) = rw e (start-kept i c)
-  turn-kept nd (idles none e) = rw e (idle-kept nd none)
+  turn-accounted : allFinished L s ≡ false → Turn L s → Accounted L (move L s .then)
+  turn-accounted nd (starts i c e) = rw e (start-accounted i c)
+  turn-accounted nd (idles none e) = rw e (idle-accounted nd none)
 
   turn-later : Turn L s → s .clock < move L s .then .clock
   unfolding ticked
@@ -205,12 +205,12 @@ module _ (L : View) (s : State) (g : Good L) (v : Kept L s) where
       ))
   turn-later (idles none e) = rw e (omega arith)
 
-  pub move-kept : Kept L (move L s .then)
-  move-kept = go (allFinished L s) refl
+  pub move-accounted : Accounted L (move L s .then)
+  move-accounted = go (allFinished L s) refl
     where
-      go : (b : Bool) → allFinished L s ≡ b → Kept L (move L s .then)
-      go true d = rw (kept-done d) v
-      go false d = turn-kept d (kept-turn d)
+      go : (b : Bool) → allFinished L s ≡ b → Accounted L (move L s .then)
+      go true d = rw (accounted-done d) v
+      go false d = turn-accounted d (accounted-turn d)
 
   pub move-later : allFinished L s ≡ false → s .clock < move L s .then .clock
-  move-later nd = turn-later (kept-turn nd)
+  move-later nd = turn-later (accounted-turn nd)

@@ -13,7 +13,7 @@ use Rattle.load.specs.View.{View, embedded, isFree}
 use Rattle.rules.specs.State.{State}
 use Rattle.rules.specs.Ready.{isAllowed}
 use Rattle.rules.specs.Move.{startedFull, passes}
-use Rattle.rules.proofs.invariant.Good.{Good}
+use Rattle.rules.proofs.invariant.Runnable.{Runnable}
 use Rattle.rules.proofs.moves.MoveLaws.{
   started-clock,
   started-finished-same,
@@ -45,7 +45,7 @@ use Rattle.rules.proofs.invariant.Invariant.{
   workedSince-none,
 }
 
-module _ (L : View) (s : State) (k : ℕ) (g : Good L) (lk : k < L .rows) (fk : s .finished k < L .steps k) where
+module _ (L : View) (s : State) (k : ℕ) (g : Runnable L) (lk : k < L .rows) (fk : s .finished k < L .steps k) where
   c : ℕ
   c = L .cost k (s .finished k)
 

@@ -11,7 +11,7 @@ use Rattle.load.specs.View.{View, embedded}
 use Rattle.rules.specs.State.{State, fresh, isOpen, opensAt}
 use Rattle.rules.specs.Shape.{HasOpen, Unused, Shape}
 use Rattle.rules.specs.Move.{started, ticked, openingAfter}
-use Rattle.rules.proofs.invariant.Good.{Good}
+use Rattle.rules.proofs.invariant.Runnable.{Runnable}
 use Rattle.rules.proofs.moves.WindowsOpen.{opensAt-embedded}
 use Rattle.rules.proofs.moves.ShapeExact.{hasOpen-isOpen, isOpen-hasOpen}
 use Rattle.rules.proofs.moves.MoveLaws.{
@@ -58,7 +58,7 @@ module _ (L : View) (s : State) (h : RowsShaped L s) where
         unused = λ i l most. h .unused i l;
       }
 
-pub fresh-shape : (L : View) → Good L → RowsShaped L fresh
+pub fresh-shape : (L : View) → Runnable L → RowsShaped L fresh
 unfolding fresh
 fresh-shape L g =
     record {
@@ -84,7 +84,7 @@ ticked-keeps-shape L s h =
           record { no-steps = u .no-steps; no-end = u .no-end; no-opening = u .no-opening });
     }
 
-module _ (L : View) (s : State) (k long : ℕ) (g : Good L) (h : RowsShaped L s) (there : k < L .rows)
+module _ (L : View) (s : State) (k long : ℕ) (g : Runnable L) (h : RowsShaped L s) (there : k < L .rows)
     (more : s .finished k < L .steps k) where
   own-opening-le : embedded L k (suc (s .finished k)) ≡ true → openingAfter L s k ≤ s .clock + long
   own-opening-le e = go (isOpen L s k) refl

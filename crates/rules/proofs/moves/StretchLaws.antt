@@ -21,10 +21,16 @@ use Rattle.rules.specs.Move.{
   move,
 }
 use Rattle.rules.specs.Run.{starts}
-use Rattle.rules.proofs.invariant.Good.{Good}
+use Rattle.rules.proofs.invariant.Runnable.{Runnable}
 use Rattle.rules.proofs.moves.MoveLaws.{move-goes}
 use Rattle.rules.proofs.invariant.ClockBound.{tightBound-fits}
-use Rattle.rules.proofs.invariant.MoveKeeps.{Kept, kept-done, kept-early, kept-shaped, move-kept}
+use Rattle.rules.proofs.invariant.MoveKeeps.{
+  Accounted,
+  accounted-done,
+  accounted-early,
+  accounted-shaped,
+  move-accounted,
+}
 use Rattle.rules.proofs.run.RunLaws.{starts-move, starts-zero}
 
 -- a state so many ticks later
@@ -51,15 +57,15 @@ finished-later : (L : View) (s : State) (k : ℕ) → allFinished L (later s k) 
 unfolding allFinished
 finished-later L s k = refl
 
-module _ (L : View) (g : Good L) where
+module _ (L : View) (g : Runnable L) where
   -- after Done there are no more
-  pub starts-done : (n : ℕ) (s : State) → Kept L s → allFinished L s ≡ true → starts L n s ≡ []
+  pub starts-done : (n : ℕ) (s : State) → Accounted L s → allFinished L s ≡ true → starts L n s ≡ []
   starts-done zero s v d = starts-zero L g s
-  starts-done (suc n) s v d = starts-move L n s (handedBack L s Done) (kept-done L s g v d)
+  starts-done (suc n) s v d = starts-move L n s (handedBack L s Done) (accounted-done L s g v d)
 
-  module _ (s : State) (v : Kept L s) (nd : allFinished L s ≡ false) where
+  module _ (s : State) (v : Accounted L s) (nd : allFinished L s ≡ false) where
     goes : move L s ≡ startOrIdle L s (chosen L s)
-    goes = move-goes L s (kept-shaped L s g v) nd (omega (arith, kept-early L s g v nd, tightBound-fits L g))
+    goes = move-goes L s (accounted-shaped L s g v) nd (omega (arith, accounted-early L s g v nd, tightBound-fits L g))
 
     -- the row that is chosen starts
     module _ (i : ℕ) (e : chosen L s ≡ at i) where
@@ -69,8 +75,8 @@ module _ (L : View) (g : Good L) where
       pub starts-start : (n : ℕ) → starts L (suc n) s ≡ nextSlot s i ∷ starts L n (startedFull L s i)
       starts-start n = starts-move L n s (handedBack L (startedFull L s i) (Start (nextSlot s i))) start-move
 
-      pub chosen-kept : Kept L (startedFull L s i)
-      chosen-kept = subst (λ (m : Moved). Kept L (m .then)) start-move (move-kept L s g v)
+      pub chosen-accounted : Accounted L (startedFull L s i)
+      chosen-accounted = subst (λ (m : Moved). Accounted L (m .then)) start-move (move-accounted L s g v)
 
     -- where nothing is chosen, the clock moves one tick
     module _ (e : chosen L s ≡ none) where
@@ -80,18 +86,18 @@ module _ (L : View) (g : Good L) where
       starts-idle : (n : ℕ) → starts L (suc n) s ≡ starts L n (ticked s)
       starts-idle n = starts-move L n s (handedBack L (ticked s) Idle) idle-move
 
-      ticked-kept : Kept L (ticked s)
-      ticked-kept = subst (λ (m : Moved). Kept L (m .then)) idle-move (move-kept L s g v)
+      ticked-accounted : Accounted L (ticked s)
+      ticked-accounted = subst (λ (m : Moved). Accounted L (m .then)) idle-move (move-accounted L s g v)
 
-  module _ (s : State) (v : Kept L s) (nd : allFinished L s ≡ false) where
+  module _ (s : State) (v : Accounted L s) (nd : allFinished L s ≡ false) where
     still : (k : ℕ) → allFinished L (later s k) ≡ false
     still k = finished-later L s k ∙ nd
 
-    pub quiet-kept : (k : ℕ) → Quiet L s k → Kept L (later s k)
-    quiet-kept zero q = subst (Kept L) (sym (later-none s)) v
-    quiet-kept (suc k) q =
-        subst (Kept L) (ticked-later s k)
-        (ticked-kept (later s k) (quiet-kept k (λ d l. q d (omega arith))) (still k) (q k (omega arith)))
+    pub quiet-accounted : (k : ℕ) → Quiet L s k → Accounted L (later s k)
+    quiet-accounted zero q = subst (Accounted L) (sym (later-none s)) v
+    quiet-accounted (suc k) q =
+        subst (Accounted L) (ticked-later s k)
+        (ticked-accounted (later s k) (quiet-accounted k (λ d l. q d (omega arith))) (still k) (q k (omega arith)))
 
     -- a stretch of ticks at which nothing is chosen is that many Idle moves
     pub quiet-starts : (k n : ℕ) → Quiet L s k → starts L (n + k) s ≡ starts L n (later s k)
@@ -103,5 +109,5 @@ module _ (L : View) (g : Good L) where
         let before : Quiet L s k = λ d l. q d (omega arith) in
         ap (λ m. starts L m s) e
         ∙ (quiet-starts k (suc n) before
-        ∙ (starts-idle (later s k) (quiet-kept k before) (still k) (q k (omega arith)) n
+        ∙ (starts-idle (later s k) (quiet-accounted k before) (still k) (q k (omega arith)) n
         ∙ ap (starts L n) (ticked-later s k)))

@@ -14,7 +14,7 @@ use Rattle.load.specs.View.{View, embedded}
 use Rattle.load.specs.Acceptable.{windowOf as windowAt}
 use Rattle.load.proofs.WindowLaws.{open-embedded}
 use Rattle.rules.specs.State.{openWith, opensAt}
-use Rattle.rules.proofs.invariant.Good.{openAt}
+use Rattle.rules.proofs.invariant.Runnable.{openAt}
 
 -- a window that is open with f steps finished, as facts
 pub record Open (f : ℕ) (w : Window) : Type 0 where

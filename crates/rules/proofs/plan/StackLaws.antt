@@ -15,7 +15,7 @@ use Rattle.rules.specs.State.{State, isOpen, openWindow, opensAt}
 use Rattle.rules.specs.Ready.{release, released}
 use Rattle.rules.specs.Plan.{due, stack, windowLeft, inTime, planPasses}
 use Rattle.rules.specs.Move.{started, ticked, openingAfter}
-use Rattle.rules.proofs.invariant.Good.{openAt, limitAt, leftAt}
+use Rattle.rules.proofs.invariant.Runnable.{openAt, limitAt, leftAt}
 use Rattle.rules.proofs.moves.MoveLaws.{
   started-finished-same,
   started-finished-other,

@@ -19,7 +19,7 @@ use Rattle.rules.specs.State.{State, fresh, isOpen, opensAt}
 use Rattle.rules.specs.Ready.{released}
 use Rattle.rules.specs.Plan.{due, stack, finish, inTime, planPasses}
 use Rattle.rules.specs.Move.{started, startedFull, passes}
-use Rattle.rules.proofs.invariant.Good.{Good}
+use Rattle.rules.proofs.invariant.Runnable.{Runnable}
 use Rattle.rules.proofs.moves.WindowsOpen.{opensAt-embedded}
 use Rattle.rules.proofs.moves.MoveLaws.{started-clock, openingAfter-kept, openingAfter-new}
 use Rattle.rules.proofs.plan.PlanLaws.{SameJob, inTime-ext, inTime-next, inTime-none}
@@ -66,7 +66,7 @@ stack-rest L s r rest long first shut =
     gone : isOpen L s′ r ≡ false
     gone = isOpen-same L s r long ∙ shut
 
-module _ (L : View) (s : State) (g : Good L) (r : ℕ) (rest : List ℕ) (first : stack L s ≡ r ∷ rest) where
+module _ (L : View) (s : State) (g : Runnable L) (r : ℕ) (rest : List ℕ) (first : stack L s ≡ r ∷ rest) where
   pub head-embedded : embedded L r (s .finished r) ≡ true
   head-embedded =
       let h = head-there L s r rest first in
@@ -167,7 +167,7 @@ stack-one L s k l h o =
     (numbersWhere-one (isOpen L s) (L .rows) k l h ∙ ap (λ b. cond b (k ∷ []) []) o)
 
 -- any next step passes while no window is open
-pub free-passes : (L : View) (s : State) (k : ℕ) → Good L → k < L .rows
+pub free-passes : (L : View) (s : State) (k : ℕ) → Runnable L → k < L .rows
     → ((i : ℕ) → i < L .rows → embedded L i (s .finished i) ≡ false) → passes L s k ≡ true
 unfolding passes
 free-passes L s k g l none = go (embedded L k (suc (s .finished k))) refl
@@ -214,7 +214,7 @@ free-passes L s k g l none = go (embedded L k (suc (s .finished k))) refl
         (inTime-none L s′ (finish L s′ (s′ .clock) k)))
 
 -- and fresh passes
-pub fresh-passes : (L : View) → Good L → planPasses L fresh 0 ≡ true
+pub fresh-passes : (L : View) → Runnable L → planPasses L fresh 0 ≡ true
 unfolding fresh
 fresh-passes L g =
     ap (inTime L fresh 0) (stack-none L fresh (λ i l. opensAt-embedded L i 0 ∙ g .first-free i l))

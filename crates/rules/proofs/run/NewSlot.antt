@@ -20,7 +20,7 @@ use Rattle.rules.specs.Plan.{planPasses}
 use Rattle.rules.specs.Move.{nextSlot}
 use Rattle.rules.specs.Slots.{slotAt, rowOf, slotEnd}
 use Rattle.rules.specs.ScheduleRules.{NamesStep}
-use Rattle.rules.proofs.invariant.Good.{Good, leftAt}
+use Rattle.rules.proofs.invariant.Runnable.{Runnable, leftAt}
 use Rattle.rules.proofs.moves.WindowsOpen.{opensAt-embedded}
 use Rattle.rules.proofs.moves.MoveLaws.{CanStart}
 use Rattle.rules.proofs.plan.StackLaws.{due-is, windowLeft-is, plan-in-time}
@@ -40,14 +40,14 @@ window-opens L i p f l a b =
     (lt-ltb f (windowAt L i p .last) b))
 
 -- the next step of an open window is at least left of it
-cost-le-left : (L : View) (i f : ℕ) → Good L → i < L .rows → embedded L i f ≡ true → L .cost i f ≤ leftAt L i f
+cost-le-left : (L : View) (i f : ℕ) → Runnable L → i < L .rows → embedded L i f ≡ true → L .cost i f ≤ leftAt L i f
 cost-le-left L i f g l e = go (embedded L i (suc f)) refl
   where
     go : (b : Bool) → embedded L i (suc f) ≡ b → L .cost i f ≤ leftAt L i f
     go true q = omega (arith, g .left-more i f l e q)
     go false q = omega (arith, g .left-last i f l e q)
 
-module _ (L : View) (s : State) (i : ℕ) (slots : List Slot) (g : Good L) (plan : planPasses L s (s .clock) ≡ true)
+module _ (L : View) (s : State) (i : ℕ) (slots : List Slot) (g : Runnable L) (plan : planPasses L s (s .clock) ≡ true)
     (c : CanStart L s i) (m : Made L s slots) where
   abbrev x : Slot
   x = nextSlot s i

@@ -15,12 +15,12 @@ use Rattle.rules.specs.Move.{startedFull, ticked, allFinished, nextSlot,
 use Rattle.rules.specs.Run.{stateAfter, starts, schedule}
 use Rattle.rules.specs.Slots.{slotEnd, lastEnd}
 use Rattle.rules.proofs.bound.TightBound.{tightBound, tightBound-le}
-use Rattle.rules.proofs.invariant.Good.{Good}
+use Rattle.rules.proofs.invariant.Runnable.{Runnable}
 use Rattle.rules.proofs.moves.MoveLaws.{Turn, starts as starting, idles, started-clock}
-use Rattle.rules.proofs.invariant.MoveKeeps.{Kept, fresh-kept, kept-done, kept-turn}
+use Rattle.rules.proofs.invariant.MoveKeeps.{Accounted, fresh-accounted, accounted-done, accounted-turn}
 use Rattle.rules.proofs.run.RunLaws.{
   stateAfter-next,
-  run-kept,
+  run-accounted,
   run-finished,
   run-clock,
   starts-next,
@@ -46,8 +46,8 @@ ticked-finished L s = refl
 abbrev EndsNow : View → State → List Slot → Type 0
 EndsNow L s slots = allFinished L s ≡ true → lastEnd L slots ≡ s .clock
 
-module _ (L : View) (g : Good L) where
-  move-ends : (s : State) (slots : List Slot) → Kept L s → EndsNow L s slots
+module _ (L : View) (g : Runnable L) where
+  move-ends : (s : State) (slots : List Slot) → Accounted L s → EndsNow L s slots
       → EndsNow L (move L s .then) (slots ++ toldBy (move L s .outcome) .starts)
   move-ends s slots v h = go (allFinished L s) refl
     where
@@ -65,8 +65,8 @@ module _ (L : View) (g : Good L) where
 
       go : (b : Bool) → allFinished L s ≡ b
           → EndsNow L (move L s .then) (slots ++ toldBy (move L s .outcome) .starts)
-      go true d = rw (kept-done L s g v d) (rw (append-nil slots) h)
-      go false d = by d (kept-turn L s g v d)
+      go true d = rw (accounted-done L s g v d) (rw (append-nil slots) h)
+      go false d = by d (accounted-turn L s g v d)
 
   fresh-ends : EndsNow L (stateAfter L 0 fresh) (starts L 0 fresh)
   unfolding starts stateAfter fresh
@@ -75,8 +75,8 @@ module _ (L : View) (g : Good L) where
   pub run-ends-now : (n : ℕ) → EndsNow L (stateAfter L n fresh) (starts L n fresh)
   run-ends-now zero = fresh-ends
   run-ends-now (suc n) =
-      rw (stateAfter-next L n fresh, starts-next L g n fresh (fresh-kept L g))
-      (move-ends (stateAfter L n fresh) (starts L n fresh) (run-kept L g n) (run-ends-now n))
+      rw (stateAfter-next L n fresh, starts-next L g n fresh (fresh-accounted L g))
+      (move-ends (stateAfter L n fresh) (starts L n fresh) (run-accounted L g n) (run-ends-now n))
 
   -- the schedule ends when the run does
   pub schedule-ends : (n : ℕ) → tightBound L ≤ n → lastEnd L (schedule L) ≡ stateAfter L n fresh .clock

@@ -17,17 +17,17 @@ use Rattle.rules.specs.Outcomes.{toldBy}
 use Rattle.rules.specs.Move.{Moved, startedFull, ticked, allFinished, nextSlot, handedBack, move}
 use Rattle.rules.specs.Run.{stateAfter, startsFrom, starts, enoughMoves, schedule}
 use Rattle.rules.proofs.bound.TightBound.{tightBound}
-use Rattle.rules.proofs.invariant.Good.{Good}
+use Rattle.rules.proofs.invariant.Runnable.{Runnable}
 use Rattle.rules.proofs.moves.MoveLaws.{Turn, starts as starting, idles}
 use Rattle.rules.proofs.invariant.ClockBound.{tightBound-fits}
 use Rattle.rules.proofs.invariant.MoveKeeps.{
-  Kept,
-  fresh-kept,
-  kept-clock,
-  kept-early,
-  kept-done,
-  kept-turn,
-  move-kept,
+  Accounted,
+  fresh-accounted,
+  accounted-clock,
+  accounted-early,
+  accounted-done,
+  accounted-turn,
+  move-accounted,
   move-later,
 }
 
@@ -42,27 +42,27 @@ pub starts-move : (L : View) (n : ℕ) (s : State) (m : Moved) → move L s ≡ 
 unfolding starts
 starts-move L n s m e = ap (λ (w : Moved). startsFrom (w .outcome) (w .then) (starts L n)) e
 
-module _ (L : View) (g : Good L) where
-  pub stateAfter-kept : (n : ℕ) (s : State) → Kept L s → Kept L (stateAfter L n s)
+module _ (L : View) (g : Runnable L) where
+  pub stateAfter-accounted : (n : ℕ) (s : State) → Accounted L s → Accounted L (stateAfter L n s)
   unfolding stateAfter
-  stateAfter-kept zero s v = v
-  stateAfter-kept (suc n) s v = stateAfter-kept n (move L s .then) (move-kept L s g v)
+  stateAfter-accounted zero s v = v
+  stateAfter-accounted (suc n) s v = stateAfter-accounted n (move L s .then) (move-accounted L s g v)
 
-  pub run-kept : (n : ℕ) → Kept L (stateAfter L n fresh)
-  run-kept n = stateAfter-kept n fresh (fresh-kept L g)
+  pub run-accounted : (n : ℕ) → Accounted L (stateAfter L n fresh)
+  run-accounted n = stateAfter-accounted n fresh (fresh-accounted L g)
 
   -- Done changes nothing
-  pub stateAfter-done : (n : ℕ) (s : State) → Kept L s → allFinished L s ≡ true → stateAfter L n s ≡ s
+  pub stateAfter-done : (n : ℕ) (s : State) → Accounted L s → allFinished L s ≡ true → stateAfter L n s ≡ s
   unfolding stateAfter
   stateAfter-done zero s v d = refl
-  stateAfter-done (suc n) s v d = rw (kept-done L s g v d) (stateAfter-done n s v d)
+  stateAfter-done (suc n) s v d = rw (accounted-done L s g v d) (stateAfter-done n s v d)
 
-  pub stateAfter-later : (n : ℕ) (s : State) → Kept L s → allFinished L (stateAfter L n s) ≡ false
+  pub stateAfter-later : (n : ℕ) (s : State) → Accounted L s → allFinished L (stateAfter L n s) ≡ false
       → s .clock + n ≤ stateAfter L n s .clock
   unfolding stateAfter
   stateAfter-later zero s v nd = omega arith
   stateAfter-later (suc n) s v nd =
-      go (allFinished L s) refl (stateAfter-later n (move L s .then) (move-kept L s g v) nd)
+      go (allFinished L s) refl (stateAfter-later n (move L s .then) (move-accounted L s g v) nd)
     where
       go : (b : Bool) → allFinished L s ≡ b → move L s .then .clock + n ≤ stateAfter L n (move L s .then) .clock
           → s .clock + suc n ≤ stateAfter L n (move L s .then) .clock
@@ -80,40 +80,40 @@ module _ (L : View) (g : Good L) where
       go false e =
           absurd (omega (
             arith,
-            stateAfter-later n fresh (fresh-kept L g) e,
-            kept-early L (stateAfter L n fresh) g (run-kept n) e,
+            stateAfter-later n fresh (fresh-accounted L g) e,
+            accounted-early L (stateAfter L n fresh) g (run-accounted n) e,
           ))
 
   pub run-clock : (n : ℕ) → stateAfter L n fresh .clock ≤ tightBound L
-  run-clock n = kept-clock L (stateAfter L n fresh) g (run-kept n)
+  run-clock n = accounted-clock L (stateAfter L n fresh) g (run-accounted n)
 
   pub run-done : (n : ℕ) → tightBound L ≤ n → move L (stateAfter L n fresh) .outcome ≡ Done
   run-done n h =
-      ap (λ (m : Moved). m .outcome) (kept-done L (stateAfter L n fresh) g (run-kept n) (run-finished n h))
+      ap (λ (m : Moved). m .outcome) (accounted-done L (stateAfter L n fresh) g (run-accounted n) (run-finished n h))
 
   -- a move that is not refused
-  kept-number : (s : State) → Kept L s → toldBy (move L s .outcome) .number ≡ 0
-  kept-number s v = go (allFinished L s) refl
+  accounted-number : (s : State) → Accounted L s → toldBy (move L s .outcome) .number ≡ 0
+  accounted-number s v = go (allFinished L s) refl
     where
       by : Turn L s → toldBy (move L s .outcome) .number ≡ 0
       by (starting i c e) = ap (λ (m : Moved). toldBy (m .outcome) .number) e
       by (idles none e) = ap (λ (m : Moved). toldBy (m .outcome) .number) e
 
       go : (b : Bool) → allFinished L s ≡ b → toldBy (move L s .outcome) .number ≡ 0
-      go true d = ap (λ (m : Moved). toldBy (m .outcome) .number) (kept-done L s g v d)
-      go false d = by (kept-turn L s g v d)
+      go true d = ap (λ (m : Moved). toldBy (m .outcome) .number) (accounted-done L s g v d)
+      go false d = by (accounted-turn L s g v d)
 
   pub run-number : (n : ℕ) → toldBy (move L (stateAfter L n fresh) .outcome) .number ≡ 0
-  run-number n = kept-number (stateAfter L n fresh) (run-kept n)
+  run-number n = accounted-number (stateAfter L n fresh) (run-accounted n)
 
   -- what the move after n moves starts
   abbrev pub startsAfter : ℕ → State → List Slot
   startsAfter n s = toldBy (move L (stateAfter L n s) .outcome) .starts
 
-  done-starts : (n : ℕ) (s : State) → Kept L s → allFinished L s ≡ true → startsAfter n s ≡ []
+  done-starts : (n : ℕ) (s : State) → Accounted L s → allFinished L s ≡ true → startsAfter n s ≡ []
   done-starts n s v d =
       ap (λ t. toldBy (move L t .outcome) .starts) (stateAfter-done n s v d)
-      ∙ ap (λ (m : Moved). toldBy (m .outcome) .starts) (kept-done L s g v d)
+      ∙ ap (λ (m : Moved). toldBy (m .outcome) .starts) (accounted-done L s g v d)
 
   pub starts-zero : (s : State) → starts L 0 s ≡ []
   unfolding starts
@@ -127,7 +127,7 @@ module _ (L : View) (g : Good L) where
   unfolding stateAfter
   startsAfter-suc n s = refl
 
-  starts-first : (s : State) → Kept L s → starts L 1 s ≡ startsAfter 0 s
+  starts-first : (s : State) → Accounted L s → starts L 1 s ≡ startsAfter 0 s
   starts-first s v = go (allFinished L s) refl
     where
       now : (m : Moved) → move L s ≡ m → startsAfter 0 s ≡ toldBy (m .outcome) .starts
@@ -147,14 +147,14 @@ module _ (L : View) (g : Good L) where
       go : (b : Bool) → allFinished L s ≡ b → starts L 1 s ≡ startsAfter 0 s
       go true d =
           let m = handedBack L s Done in
-          starts-move L 0 s m (kept-done L s g v d) ∙ sym (now m (kept-done L s g v d))
-      go false d = by (kept-turn L s g v d)
+          starts-move L 0 s m (accounted-done L s g v d) ∙ sym (now m (accounted-done L s g v d))
+      go false d = by (accounted-turn L s g v d)
 
   -- one move more, one start more or none
-  pub starts-next : (n : ℕ) (s : State) → Kept L s → starts L (suc n) s ≡ starts L n s ++ startsAfter n s
+  pub starts-next : (n : ℕ) (s : State) → Accounted L s → starts L (suc n) s ≡ starts L n s ++ startsAfter n s
   starts-next zero s v = starts-first s v ∙ sym (ap (λ l. l ++ startsAfter 0 s) (starts-zero s))
   starts-next (suc n) s v =
-      go (allFinished L s) refl (starts-next n (move L s .then) (move-kept L s g v))
+      go (allFinished L s) refl (starts-next n (move L s .then) (move-accounted L s g v))
       ∙ ap (λ l. starts L (suc n) s ++ l) (sym (startsAfter-suc n s))
     where
       by : Turn L s
@@ -176,26 +176,26 @@ module _ (L : View) (g : Good L) where
           → starts L (suc n) (move L s .then) ≡ starts L n (move L s .then) ++ startsAfter n (move L s .then)
           → starts L (suc (suc n)) s ≡ starts L (suc n) s ++ startsAfter n (move L s .then)
       go true d ih =
-          let e = kept-done L s g v d in
+          let e = accounted-done L s g v d in
           starts-move L (suc n) s (handedBack L s Done) e
           ∙ sym
           (ap₂ _++_ (starts-move L n s (handedBack L s Done) e)
           (ap (λ (w : Moved). startsAfter n (w .then)) e ∙ done-starts n s v d))
-      go false d ih = by (kept-turn L s g v d) ih
+      go false d ih = by (accounted-turn L s g v d) ih
 
   -- the starts of so many moves are those of each, one behind the other
   pub starts-joined : (n : ℕ) → starts L n fresh ≡ joinTo (λ k. startsAfter k fresh) n
   unfolding joinTo
   starts-joined zero = starts-zero fresh
   starts-joined (suc n) =
-      starts-next n fresh (fresh-kept L g) ∙ ap (λ l. l ++ startsAfter n fresh) (starts-joined n)
+      starts-next n fresh (fresh-accounted L g) ∙ ap (λ l. l ++ startsAfter n fresh) (starts-joined n)
 
   -- from the bound on no move starts anything
   starts-enough : (d n : ℕ) → tightBound L ≤ n → starts L (n + d) fresh ≡ starts L n fresh
   starts-enough zero n h = ap (λ m. starts L m fresh) (add-zero n)
   starts-enough (suc d) n h =
       ap (λ m. starts L m fresh) (add-suc n d)
-      ∙ (starts-next (n + d) fresh (fresh-kept L g)
+      ∙ (starts-next (n + d) fresh (fresh-accounted L g)
       ∙ (ap (λ l. starts L (n + d) fresh ++ l)
       (ap (λ (o : Outcome). toldBy o .starts) (run-done (n + d) (omega arith)))
       ∙ (append-nil (starts L (n + d) fresh) ∙ starts-enough d n h)))

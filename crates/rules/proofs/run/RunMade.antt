@@ -19,18 +19,18 @@ use Rattle.rules.specs.Move.{allFinished, move}
 use Rattle.rules.specs.Run.{stateAfter, starts, schedule}
 use Rattle.rules.specs.Slots.{slotAt, slotEnd}
 use Rattle.rules.proofs.bound.TightBound.{tightBound}
-use Rattle.rules.proofs.invariant.Good.{Good}
+use Rattle.rules.proofs.invariant.Runnable.{Runnable}
 use Rattle.rules.proofs.moves.MoveLaws.{Turn, starts as starting, idles}
-use Rattle.rules.proofs.invariant.MoveKeeps.{Kept, fresh-kept, kept-done, kept-turn}
-use Rattle.rules.proofs.run.RunLaws.{stateAfter-next, run-kept, run-finished, starts-next, schedule-whole}
+use Rattle.rules.proofs.invariant.MoveKeeps.{Accounted, fresh-accounted, accounted-done, accounted-turn}
+use Rattle.rules.proofs.run.RunLaws.{stateAfter-next, run-accounted, run-finished, starts-next, schedule-whole}
 use Rattle.rules.proofs.slots.SlotLaws.{AfterLower}
 use Rattle.rules.proofs.run.SlotsMade.{Made, fresh-made, tick-made}
 use Rattle.rules.proofs.run.StartMade.{start-made}
 use Rattle.rules.proofs.slots.WholeLaws.{Whole}
 
-module _ (L : View) (g : Good L) where
+module _ (L : View) (g : Runnable L) where
   -- a move adds its start
-  move-made : (s : State) (slots : List Slot) → Kept L s → Made L s slots
+  move-made : (s : State) (slots : List Slot) → Accounted L s → Made L s slots
       → Made L (move L s .then) (slots ++ toldBy (move L s .outcome) .starts)
   move-made s slots v m = go (allFinished L s) refl
     where
@@ -39,8 +39,8 @@ module _ (L : View) (g : Good L) where
       by (idles none e) = rw e (rw (append-nil slots) (tick-made L s slots m))
 
       go : (b : Bool) → allFinished L s ≡ b → Made L (move L s .then) (slots ++ toldBy (move L s .outcome) .starts)
-      go true d = rw (kept-done L s g v d) (rw (append-nil slots) m)
-      go false d = by (kept-turn L s g v d)
+      go true d = rw (accounted-done L s g v d) (rw (append-nil slots) m)
+      go false d = by (accounted-turn L s g v d)
 
   starts-none : starts L 0 fresh ≡ []
   unfolding starts
@@ -53,8 +53,8 @@ module _ (L : View) (g : Good L) where
   pub run-made : (n : ℕ) → Made L (stateAfter L n fresh) (starts L n fresh)
   run-made zero = rw (starts-none, state-none) (fresh-made L)
   run-made (suc n) =
-      rw (stateAfter-next L n fresh, starts-next L g n fresh (fresh-kept L g))
-      (move-made (stateAfter L n fresh) (starts L n fresh) (run-kept L g n) (run-made n))
+      rw (stateAfter-next L n fresh, starts-next L g n fresh (fresh-accounted L g))
+      (move-made (stateAfter L n fresh) (starts L n fresh) (run-accounted L g n) (run-made n))
 
   -- at the end every row has finished all its steps
   pub finished-all : (n : ℕ) → tightBound L ≤ n → (i : ℕ) → i < L .rows
@@ -66,7 +66,7 @@ module _ (L : View) (g : Good L) where
         leb-true (L .steps i) (stateAfter L n fresh .finished i)
             (allTo-true (λ k. leb (L .steps k) (stateAfter L n fresh .finished k)) (L .rows) (run-finished L g n h) i
             l),
-        run-kept L g n .invariant .shape .finished-le i l,
+        run-accounted L g n .invariant .shape .finished-le i l,
       )
 
   abbrev last : State

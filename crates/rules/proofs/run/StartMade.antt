@@ -20,7 +20,7 @@ use Rattle.rules.specs.State.{State, opensAt, isOpen}
 use Rattle.rules.specs.Plan.{planPasses}
 use Rattle.rules.specs.Move.{started, startedFull, nextSlot}
 use Rattle.rules.specs.Slots.{slotAt, slotEnd}
-use Rattle.rules.proofs.invariant.Good.{Good}
+use Rattle.rules.proofs.invariant.Runnable.{Runnable}
 use Rattle.rules.proofs.moves.WindowsOpen.{opensAt-embedded}
 use Rattle.rules.proofs.moves.MoveLaws.{
   CanStart,
@@ -62,7 +62,7 @@ which slots x h l =
       | no e ↦ (let q : h < length slots = omega (arith, length-last slots x) in old q (slotAt-before slots x h q))
     ]
 
-module _ (L : View) (s : State) (i : ℕ) (slots : List Slot) (g : Good L) (plan : planPasses L s (s .clock) ≡ true)
+module _ (L : View) (s : State) (i : ℕ) (slots : List Slot) (g : Runnable L) (plan : planPasses L s (s .clock) ≡ true)
     (c : CanStart L s i) (m : Made L s slots) where
   abbrev d : ℕ
   d = L .cost i (s .finished i)

@@ -23,7 +23,7 @@ limitAt L i f = openAt L i f .limit
 unfoldable pub leftAt : View → ℕ → ℕ → ℕ
 leftAt L i f = chain (L .cost i) (L .wait i) f (openAt L i f .last)
 
-pub record Good (L : View) : Type 0 where
+pub record Runnable (L : View) : Type 0 where
   -- ranges
   pub rows-most : L .rows ≤ mostRows
   pub phase-most : (i : ℕ) → i < L .rows → L .phase i ≤ latestPhase

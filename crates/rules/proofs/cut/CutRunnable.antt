@@ -11,7 +11,7 @@ use Rattle.load.specs.View.{View, embedded}
 use Rattle.load.specs.Acceptable.{windowOf as windowAt}
 use Rattle.rules.specs.Cut.{kept, cut}
 use Rattle.rules.proofs.cut.CutLaws.{firstKept-le, kept-le, wait-of-cut}
-use Rattle.rules.proofs.invariant.Good.{Good, openAt, limitAt, leftAt}
+use Rattle.rules.proofs.invariant.Runnable.{Runnable, openAt, limitAt, leftAt}
 use Rattle.rules.proofs.cut.CutWindows.{
   embedded-same,
   embedded-in-cut,
@@ -21,7 +21,7 @@ use Rattle.rules.proofs.cut.CutWindows.{
   cut-window,
 }
 
-module _ (L : View) (m : ℕ) (g : Good L) (some : 1 ≤ m) where
+module _ (L : View) (m : ℕ) (g : Runnable L) (some : 1 ≤ m) where
   abbrev K : View
   K = cut L m
 
@@ -81,9 +81,9 @@ module _ (L : View) (m : ℕ) (g : Good L) (some : 1 ≤ m) where
       let last = g .first-last i (w .place) l (w .below) in
       embedded-same L m g i f l (omega (arith, w .last-le)) ∙ g .window-first i (w .place) f l (w .below) (omega arith)
 
-  pub good-of-cut : Good K
+  pub runnable-of-cut : Runnable K
   unfolding cut
-  good-of-cut =
+  runnable-of-cut =
       record {
         rows-most = g .rows-most;
         phase-most = g .phase-most;

@@ -9,7 +9,7 @@ use Rattle.load.specs.View.{View, embedded}
 use Rattle.load.specs.Acceptable.{Acceptable, windowOf}
 use Rattle.load.proofs.WindowLaws as windows
 use Rattle.load.proofs.WindowLeft.{leftFrom-next, leftFrom-last, leftFrom-opens}
-use Rattle.rules.proofs.invariant.Good.{Good, openAt, limitAt, leftAt}
+use Rattle.rules.proofs.invariant.Runnable.{Runnable, openAt, limitAt, leftAt}
 use Rattle.rules.proofs.moves.WindowsOpen.{embedded-place}
 
 module _ (L : View) (ok : Acceptable L) where
@@ -55,8 +55,8 @@ module _ (L : View) (ok : Acceptable L) where
           (omega arith) (omega arith) in
           absurd (omega (arith, ap (λ k. windowOf L i k .first) same))
 
-  pub acceptable-good : Good L
-  acceptable-good =
+  pub acceptable-runnable : Runnable L
+  acceptable-runnable =
       record {
         rows-most = ok .rows-most;
         phase-most = ok .phase-most;
