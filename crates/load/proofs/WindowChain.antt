@@ -1,8 +1,7 @@
 -- Laws of a chain, the costs and the waits between them from place a on and below place b: one step, a step at the
--- front, a later beginning, and equal chains from equal costs and waits.
-use Prim.Native.Nat.{ℕ, zero, suc, _+_, _-_, _≤_, _<_}
+-- front, no step, and equal chains from equal costs and waits.
+use Prim.Native.Nat.{ℕ, suc, _+_, _-_, _≤_, _<_}
 use mathlib.Core.Path.{_≡_, ap₂}
-use native.Mathlib.Nat.{add-zero, add-suc}
 use native.Mathlib.Omega.{arith}
 use Rattle.counting.proofs.sums.SumLaws.{sumFrom-none, sumFrom-front, sumFrom-ext}
 use Rattle.load.specs.View.{chain}
@@ -22,13 +21,6 @@ module _ (cost wait : ℕ → ℕ) where
   unfolding chain
   chain-front a b h =
       omega (arith, sumFrom-front cost a b (omega arith), sumFrom-front wait a (b - 1) (omega arith))
-
-  -- a chain that begins later is at most as long
-  pub chain-later : (a b d : ℕ) → a + d < b → chain cost wait (a + d) b ≤ chain cost wait a b
-  chain-later a b zero h = rw (add-zero a) (omega arith)
-  chain-later a b (suc d) h =
-      let l : suc (a + d) < b = omega arith in
-      rw add-suc (omega (arith, chain-front (a + d) b l, chain-later a b d (omega arith)))
 
 pub chain-ext : (c d w v : ℕ → ℕ) (a b : ℕ) → ((j : ℕ) → a ≤ j → j < b → c j ≡ d j)
     → ((j : ℕ) → a ≤ j → suc j < b → w j ≡ v j) → chain c w a b ≡ chain d v a b

@@ -1,59 +1,43 @@
 -- What is left of an open window, from its next step on: that step, the wait after it and what is left then, and at the
--- window's last step its cost alone. It is within the limit, and so is all of a window that a free step opens.
+-- window's last step its cost alone. All of a window that a free step opens is within the limit.
 use Prim.Native.Nat.{ℕ, suc, _+_, _-_, _≤_, _<_}
 use mathlib.Core.Bool.{true, false}
 use mathlib.Core.Path.{_≡_, ap}
-use native.Mathlib.Nat.{le-trans}
 use native.Mathlib.Omega.{arith}
-use Rattle.load.specs.View.{View, chain, embedded}
+use Rattle.load.specs.View.{View, chain, embedded, openAt}
 use Rattle.load.specs.Acceptable.{Acceptable}
-use Rattle.load.proofs.WindowChain.{chain-one, chain-front, chain-later}
-use Rattle.load.proofs.WindowLaws.{
-  holder,
-  holder-first,
-  holder-last,
-  holder-limit,
-  holder-next,
-  holder-opens,
-  holder-closes,
-}
+use Rattle.load.proofs.WindowChain.{chain-one, chain-front}
+use Rattle.load.proofs.WindowLaws.{openAt-last, openAt-limit, openAt-next, openAt-opens, openAt-closes}
 
--- the costs, and the waits between them, from step j on of the window that holds it
-abbrev pub leftFrom : View → ℕ → ℕ → ℕ
-leftFrom L i j = chain (L .cost i) (L .wait i) j (holder L i j .last)
+-- the limit of the window of row i that is open once j of its steps are finished
+abbrev pub limitAt : View → ℕ → ℕ → ℕ
+limitAt L i j = openAt L i j .limit
+
+-- its costs, and the waits between them, from the next step on
+unfoldable pub leftAt : View → ℕ → ℕ → ℕ
+leftAt L i j = chain (L .cost i) (L .wait i) j (openAt L i j .last)
 
 module _ (L : View) (ok : Acceptable L) (i : ℕ) (r : i < L .rows) (j : ℕ) where
-  pub leftFrom-next : embedded L i j ≡ true → embedded L i (suc j) ≡ true
-      → leftFrom L i j ≡ L .cost i j + L .wait i j + leftFrom L i (suc j)
-  leftFrom-next e f =
-      let same = holder-next L ok i r j e f in
-      rw same
-      (chain-front (L .cost i) (L .wait i) j (holder L i j .last)
-      (omega (arith, holder-last L ok i r (suc j) f, ap (λ w. w .last) same)))
+  pub leftAt-next : embedded L i j ≡ true → embedded L i (suc j) ≡ true
+      → leftAt L i j ≡ L .cost i j + (L .wait i j + leftAt L i (suc j))
+  unfolding leftAt
+  leftAt-next e f =
+      let same = openAt-next L ok i r j e f in
+      let more : suc j < openAt L i j .last = omega (arith, openAt-last L ok i r (suc j) f, ap (λ w. w .last) same) in
+      rw same (omega (arith, chain-front (L .cost i) (L .wait i) j (openAt L i j .last) more))
 
-  pub leftFrom-last : embedded L i j ≡ true → embedded L i (suc j) ≡ false → leftFrom L i j ≡ L .cost i j
-  leftFrom-last e f =
-      let ends : holder L i j .last ≡ suc j = omega (arith, holder-closes L ok i r j e f) in
+  pub leftAt-last : embedded L i j ≡ true → embedded L i (suc j) ≡ false → leftAt L i j ≡ L .cost i j
+  unfolding leftAt
+  leftAt-last e f =
+      let ends : openAt L i j .last ≡ suc j = omega (arith, openAt-closes L ok i r j e f) in
       rw ends (chain-one (L .cost i) (L .wait i) j)
 
-  pub leftFrom-le : embedded L i j ≡ true → leftFrom L i j ≤ holder L i j .limit
-  leftFrom-le e =
-      let a : ℕ = holder L i j .first - 1 in
-      let f = holder-first L ok i r j e in
-      let l = holder-last L ok i r j e in
-      let q : a + (j - a) ≡ j = omega arith in
-      let c = chain-later (L .cost i) (L .wait i) a (holder L i j .last) (j - a) (omega arith) in
-      le-trans (rw q at c) (holder-limit L ok i r j e)
-
-  module _ (e : embedded L i j ≡ false) (f : embedded L i (suc j) ≡ true) where
-    -- the chain of the window that step j opens, from step j to the window's last
-    pub chain-fits : chain (L .cost i) (L .wait i) j (holder L i (suc j) .last) ≤ holder L i (suc j) .limit
-    chain-fits =
-        let begins : holder L i (suc j) .first - 1 ≡ j = omega (arith, holder-opens L ok i r j e f) in
-        rw begins at (holder-limit L ok i r (suc j) f)
-
-    pub leftFrom-opens : L .cost i j + L .wait i j + leftFrom L i (suc j) ≤ holder L i (suc j) .limit
-    leftFrom-opens =
-        let l = holder-last L ok i r (suc j) f in
-        let c = chain-front (L .cost i) (L .wait i) j (holder L i (suc j) .last) (omega arith) in
-        omega (arith, chain-fits)
+  -- the window that step j opens, from step j on
+  pub leftAt-opens : embedded L i j ≡ false → embedded L i (suc j) ≡ true
+      → L .cost i j + (L .wait i j + leftAt L i (suc j)) ≤ limitAt L i (suc j)
+  unfolding leftAt
+  leftAt-opens e f =
+      let begins : openAt L i (suc j) .first - 1 ≡ j = omega (arith, openAt-opens L ok i r j e f) in
+      let fits = rw begins at (openAt-limit L ok i r (suc j) f) in
+      let l = openAt-last L ok i r (suc j) f in
+      omega (arith, fits, chain-front (L .cost i) (L .wait i) j (openAt L i (suc j) .last) (omega arith))

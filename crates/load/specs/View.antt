@@ -1,17 +1,17 @@
--- "A load": free and embedded steps and waits, and chains, over the view of a load that the rules
--- use: functions of row and step, counted from 0. The view holds no identifier and no box number.
--- To be read after Load. Rests on D30.
+-- "A load": free and embedded steps and waits, chains, and which window is open, over the view of a
+-- load that the rules use: functions of row and step, counted from 0. The view holds no identifier
+-- and no box number. To be read after Load. Rests on D10 and D30.
 use Prim.Native.Nat.{ℕ, suc, _+_, _-_}
 use mathlib.Core.Bool.{Bool, _&&_, not}
 use mathlib.Core.List.{List}
 use lib.Dec.{eqb, leb, ltb}
 use lib.ListN.{take}
 use Rattle.counting.specs.Sums.{sumFrom, sumTo}
-use Rattle.counting.specs.Lists.{anyIn}
+use Rattle.counting.specs.Lists.{anyIn, firstIn}
 use Rattle.load.specs.declared.Window.{Window}
 use Rattle.load.specs.declared.Row.{Row}
 use Rattle.load.specs.declared.Load.{Load}
-use Rattle.load.specs.Load.{rowAt, stepAt, shown}
+use Rattle.load.specs.Load.{rowAt, stepAt, noWindow, shown}
 
 -- a load, as functions of row and step
 pub record View : Type 0 where
@@ -76,6 +76,18 @@ freeWait L i j = isFree L i (suc j)
 -- the wait after step j of row i is embedded as the step after it is
 abbrev pub embeddedWait : View → ℕ → ℕ → Bool
 embeddedWait L i j = embedded L i (suc j)
+
+-- a window is open after its first step and until its last
+abbrev pub openWith : ℕ → Window → Bool
+openWith finished window = leb (window .first) finished && ltb finished (window .last)
+
+-- row i has an open window once so many of its steps are finished
+unfoldable pub opensAt : View → ℕ → ℕ → Bool
+opensAt L i finished = anyIn (openWith finished) (L .windows i)
+
+-- the window of row i that is open then
+unfoldable pub openAt : View → ℕ → ℕ → Window
+openAt L i finished = firstIn (openWith finished) noWindow (L .windows i)
 
 -- the steps in the whole load
 abbrev pub stepsInAll : View → ℕ

@@ -1,5 +1,4 @@
 -- Laws of one move: what a start and a tick change, shape, 10 and 11.
-pub mod WindowsOpen
 pub mod MoveLaws
 pub mod ShapeExact
 pub mod MoveRefused

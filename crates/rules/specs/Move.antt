@@ -10,11 +10,11 @@ use Rattle.counting.specs.Searches.{Found, at, none, found}
 use Rattle.refusals.specs.declared.Refusal.{Refusal}
 use Rattle.refusals.specs.declared.Refusal.the-variants.{StateShape, ClockFull}
 use Rattle.load.specs.Load.{lastMoment, shown}
-use Rattle.load.specs.View.{View}
+use Rattle.load.specs.View.{View, opensAt}
 use Rattle.rules.specs.declared.Slot.{Slot}
 use Rattle.rules.specs.declared.Outcome.{Outcome}
 use Rattle.rules.specs.declared.Outcome.the-variants.{Start, Idle, Done, Refused}
-use Rattle.rules.specs.State.{State, isOpen, opensAt, shaped}
+use Rattle.rules.specs.State.{State, isOpen, shaped}
 use Rattle.rules.specs.Ready.{candidates}
 use Rattle.rules.specs.Plan.{planPasses}
 use Rattle.rules.specs.Lamps.{lampWord, lampCount}

@@ -3,12 +3,11 @@
 -- D11.
 use Prim.Native.Nat.{ℕ}
 use mathlib.Core.Bool.{Bool, cond, _&&_}
-use lib.Dec.{eqb, leb, ltb}
+use lib.Dec.{eqb, leb}
 use Rattle.counting.specs.Sums.{allTo, allFrom}
-use Rattle.counting.specs.Lists.{anyIn, firstIn}
 use Rattle.load.specs.declared.Window.{Window}
-use Rattle.load.specs.Load.{lastMoment, mostRows, noWindow}
-use Rattle.load.specs.View.{View}
+use Rattle.load.specs.Load.{lastMoment, mostRows}
+use Rattle.load.specs.View.{View, opensAt, openAt}
 
 -- a bench state, as functions of the row
 pub record State : Type 0 where
@@ -24,21 +23,13 @@ pub record State : Type 0 where
 unfoldable pub fresh : State
 fresh = record { clock = 0; finished = λ i. 0; end = λ i. 0; opening = λ i. 0 }
 
--- a window is open after its first step and until its last
-abbrev pub openWith : ℕ → Window → Bool
-openWith finished window = leb (window .first) finished && ltb finished (window .last)
-
--- row i has an open window once so many of its steps are finished
-unfoldable pub opensAt : View → ℕ → ℕ → Bool
-opensAt L i finished = anyIn (openWith finished) (L .windows i)
-
 -- row i has an open window
 abbrev pub isOpen : View → State → ℕ → Bool
 isOpen L s i = opensAt L i (s .finished i)
 
 -- the window of row i that is open
-unfoldable pub openWindow : View → State → ℕ → Window
-openWindow L s i = firstIn (openWith (s .finished i)) noWindow (L .windows i)
+abbrev pub openWindow : View → State → ℕ → Window
+openWindow L s i = openAt L i (s .finished i)
 
 -- a row's end is at most the clock, and 0 if nothing is finished
 abbrev pub endFits : State → ℕ → Bool

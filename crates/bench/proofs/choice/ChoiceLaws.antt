@@ -16,13 +16,13 @@ use Rattle.counting.specs.Sorting.{sorted, byKey}
 use Rattle.counting.proofs.tests.TestLaws.{allTo-ext}
 use Rattle.counting.proofs.searches.SelectionLaws.{found-least, found-nothing}
 use Rattle.load.specs.declared.Load.{Load}
-use Rattle.load.specs.View.{View, viewOf, embedded}
-use Rattle.load.proofs.WindowLaws.{open-embedded}
-use Rattle.rules.specs.State.{State, isOpen, opensAt, openWindow}
+use Rattle.load.specs.View.{View, viewOf, embedded, opensAt}
+use Rattle.load.proofs.WindowLaws.{opensAt-embedded}
+use Rattle.load.proofs.WindowLeft.{limitAt}
+use Rattle.rules.specs.State.{State, isOpen}
 use Rattle.rules.specs.Ready.{released, isAllowed, isCandidate, candidates, finishedBelow}
 use Rattle.rules.specs.Plan.{due, windowLeft}
 use Rattle.rules.specs.Move.{startedFull, passes, chosen, openingAfter}
-use Rattle.rules.proofs.invariant.Runnable.{openAt, limitAt}
 use Rattle.rules.proofs.moves.MoveLaws.{started-clock, started-finished-same}
 use Rattle.rules.proofs.plan.StackLaws.{
   windowLeft-is,
@@ -80,8 +80,7 @@ module _ (load : Load) (bench : Bench) (board : Board) (shows : Shows load bench
       ap₂ (λ a b. leb (min j a) b) (steps-same load bench board shows k l) (finished-same load bench board shows k l)
 
   open-is : (i : ℕ) → isOpen L s i ≡ embedded L i (s .finished i)
-  unfolding opensAt
-  open-is i = open-embedded L i (s .finished i)
+  open-is i = opensAt-embedded L i (s .finished i)
 
   pub candidate-same : (i : ℕ) → i < rows → candidateIn board (bench .clock) rows i ≡ isCandidate L s i
   unfolding isCandidate isAllowed
@@ -126,7 +125,6 @@ module _ (load : Load) (bench : Bench) (board : Board) (shows : Shows load bench
         )
 
     limit-after : lookIn board i .limit ≡ limitAt L i (suc (s .finished i))
-    unfolding openWindow openAt
     limit-after = limit-same load bench board shows i l
 
     inside : rows ≤ 24 → i < 24

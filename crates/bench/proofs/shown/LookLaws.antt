@@ -15,8 +15,8 @@ use Rattle.load.specs.declared.Step.{Step}
 use Rattle.load.specs.declared.Window.{Window}
 use Rattle.load.specs.declared.Load.{Load}
 use Rattle.load.specs.Load.{lastMoment, mostRows, noWindow, stepAt, rowAt}
-use Rattle.load.specs.View.{View, viewOf, chain}
-use Rattle.rules.specs.State.{State, isOpen, opensAt, openWith, openWindow, rowShaped, rowUnused, shaped}
+use Rattle.load.specs.View.{View, viewOf, chain, openWith, opensAt, openAt}
+use Rattle.rules.specs.State.{State, isOpen, openWindow, rowShaped, rowUnused, shaped}
 use Rattle.rules.specs.Ready.{release}
 use Rattle.rules.specs.Plan.{due, windowLeft}
 use Rattle.bench.specs.declared.Bench.{Bench}
@@ -25,7 +25,7 @@ use Rattle.bench.specs.Held.{stateOf}
 use Rattle.bench.specs.inner.Alike.{viewAlike, stateAlike, further, lookOf}
 
 pub isOpen-last : (L : View) (s : State) (i : ℕ) → isOpen L s i ≡ ltb (s .finished i) (openWindow L s i .last)
-unfolding opensAt openWindow
+unfolding opensAt openAt
 isOpen-last L s i =
     anyIn-firstIn (openWith f) noWindow (λ w. ltb f (w .last))
     (λ w. and-right (leb (w .first) f) (ltb f (w .last)))
@@ -61,7 +61,7 @@ module _ (row : Row) (f end opening : ℕ) (step : Step) (window later : Window)
       }
 
   pub found-is : found ≡ lookOf (viewAlike row) (stateAlike 0 f end opening) 0
-  unfolding lookOf due windowLeft openWindow
+  unfolding lookOf due windowLeft
   found-is =
       let s : State = stateAlike 0 f end opening in
       rw (
@@ -87,7 +87,7 @@ pub look-of-row : (load : Load) (bench : Bench) (i : ℕ)
     → lookOf (viewAlike (rowAt load i))
     (stateAlike 0 (stateOf bench .finished i) (stateOf bench .end i) (stateOf bench .opening i)) 0
     ≡ lookOf (viewOf load) (stateOf bench) i
-unfolding lookOf viewOf opensAt openWindow windowLeft due
+unfolding lookOf viewOf opensAt openAt windowLeft due
 look-of-row load bench i =
     rw (release-of-row load i (stateOf bench .finished i) (stateOf bench .end i))
 

@@ -6,25 +6,16 @@ use mathlib.Core.Bool.{Bool, true, false, _&&_, not, and-true}
 use mathlib.Core.Path.{_≡_, refl, ap, ap₂, sym, _∙_}
 use native.Mathlib.Decide.{decLe, decLt}
 use native.Mathlib.Omega.{arith}
-use borrow.Author.Tests.{
-  not-true,
-  not-false,
-  leb-true,
-  eqb-false,
-  lt-ltb,
-  le-ltb,
-  le-leb,
-  lt-leb,
-  ne-eqb,
-}
-use lib.Dec.{eqb, leb, ltb}
+use borrow.Author.Tests.{not-true, not-false, lt-ltb, le-ltb, le-leb, lt-leb}
+use lib.Dec.{leb, ltb}
 use Rattle.counting.proofs.searches.FirstToLaws.{IsFirst, firstTo-first}
-use Rattle.counting.proofs.tests.TestLaws.{and-left, and-right, true-false}
+use Rattle.counting.proofs.tests.TestLaws.{true-false}
 use Rattle.counting.proofs.sorting.SortLaws.{Every, Every-map}
 use Rattle.counting.proofs.tests.KeptTests.{anyIn-every, anyIn-kept}
 use Rattle.load.specs.declared.Window.{Window}
 use Rattle.load.specs.Load.{shown}
-use Rattle.load.specs.View.{View, inWindow, embeddedIn, embedded, isFree}
+use Rattle.load.specs.View.{View, embeddedIn, embedded, isFree, openWith}
+use Rattle.load.proofs.WindowLaws.{openWith-first, openWith-last, within-openWith, openWith-is}
 use Rattle.rules.specs.Cut.{firstKept, followers, kept, cut}
 
 module _ (L : View) (m i : ℕ) where
@@ -63,28 +54,6 @@ pub data Uncut (n : ℕ) (w : Window) : Type 0 where
   whole : w .last ≤ n → Uncut n w
   dropped : n < w .first → Uncut n w
 
--- place j is of an embedded step of the window
-record Inside (j : ℕ) (w : Window) : Type 0 where
-  after : w .first ≤ j
-  before : j < w .last
-
-embeddedIn-true : (j : ℕ) (w : Window) → embeddedIn (shown j) w ≡ true → Inside j w
-embeddedIn-true j w e =
-    let inside = and-left (inWindow (shown j) w) (not (eqb (shown j) (w .first))) e in
-    let after = leb-true (w .first) (shown j) (and-left (leb (w .first) (shown j)) (leb (shown j) (w .last)) inside) in
-    let before = leb-true (shown j) (w .last) (and-right (leb (w .first) (shown j)) (leb (shown j) (w .last)) inside) in
-    let other = and-right (inWindow (shown j) w) (not (eqb (shown j) (w .first))) e in
-    let differ = eqb-false (shown j) (w .first) (not-true (eqb (shown j) (w .first)) other) in
-    record { after = omega arith; before = omega arith }
-
-true-embeddedIn : (j : ℕ) (w : Window) → w .first ≤ j → j < w .last → embeddedIn (shown j) w ≡ true
-true-embeddedIn j w h l =
-    rw (
-      le-leb (w .first) (shown j) (omega arith),
-      le-leb (shown j) (w .last) (omega arith),
-      ne-eqb (shown j) (w .first) (λ e. omega arith),
-    )
-
 -- no window is cut in two
 pub kept-uncut : (L : View) (m i : ℕ) → Within L i → Every (Uncut (kept L m i)) (L .windows i)
 unfolding embedded
@@ -108,7 +77,8 @@ kept-uncut L m i within =
               elim (decLt n (w .first)) [
                 | yes f ↦ dropped f
                 | no f ↦
-                    absurd (true-false (embeddedIn (shown n) w) (true-embeddedIn n w (omega arith) (omega arith)) e)
+                    (let o = within-openWith n w (omega arith) (omega arith) in
+                    absurd (true-false (openWith n w) o (openWith-is n w ∙ e)))
               ]
         ]
 
@@ -120,10 +90,11 @@ uncut-embeddedIn n j w u = go (embeddedIn (shown j) w) refl u
     go : (b : Bool) → embeddedIn (shown j) w ≡ b → Uncut n w → (b && leb (w .last) n) ≡ (b && ltb j n)
     go false e u = refl
     go true e (whole h) =
-        let inside = embeddedIn-true j w e in
+        let before = openWith-last j w (openWith-is j w ∙ e) in
         le-leb (w .last) n h ∙ sym (lt-ltb j n (omega arith))
     go true e (dropped h) =
-        let inside = embeddedIn-true j w e in
+        let after = openWith-first j w (openWith-is j w ∙ e) in
+        let before = openWith-last j w (openWith-is j w ∙ e) in
         lt-leb (w .last) n (omega arith) ∙ sym (le-ltb j n (omega arith))
 
 -- a kept step is embedded as it is in the load, and no other is

@@ -8,15 +8,15 @@ use native.Mathlib.Omega.{arith}
 use lib.Dec.{leb}
 use Rattle.counting.specs.Sums.{allTo}
 use Rattle.counting.proofs.tests.TestLaws.{true-false, allTo-ext}
-use Rattle.load.specs.View.{View, embedded}
+use Rattle.load.specs.View.{View, embedded, opensAt}
+use Rattle.load.proofs.WindowLaws.{opensAt-embedded}
 use Rattle.rules.specs.Cut.{kept, cut}
-use Rattle.rules.specs.State.{State, isOpen, opensAt}
+use Rattle.rules.specs.State.{State, isOpen}
 use Rattle.rules.specs.Ready.{release, finishedBelow, isAllowed}
 use Rattle.rules.specs.Plan.{planPasses}
 use Rattle.rules.specs.Move.{started}
 use Rattle.rules.proofs.cut.CutLaws.{firstKept-le, kept-le, kept-embedded, wait-of-cut}
 use Rattle.rules.proofs.invariant.Runnable.{Runnable}
-use Rattle.rules.proofs.moves.WindowsOpen.{opensAt-embedded}
 use Rattle.rules.proofs.plan.PlanLaws.{SameJob}
 use Rattle.rules.proofs.plan.StackLaws.{due-is, windowLeft-is, plan-ext}
 use Rattle.rules.proofs.cut.CutWindows.{embedded-same, embedded-in-cut, leftAt-same, limitAt-same}

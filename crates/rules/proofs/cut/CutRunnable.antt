@@ -7,11 +7,12 @@ use lib.Dec.{ltb}
 use lib.ListN.{length}
 use Rattle.counting.proofs.sums.ChangeLaws.{cond-most}
 use Rattle.load.specs.declared.Window.{Window}
-use Rattle.load.specs.View.{View, embedded}
+use Rattle.load.specs.View.{View, embedded, openAt}
 use Rattle.load.specs.Acceptable.{windowOf as windowAt}
+use Rattle.load.proofs.WindowLeft.{limitAt, leftAt}
 use Rattle.rules.specs.Cut.{kept, cut}
 use Rattle.rules.proofs.cut.CutLaws.{firstKept-le, kept-le, wait-of-cut}
-use Rattle.rules.proofs.invariant.Runnable.{Runnable, openAt, limitAt, leftAt}
+use Rattle.rules.proofs.invariant.Runnable.{Runnable}
 use Rattle.rules.proofs.cut.CutWindows.{
   embedded-same,
   embedded-in-cut,

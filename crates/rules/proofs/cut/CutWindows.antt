@@ -14,10 +14,11 @@ use Rattle.counting.proofs.lists.EveryLaws.{firstIn-kept}
 use Rattle.counting.proofs.lists.KeepLaws.{keptPlace, keepIn-at}
 use Rattle.load.specs.declared.Window.{Window}
 use Rattle.load.specs.Load.{noWindow}
-use Rattle.load.specs.View.{View, chain, embedded}
+use Rattle.load.specs.View.{View, chain, embedded, openWith, openAt}
 use Rattle.load.specs.Acceptable.{windowOf as windowAt}
 use Rattle.load.proofs.WindowChain.{chain-ext}
-use Rattle.rules.specs.State.{openWith}
+use Rattle.load.proofs.WindowLaws.{embedded-place, openWith-first}
+use Rattle.load.proofs.WindowLeft.{limitAt, leftAt}
 use Rattle.rules.specs.Cut.{kept, cut}
 use Rattle.rules.proofs.cut.CutLaws.{
   kept-stops,
@@ -30,8 +31,7 @@ use Rattle.rules.proofs.cut.CutLaws.{
   embedded-kept,
   wait-of-cut,
 }
-use Rattle.rules.proofs.invariant.Runnable.{Runnable, openAt, limitAt, leftAt}
-use Rattle.rules.proofs.moves.WindowsOpen.{Open, openWith-true, embedded-place}
+use Rattle.rules.proofs.invariant.Runnable.{Runnable}
 
 module _ (L : View) (m : ℕ) (g : Runnable L) where
   abbrev K : View
@@ -82,7 +82,7 @@ module _ (L : View) (m : ℕ) (g : Runnable L) where
     where
       keep : (w : Window) → Uncut (kept L m i) w → openWith f w ≡ true → leb (w .last) (kept L m i) ≡ true
       keep w (whole q) o = le-leb (w .last) (kept L m i) q
-      keep w (dropped q) o = absurd (omega (arith, openWith-true f w o .begun))
+      keep w (dropped q) o = absurd (omega (arith, openWith-first f w o))
 
   -- it ends within what is kept
   open-last-le : (i f : ℕ) → i < L .rows → InCut i f → openAt L i f .last ≤ kept L m i
@@ -91,14 +91,14 @@ module _ (L : View) (m : ℕ) (g : Runnable L) where
       omega (
         arith,
         ap (λ (w : Window). w .last) (o .is),
-        go (windowAt L i (o .place)) (o .isOpen)
+        go (windowAt L i (o .place)) (o .begun)
             (Every-at (Uncut (kept L m i)) (L .windows i) (o .place) noWindow (kept-uncut L m i (within i l))
             (o .below)),
       )
     where
-      go : (w : Window) → Open f w → Uncut (kept L m i) w → w .last ≤ kept L m i
-      go w o (whole q) = q
-      go w o (dropped q) = absurd (omega (arith, o .begun, c .below))
+      go : (w : Window) → w .first ≤ f → Uncut (kept L m i) w → w .last ≤ kept L m i
+      go w begun (whole q) = q
+      go w begun (dropped q) = absurd (omega (arith, c .below))
 
   leftAt-by : (i f : ℕ) → openAt K i f ≡ openAt L i f → openAt L i f .last ≤ kept L m i → leftAt K i f ≡ leftAt L i f
   unfolding leftAt cut

@@ -17,6 +17,7 @@ use Rattle.counting.proofs.sums.SumLaws.{value-le-maxTo}
 use Rattle.counting.proofs.sorting.SortLaws.{Every}
 use Rattle.counting.proofs.sums.ChangeLaws.{changed-same, changed-other, sumTo-change}
 use Rattle.load.specs.View.{View, embedded, isFree}
+use Rattle.load.proofs.WindowLaws.{opensAt-embedded}
 use Rattle.rules.specs.Bound.{largestPhase, largestW}
 use Rattle.rules.specs.State.{State}
 use Rattle.rules.specs.Ready.{release, released}
@@ -24,7 +25,6 @@ use Rattle.rules.specs.Plan.{stack, planPasses}
 use Rattle.rules.specs.Move.{ticked}
 use Rattle.rules.proofs.bound.TightBound.{minima}
 use Rattle.rules.proofs.invariant.Runnable.{Runnable}
-use Rattle.rules.proofs.moves.WindowsOpen.{opensAt-embedded}
 use Rattle.rules.proofs.moves.MoveLaws.{CanStart}
 use Rattle.rules.proofs.plan.PlanLaws.{FirstWaits}
 use Rattle.rules.proofs.plan.StackLaws.{stack-every, tick-passes}

@@ -4,24 +4,10 @@ use Prim.Native.Nat.{ℕ, suc, _+_, _≤_, _<_}
 use mathlib.Core.Bool.{true, false}
 use mathlib.Core.Path.{_≡_}
 use lib.ListN.{length}
-use Rattle.counting.specs.Lists.{firstIn}
-use Rattle.load.specs.declared.Window.{Window}
-use Rattle.load.specs.Load.{mostRows, mostSteps, latestPhase, largestCost, largestWait, noWindow}
-use Rattle.load.specs.View.{View, chain, embedded}
+use Rattle.load.specs.Load.{mostRows, mostSteps, latestPhase, largestCost, largestWait}
+use Rattle.load.specs.View.{View, embedded, openAt}
 use Rattle.load.specs.Acceptable.{windowOf}
-use Rattle.rules.specs.State.{openWith}
-
--- the window of row i that is open once f of its steps are finished
-unfoldable pub openAt : View → ℕ → ℕ → Window
-openAt L i f = firstIn (openWith f) noWindow (L .windows i)
-
--- its limit
-abbrev pub limitAt : View → ℕ → ℕ → ℕ
-limitAt L i f = openAt L i f .limit
-
--- its costs, and the waits between them, from the next step on
-unfoldable pub leftAt : View → ℕ → ℕ → ℕ
-leftAt L i f = chain (L .cost i) (L .wait i) f (openAt L i f .last)
+use Rattle.load.proofs.WindowLeft.{limitAt, leftAt}
 
 pub record Runnable (L : View) : Type 0 where
   -- ranges

@@ -16,9 +16,9 @@ use Rattle.counting.proofs.sorting.SortLaws.{Every-sorted}
 use Rattle.counting.proofs.lists.EveryLaws.{every-numbersWhere, numbersWhere-every, sorted-every, found-at, found-none}
 use Rattle.counting.proofs.sums.ChangeLaws.{changed-same, changed-other}
 use Rattle.load.specs.Load.{lastMoment}
-use Rattle.load.specs.View.{View}
+use Rattle.load.specs.View.{View, opensAt}
 use Rattle.rules.specs.declared.Outcome.the-variants.{Start, Idle, Done}
-use Rattle.rules.specs.State.{State, isOpen, opensAt, shaped}
+use Rattle.rules.specs.State.{State, isOpen, shaped}
 use Rattle.rules.specs.Ready.{released, isReady, isAllowed, wouldEnd, isCandidate, candidates}
 use Rattle.rules.specs.Move.{
   openingAfter,

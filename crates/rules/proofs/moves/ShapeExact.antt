@@ -1,10 +1,10 @@
 -- The test of a state's shape is exactly its facts: the test gives each of them, and all of them give the test.
 use Prim.Native.Nat.{ℕ, _≤_, _<_}
 use mathlib.Core.Bool.{Bool, true, false, cond, _&&_}
-use mathlib.Core.Path.{_≡_, refl}
+use mathlib.Core.Path.{_≡_, refl, sym, _∙_}
 use native.Mathlib.Omega.{arith}
-use lib.Dec.{eqb, leb, ltb}
-use borrow.Author.Tests.{eqb-true, leb-true, le-leb, lt-ltb, eq-eqb}
+use lib.Dec.{eqb, leb}
+use borrow.Author.Tests.{eqb-true, leb-true, le-leb, eq-eqb}
 use Rattle.counting.specs.Sums.{allTo, allFrom}
 use Rattle.counting.proofs.tests.TestLaws.{
   and-left,
@@ -16,39 +16,20 @@ use Rattle.counting.proofs.tests.TestLaws.{
   allFrom-true,
   true-allFrom,
 }
-use Rattle.counting.proofs.lists.MemberLaws.{true-anyIn, anyIn-true}
-use Rattle.load.specs.Load.{lastMoment, mostRows, noWindow}
+use Rattle.load.specs.Load.{lastMoment, mostRows}
 use Rattle.load.specs.View.{View}
-use Rattle.load.specs.Acceptable.{windowOf}
-use Rattle.rules.specs.State.{
-  State,
-  openWith,
-  isOpen,
-  opensAt,
-  endFits,
-  openingFits,
-  rowShaped,
-  rowUnused,
-  shaped,
-}
+use Rattle.load.proofs.WindowLaws.{within-opensAt, opensAt-embedded, embedded-place}
+use Rattle.rules.specs.State.{State, isOpen, endFits, openingFits, rowShaped, rowUnused, shaped}
 use Rattle.rules.specs.Shape.{HasOpen, Unused, Shape}
-use Rattle.rules.proofs.moves.WindowsOpen.{openWith-true}
 
 module _ (L : View) (s : State) where
   pub hasOpen-isOpen : (i : ℕ) → HasOpen L s i → isOpen L s i ≡ true
-  unfolding opensAt
-  hasOpen-isOpen i h =
-      let w = windowOf L i (h .place) in
-      true-anyIn (openWith (s .finished i)) noWindow (L .windows i) (h .place) (h .there)
-      (and-both (leb (w .first) (s .finished i)) (ltb (s .finished i) (w .last))
-      (le-leb (w .first) (s .finished i) (h .begun)) (lt-ltb (s .finished i) (w .last) (h .going)))
+  hasOpen-isOpen i h = within-opensAt L i (s .finished i) (h .place) (h .there) (h .begun) (h .going)
 
   pub isOpen-hasOpen : (i : ℕ) → isOpen L s i ≡ true → HasOpen L s i
-  unfolding opensAt
   isOpen-hasOpen i e =
-      let f = anyIn-true (openWith (s .finished i)) noWindow (L .windows i) e in
-      let o = openWith-true (s .finished i) (windowOf L i (f .place)) (f .has) in
-      record { place = f .place; there = f .below; begun = o .begun; going = o .going }
+      let o = embedded-place L i (s .finished i) (sym (opensAt-embedded L i (s .finished i)) ∙ e) in
+      record { place = o .place; there = o .below; begun = o .begun; going = o .going }
 
   -- from the test to the facts
   module _ (e : shaped L s ≡ true) where

@@ -7,12 +7,12 @@ use mathlib.Core.Path.{_≡_, refl, ap, sym, _∙_}
 use native.Mathlib.Decide.{ℕ-discrete}
 use native.Mathlib.Omega.{arith}
 use Rattle.load.specs.Load.{lastMoment}
-use Rattle.load.specs.View.{View, embedded}
-use Rattle.rules.specs.State.{State, fresh, isOpen, opensAt}
+use Rattle.load.specs.View.{View, embedded, opensAt}
+use Rattle.load.proofs.WindowLaws.{opensAt-embedded}
+use Rattle.rules.specs.State.{State, fresh, isOpen}
 use Rattle.rules.specs.Shape.{HasOpen, Unused, Shape}
 use Rattle.rules.specs.Move.{started, ticked, openingAfter}
 use Rattle.rules.proofs.invariant.Runnable.{Runnable}
-use Rattle.rules.proofs.moves.WindowsOpen.{opensAt-embedded}
 use Rattle.rules.proofs.moves.ShapeExact.{hasOpen-isOpen, isOpen-hasOpen}
 use Rattle.rules.proofs.moves.MoveLaws.{
   started-clock,

@@ -10,12 +10,12 @@ use Rattle.counting.specs.Sorting.{sorted, byKey}
 use Rattle.counting.proofs.sorting.SortLaws.{Every, Every-sorted}
 use Rattle.counting.proofs.lists.EveryLaws.{every-numbersWhere, numbersWhere-every, numbersWhere-none, sorted-every}
 use Rattle.counting.proofs.sorting.KeyLaws.{sorted-same}
-use Rattle.load.specs.View.{View}
-use Rattle.rules.specs.State.{State, isOpen, openWindow, opensAt}
+use Rattle.load.specs.View.{View, opensAt}
+use Rattle.load.proofs.WindowLeft.{limitAt, leftAt}
+use Rattle.rules.specs.State.{State, isOpen}
 use Rattle.rules.specs.Ready.{release, released}
 use Rattle.rules.specs.Plan.{due, stack, windowLeft, inTime, planPasses}
 use Rattle.rules.specs.Move.{started, ticked, openingAfter}
-use Rattle.rules.proofs.invariant.Runnable.{openAt, limitAt, leftAt}
 use Rattle.rules.proofs.moves.MoveLaws.{
   started-finished-same,
   started-finished-other,
@@ -27,11 +27,11 @@ use Rattle.rules.proofs.moves.MoveLaws.{
 use Rattle.rules.proofs.plan.PlanLaws.{SameJob, FirstWaits, inTime-ext, inTime-tick, inTime-true}
 
 pub due-is : (L : View) (s : State) (i : ℕ) → due L s i ≡ s .opening i + limitAt L i (s .finished i)
-unfolding due openWindow openAt
+unfolding due
 due-is L s i = refl
 
 pub windowLeft-is : (L : View) (s : State) (i : ℕ) → windowLeft L s i ≡ leftAt L i (s .finished i)
-unfolding windowLeft openWindow openAt leftAt
+unfolding windowLeft leftAt
 windowLeft-is L s i = refl
 
 -- what every open row has, every row of the stack has, and the other way
@@ -79,7 +79,7 @@ plan-in-time L s t p = stack-every L s (λ i. t + windowLeft L s i ≤ due L s i
 -- a tick
 pub tick-passes : (L : View) (s : State) → FirstWaits L s (s .clock) (stack L s) → planPasses L s (s .clock) ≡ true
     → planPasses L (ticked s) (ticked s .clock) ≡ true
-unfolding ticked due windowLeft openWindow
+unfolding ticked due windowLeft
 tick-passes L s h p =
     plan-ext L L (ticked s) s (s .clock + 1) refl (λ i l. refl)
     (λ i l o. record { released-same = refl; left-same = refl; due-same = refl })
@@ -95,7 +95,7 @@ module _ (L : View) (s : State) (k long : ℕ) where
   isOpen-same = ap (opensAt L k) (started-finished-same L s k long)
 
   pub job-other : (i : ℕ) → i ≢ k → SameJob L L (started L s k long) s i
-  unfolding due windowLeft openWindow
+  unfolding due windowLeft
   job-other i ne =
       record {
         released-same = rw (started-finished-other L s k long i ne, started-end-other L s k long i ne);

@@ -14,13 +14,13 @@ use Rattle.counting.proofs.tests.TestLaws.{and-left, and-right, and-both, true-
 use Rattle.counting.proofs.sorting.SortLaws.{Every, Every-map}
 use Rattle.counting.proofs.lists.EveryLaws.{numbersWhere-one}
 use Rattle.counting.proofs.sorting.KeyLaws.{sorted-same, sorted-first-once, sorted-rest}
-use Rattle.load.specs.View.{View, embedded}
-use Rattle.rules.specs.State.{State, fresh, isOpen, opensAt}
+use Rattle.load.specs.View.{View, embedded, opensAt}
+use Rattle.load.proofs.WindowLaws.{opensAt-embedded}
+use Rattle.rules.specs.State.{State, fresh, isOpen}
 use Rattle.rules.specs.Ready.{released}
 use Rattle.rules.specs.Plan.{due, stack, finish, inTime, planPasses}
 use Rattle.rules.specs.Move.{started, startedFull, passes}
 use Rattle.rules.proofs.invariant.Runnable.{Runnable}
-use Rattle.rules.proofs.moves.WindowsOpen.{opensAt-embedded}
 use Rattle.rules.proofs.moves.MoveLaws.{started-clock, openingAfter-kept, openingAfter-new}
 use Rattle.rules.proofs.plan.PlanLaws.{SameJob, inTime-ext, inTime-next, inTime-none}
 use Rattle.rules.proofs.plan.StackLaws.{

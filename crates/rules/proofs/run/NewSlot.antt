@@ -5,39 +5,27 @@ use mathlib.Core.Bool.{Bool, true, false}
 use mathlib.Core.List.{List}
 use mathlib.Core.Path.{_≡_, refl, ap, ap₂, sym, _∙_, subst}
 use native.Mathlib.Omega.{arith}
-use lib.Dec.{leb, ltb}
 use lib.ListN.{length}
-use borrow.Author.Tests.{le-leb, lt-ltb}
-use Rattle.counting.proofs.tests.TestLaws.{and-both}
 use Rattle.load.specs.declared.Window.{Window}
-use Rattle.load.specs.Load.{shown, noWindow}
+use Rattle.load.specs.Load.{shown}
 use Rattle.load.specs.View.{View, embedded}
 use Rattle.load.specs.Acceptable.{windowOf as windowAt}
 use Rattle.rules.specs.declared.Slot.{Slot}
-use Rattle.rules.specs.State.{State, openWith, opensAt, isOpen}
+use Rattle.rules.specs.State.{State, isOpen}
 use Rattle.rules.specs.Ready.{release}
 use Rattle.rules.specs.Plan.{planPasses}
 use Rattle.rules.specs.Move.{nextSlot}
 use Rattle.rules.specs.Slots.{slotAt, rowOf, slotEnd}
 use Rattle.rules.specs.ScheduleRules.{NamesStep}
-use Rattle.rules.proofs.invariant.Runnable.{Runnable, leftAt}
-use Rattle.rules.proofs.moves.WindowsOpen.{opensAt-embedded}
+use Rattle.rules.proofs.invariant.Runnable.{Runnable}
+use Rattle.load.proofs.WindowLaws.{opensAt-embedded, within-opensAt}
+use Rattle.load.proofs.WindowLeft.{leftAt}
 use Rattle.rules.proofs.moves.MoveLaws.{CanStart}
 use Rattle.rules.proofs.plan.StackLaws.{due-is, windowLeft-is, plan-in-time}
 use Rattle.rules.proofs.invariant.Invariant.{isFree-embedded}
 use Rattle.rules.proofs.moves.TickLaws.{allowed-free}
 use Rattle.rules.proofs.slots.SlotLaws.{AfterLower, IsSlot, Fits, slotEnd-is}
-use Rattle.counting.proofs.lists.MemberLaws.{true-anyIn}
 use Rattle.rules.proofs.run.SlotsMade.{Made}
-
--- a window is open between its first step and its last
-pub window-opens : (L : View) (i p f : ℕ) → p < length (L .windows i) → windowAt L i p .first ≤ f
-    → f < windowAt L i p .last → opensAt L i f ≡ true
-unfolding opensAt
-window-opens L i p f l a b =
-    true-anyIn (openWith f) noWindow (L .windows i) p l
-    (and-both (leb (windowAt L i p .first) f) (ltb f (windowAt L i p .last)) (le-leb (windowAt L i p .first) f a)
-    (lt-ltb f (windowAt L i p .last) b))
 
 -- the next step of an open window is at least left of it
 cost-le-left : (L : View) (i f : ℕ) → Runnable L → i < L .rows → embedded L i f ≡ true → L .cost i f ≤ leftAt L i f
@@ -92,7 +80,7 @@ module _ (L : View) (s : State) (i : ℕ) (slots : List Slot) (g : Runnable L) (
       let f = s .finished i in
       let begun : windowAt L i p .first ≤ f = omega (arith, g .first-last i p (c .there) lp) in
       let going : f < windowAt L i p .last = omega arith in
-      let o : isOpen L s i ≡ true = window-opens L i p f lp begun going in
+      let o : isOpen L s i ≡ true = within-opensAt L i f p lp begun going in
       let e : embedded L i f ≡ true = sym (opensAt-embedded L i f) ∙ o in
       omega (
         arith,

@@ -13,15 +13,15 @@ use Rattle.counting.specs.Sums.{bit}
 use Rattle.counting.proofs.sums.SumLaws.{sumTo-next}
 use Rattle.counting.proofs.sums.ChangeLaws.{sumTo-change}
 use Rattle.load.specs.Load.{shown}
-use Rattle.load.specs.View.{View, embedded}
+use Rattle.load.specs.View.{View, embedded, opensAt}
 use Rattle.load.specs.Acceptable.{windowOf as windowAt}
+use Rattle.load.proofs.WindowLaws.{opensAt-embedded, within-opensAt}
 use Rattle.rules.specs.declared.Slot.{Slot}
-use Rattle.rules.specs.State.{State, opensAt, isOpen}
+use Rattle.rules.specs.State.{State, isOpen}
 use Rattle.rules.specs.Plan.{planPasses}
 use Rattle.rules.specs.Move.{started, startedFull, nextSlot}
 use Rattle.rules.specs.Slots.{slotAt, slotEnd}
 use Rattle.rules.proofs.invariant.Runnable.{Runnable}
-use Rattle.rules.proofs.moves.WindowsOpen.{opensAt-embedded}
 use Rattle.rules.proofs.moves.MoveLaws.{
   CanStart,
   started-clock,
@@ -48,7 +48,7 @@ use Rattle.rules.proofs.slots.SlotLaws.{
   lower-before,
 }
 use Rattle.rules.proofs.run.SlotsMade.{Made}
-use Rattle.rules.proofs.run.NewSlot.{window-opens, new-fits, new-lower}
+use Rattle.rules.proofs.run.NewSlot.{new-fits, new-lower}
 
 -- an old slot, or the new one
 data Which (slots : List Slot) (x : Slot) (h : ℕ) : Type 0 where
@@ -174,7 +174,7 @@ module _ (L : View) (s : State) (i : ℕ) (slots : List Slot) (g : Runnable L) (
       stays : r ≡ i → opensAt L i (suc f) ≡ true
       stays er =
           subst (λ q. opensAt L q (suc f) ≡ true) er
-          (window-opens L r p (suc f) lp (omega (arith, own er)) (omega (arith, own er)))
+          (within-opensAt L r (suc f) p lp (omega (arith, own er)) (omega (arith, own er)))
 
       go : Which slots x h → Dec (r ≡ i) → s′ .opening r ≡ slotAt more h .start
       go (old q e) (no er) =
@@ -187,7 +187,7 @@ module _ (L : View) (s : State) (i : ℕ) (slots : List Slot) (g : Runnable L) (
           let was : windowAt L r p .first ≤ s .finished r = omega (arith, m .steps-le h r q lr row′) in
           let now : s .finished r < windowAt L r p .last = omega (arith, own er, ap (s .finished) er) in
           let o : isOpen L s i ≡ true =
-          subst (λ y. isOpen L s y ≡ true) er (window-opens L r p (s .finished r) lp was now) in
+          subst (λ y. isOpen L s y ≡ true) er (within-opensAt L r (s .finished r) p lp was now) in
           rw e
           (ap (s′ .opening) er
           ∙ (started-opening-same L s i d

@@ -7,7 +7,7 @@ use Rattle.counting.specs.Sorting.{inserted, sorted}
 use Rattle.words.specs.LittleEndian.{littleEndian}
 use Rattle.refusals.specs.FirstMet.{firstFaultTo}
 use Rattle.load.specs.Load.{zeroRow}
-use Rattle.load.specs.View.{viewOf, chain, embedded}
+use Rattle.load.specs.View.{viewOf, chain, embedded, opensAt, openAt}
 use Rattle.load.specs.Faults.{rowTests, takenTests, stepTests, windowTests}
 use Rattle.load.specs.Check.{rowFault, checkLoad}
 use Rattle.rules.specs.Cut.{kept, cut}
@@ -23,7 +23,7 @@ use Rattle.rules.specs.Bound.{
   bound,
 }
 use Rattle.rules.specs.Margins.{rowBound, margin, verdict, margins, bytesOfMargins}
-use Rattle.rules.specs.State.{opensAt, openWindow, shaped}
+use Rattle.rules.specs.State.{shaped}
 use Rattle.rules.specs.Ready.{isAllowed, isCandidate, candidates}
 use Rattle.rules.specs.Plan.{due, stack, windowLeft, inTime}
 use Rattle.rules.specs.Lamps.{lampWord, lampCount}
@@ -36,7 +36,7 @@ unfoldable pub computing : ℕ
 unfolding sumTo maxTo allTo anyTo joinTo joinIn anyIn keepIn firstIn sumIn changed firstTo found inserted sorted
     littleEndian firstFaultTo zeroRow viewOf chain embedded rowTests takenTests stepTests windowTests rowFault
     checkLoad kept cut allCosts largestPhase allEmbeddedWaits largestW boundBy partners pairCosts smallestCosts bound
-    rowBound margin verdict margins bytesOfMargins opensAt openWindow shaped isAllowed isCandidate candidates due
+    rowBound margin verdict margins bytesOfMargins opensAt openAt shaped isAllowed isCandidate candidates due
     stack windowLeft inTime lampWord lampCount started ticked passes chosen allFinished shapedMove move slotFor
     slotTests checkSlots checkSchedule
 computing = 0

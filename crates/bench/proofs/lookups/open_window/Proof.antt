@@ -9,7 +9,7 @@ use lib.ListN.{take, drop}
 use Rattle.counting.specs.Lists.{firstIn}
 use Rattle.counting.proofs.searches.FirstInLaws.{firstIn-from, firstIn-past}
 use Rattle.load.specs.Load.{noWindow}
-use Rattle.rules.specs.State.{openWith, openWindow}
+use Rattle.load.specs.View.{openWith, openAt}
 use Rattle.bench.proofs.lookups.open_window.Statement.{statement}
 use Rattle.bench.proofs.lookups.open_window.Tie as tie
 
@@ -26,7 +26,7 @@ loop-holds : tie.Need-loop-holds Inv-loop μ-loop
 loop-holds c = (search needs, refl)
 
 returns : tie.Need-returns Inv-loop μ-loop
-unfolding openWindow
+unfolding openAt
 returns c =
     let turn = c .before .before .before .before .before in
     let row = turn .before .before .args .t1 in
@@ -52,7 +52,7 @@ loop-again c =
     )
 
 returns-2 : tie.Need-returns-2 Inv-loop μ-loop
-unfolding openWindow
+unfolding openAt
 returns-2 c =
     let start = c .before .before in
     let row = start .args .t1 in

@@ -3,7 +3,6 @@ use borrow.Author.Needs.{needs}
 use borrow.Author.Tests.{le-leb, lt-leb}
 use Rattle.bench.specs.inner.Alike.{viewAlike, stateAlike}
 use Rattle.bench.proofs.shown.LookLaws.{isOpen-last}
-use Rattle.rules.specs.State.{openWindow}
 use Rattle.bench.proofs.shape.row_shaped.Statement.{statement}
 use Rattle.bench.proofs.shape.row_shaped.Tie as tie
 
@@ -15,7 +14,6 @@ returns-2 c =
     rw (le-leb _ _ (c .before .before .if1 .left), ← c .before .latest-end .ensures, lt-leb _ _ (c .if2 .taken))
 
 returns-3 : tie.Need-returns-3
-unfolding openWindow
 returns-3 c =
     let start = c .before .before .before .before .before .before in
     let L = viewAlike (start .args .row) in
