@@ -1,7 +1,7 @@
 -- Laws of the members of a list that have p: some member has it exactly where a place does, the first of them stands at
 -- such a place, and where only one place has it the first is that one.
 use Prim.Native.Nat.{ℕ, zero, suc, _<_, min}
-use mathlib.Core.Bool.{Bool, true, false, cond, _||_}
+use mathlib.Core.Bool.{Bool, true, false, _||_}
 use mathlib.Core.List.{List, [], _∷_}
 use mathlib.Core.Path.{_≡_, refl, sym, ap, ap₂, _∙_}
 use native.Mathlib.Omega.{arith}
@@ -93,15 +93,6 @@ module _ {A : Type 0} where
         ∙ anyTo-ext (λ k. p (getD (take n l) k z)) (λ k. p (getD l k z)) (min n m)
         (λ k b. ap p (getD-take n l k z (omega arith)))
 
-    pub firstIn-none : (l : List A) → anyIn p l ≡ false → firstIn p z l ≡ z
-    unfolding anyIn firstIn
-    firstIn-none [] e = refl
-    firstIn-none (a ∷ l) e = rw (or-left (p a) (anyIn p l) e) (firstIn-none l (or-right (p a) (anyIn p l) e))
-
-    -- the first that has p has p
-    pub firstIn-has : (l : List A) → anyIn p l ≡ true → p (firstIn p z l) ≡ true
-    firstIn-has l e = let m = anyIn-true l e in ap p (m .is) ∙ m .has
-
     -- the only place that has p holds the first
     pub firstIn-only : (l : List A) (k : ℕ) → k < length l → p (getD l k z) ≡ true
         → ((i : ℕ) → i < length l → p (getD l i z) ≡ true → i ≡ k) → firstIn p z l ≡ getD l k z
@@ -113,8 +104,3 @@ module _ {A : Type 0} where
   unfolding anyIn
   anyIn-ext p q [] h = refl
   anyIn-ext p q (a ∷ l) h = ap₂ _||_ (h a) (anyIn-ext p q l h)
-
-  pub firstIn-ext : (p q : A → Bool) (z : A) (l : List A) → ((a : A) → p a ≡ q a) → firstIn p z l ≡ firstIn q z l
-  unfolding firstIn
-  firstIn-ext p q z [] h = refl
-  firstIn-ext p q z (a ∷ l) h = ap₂ (λ t r. cond t a r) (h a) (firstIn-ext p q z l h)

@@ -13,17 +13,7 @@ use Rattle.counting.specs.Sums.{sumTo, bit, countTo}
 use Rattle.counting.specs.Lists.{joinTo, numbersWhere}
 use Rattle.counting.specs.Sorting.{sorted}
 use Rattle.counting.proofs.sums.SumLaws.{sumTo-ext}
-use Rattle.counting.proofs.sorting.SortLaws.{
-  totalIn,
-  Every,
-  totalIn-append,
-  totalIn-length,
-  totalIn-sorted,
-  Every-map,
-  Every-append,
-  Every-sorted,
-  sorted-length,
-}
+use Rattle.counting.proofs.sorting.SortLaws.{totalIn, totalIn-append, totalIn-length, totalIn-sorted}
 
 -- a sum over the numbers below n that have p
 pub totalIn-numbersWhere : (f : ℕ → ℕ) (p : ℕ → Bool) (n : ℕ)
@@ -85,29 +75,3 @@ numbersWhere-length p n =
     one : (b : Bool) → cond b 1 0 ≡ bit b
     one true = refl
     one false = refl
-
-pub sorted-numbers-length : (before : ℕ → ℕ → Bool) (p : ℕ → Bool) (n : ℕ)
-    → length (sorted before (numbersWhere p n)) ≡ countTo p n
-sorted-numbers-length before p n = sorted-length before (numbersWhere p n) ∙ numbersWhere-length p n
-
--- a number below n that has p
-pub record Chosen (p : ℕ → Bool) (n i : ℕ) : Type 0 where
-  pub below : i < n
-  pub has : p i ≡ true
-
-Every-numbersWhere : (p : ℕ → Bool) (n : ℕ) → Every (Chosen p n) (numbersWhere p n)
-unfolding joinTo
-Every-numbersWhere p zero = tt
-Every-numbersWhere p (suc n) =
-    Every-append (Chosen p (suc n)) (numbersWhere p n) (cond (p n) (n ∷ []) [])
-    (Every-map (Chosen p n) (Chosen p (suc n)) (numbersWhere p n)
-    (λ i c. record { below = omega arith; has = c .has }) (Every-numbersWhere p n))
-    (last (p n) refl)
-  where
-    last : (b : Bool) → p n ≡ b → Every (Chosen p (suc n)) (cond b (n ∷ []) [])
-    last true e = (record { below = omega arith; has = e }, tt)
-    last false e = tt
-
-pub sorted-numbers-chosen : (before : ℕ → ℕ → Bool) (p : ℕ → Bool) (n : ℕ)
-    → Every (Chosen p n) (sorted before (numbersWhere p n))
-sorted-numbers-chosen before p n = Every-sorted before (Chosen p n) (numbersWhere p n) (Every-numbersWhere p n)

@@ -99,10 +99,6 @@ pub cond-mono : (b : Bool) (x y : ℕ) → (b ≡ true → x ≤ y) → cond b x
 cond-mono true x y h = h refl
 cond-mono false x y h = omega arith
 
-pub cond-none : (b : Bool) (x : ℕ) → (b ≡ true → x ≡ 0) → cond b x 0 ≡ 0
-cond-none true x h = h refl
-cond-none false x h = refl
-
 pub cond-most : (b : Bool) (x y : ℕ) → (b ≡ true → x ≤ y) → cond b x 0 ≤ y
 cond-most true x y h = h refl
 cond-most false x y h = omega arith

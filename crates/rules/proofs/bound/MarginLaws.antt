@@ -5,11 +5,9 @@ use mathlib.Core.Bool.{Bool, true, false, cond}
 use mathlib.Core.Path.{_≡_, refl}
 use native.Mathlib.Omega.{arith}
 use borrow.Author.Tests.{lt-ltb}
-use lib.Dec.{ltb, le→leb, leb→le}
+use lib.Dec.{ltb, le→leb}
 use lib.IntN.{ℤ, pos, negsuc, _-ℤ_}
 use lib.Signed.{_≤ℤ_, leZ-yes}
-use mir.Syntax.{w32}
-use mir.Val.{SFits}
 use Rattle.counting.specs.Sums.{sumTo}
 use Rattle.counting.proofs.sums.SumLaws.{term-le-sumTo}
 use Rattle.load.specs.Load.{lastMoment}
@@ -67,8 +65,3 @@ unfolding margin
 margin-range L i ranged l steps cost least most =
     difference-range (L .deadline i) (rowBound L i) least most (omega (arith, first-cost-le L i l steps))
     (rowBound-le L i ranged)
-
--- such a number fits an i32
-pub margin-fits : (z : ℤ) → MarginRange z → SFits w32 z
-margin-fits (pos n) r = record { sfits = omega (arith, leb→le n 999999 (r .most .le)) }
-margin-fits (negsuc n) r = record { sfits = omega (arith, leb→le n 806398 (r .least .le)) }

@@ -1,6 +1,5 @@
 -- Two loads that differ only in identifiers and box numbers have the same view, and so the same bound, margins and
 -- verdict, and whatever else is defined over the view.
-use Prim.Native.Nat.{ℕ}
 use mathlib.Core.Path.{_≡_, ap}
 use lib.ListN.{getD, take}
 use Rattle.load.specs.declared.Load.{Load}
@@ -8,7 +7,7 @@ use Rattle.load.specs.Load.{noStep}
 use Rattle.load.specs.View.{viewOf}
 use Rattle.rules.specs.SameLoads.{SameLoad}
 use Rattle.rules.specs.Bound.{bound}
-use Rattle.rules.specs.Margins.{rowBound, margin, margins, marginBytes, verdict}
+use Rattle.rules.specs.Margins.{margins, verdict}
 
 pub viewOf-same : (a b : Load) → SameLoad a b → viewOf a ≡ viewOf b
 unfolding viewOf
@@ -27,17 +26,8 @@ viewOf-same a b same =
 pub bound-same : (a b : Load) → SameLoad a b → bound (viewOf a) ≡ bound (viewOf b)
 bound-same a b same = ap bound (viewOf-same a b same)
 
-pub rowBound-same : (a b : Load) → SameLoad a b → (i : ℕ) → rowBound (viewOf a) i ≡ rowBound (viewOf b) i
-rowBound-same a b same i = ap (λ L. rowBound L i) (viewOf-same a b same)
-
-pub margin-same : (a b : Load) → SameLoad a b → (i : ℕ) → margin (viewOf a) i ≡ margin (viewOf b) i
-margin-same a b same i = ap (λ L. margin L i) (viewOf-same a b same)
-
 pub margins-same : (a b : Load) → SameLoad a b → margins (viewOf a) ≡ margins (viewOf b)
 margins-same a b same = ap margins (viewOf-same a b same)
-
-pub marginBytes-same : (a b : Load) → SameLoad a b → marginBytes (viewOf a) ≡ marginBytes (viewOf b)
-marginBytes-same a b same = ap marginBytes (viewOf-same a b same)
 
 pub verdict-same : (a b : Load) → SameLoad a b → verdict (viewOf a) ≡ verdict (viewOf b)
 verdict-same a b same = ap verdict (viewOf-same a b same)

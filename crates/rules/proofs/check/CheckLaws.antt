@@ -1,6 +1,5 @@
 -- The check says yes exactly when the rules of a schedule hold.
 use mathlib.Core.List.{List}
-use mathlib.Core.Logic.{_↔_}
 use mathlib.Core.Path.{_≡_}
 use Rattle.refusals.specs.declared.Checked.the-variants as found
 use Rattle.load.specs.View.{View}
@@ -24,6 +23,3 @@ module _ (L : View) (ok : Acceptable L) (slots : List Slot) where
   pub rules-check : ScheduleRules L slots → checkSlots L slots ≡ found.Good
   rules-check r =
       check-good L slots (rules-whole L slots (r .slots-keep)) (ok .first-last) (ok .first-least) (r .deadlines)
-
-  pub check-exactly : (checkSlots L slots ≡ found.Good) ↔ ScheduleRules L slots
-  check-exactly = (check-rules, rules-check)

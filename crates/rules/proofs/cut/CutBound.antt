@@ -26,7 +26,6 @@ use Rattle.rules.specs.Bound.{
   smallestCosts,
   bound,
 }
-use Rattle.rules.specs.Margins.{rowBound}
 use Rattle.rules.proofs.bound.TightBound.{minima, tightBound}
 use Rattle.rules.proofs.cut.CutLaws.{
   Within,
@@ -103,13 +102,3 @@ module _ (L : View) (m : ℕ) (within : (i : ℕ) → i < L .rows → Within L i
       ≡ keptCosts L m + largestPhase L + keptWaits L m + sumTo (largestW minima L) (m - 1)
   unfolding tightBound
   tightBound-of-cut h = boundBy-of-cut minima (minima-of-cut L m within) h
-
--- a row's bound, over the load itself
-pub rowBound-is : (L : View) (i : ℕ) → ((k : ℕ) → k < L .rows → Within L k) → L .steps i ≤ mostSteps
-    → rowBound L i
-    ≡ keptCosts L (L .steps i)
-    + largestPhase L
-    + keptWaits L (L .steps i)
-    + sumTo (largestW smallestCosts L) (L .steps i - 1)
-unfolding rowBound
-rowBound-is L i within h = bound-of-cut L (L .steps i) within h

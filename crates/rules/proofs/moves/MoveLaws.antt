@@ -83,10 +83,6 @@ module _ (L : View) (s : State) (k : ℕ) where
   pub openingAfter-none : opensAt L k (suc (s .finished k)) ≡ false → openingAfter L s k ≡ 0
   openingAfter-none b = rw b
 
-pub ticked-clock : (s : State) → ticked s .clock ≡ s .clock + 1
-unfolding ticked
-ticked-clock s = refl
-
 -- a candidate that passes
 pub record CanStart (L : View) (s : State) (i : ℕ) : Type 0 where
   pub there : i < L .rows

@@ -4,28 +4,19 @@ use Prim.Native.Nat.{ℕ, zero, suc, _≤_}
 use mathlib.Core.Bool.{Bool, true, false}
 use mathlib.Core.List.{List, [], _∷_, _++_, append-nil}
 use mathlib.Core.Path.{_≡_, refl, ap, sym, _∙_}
-use native.Mathlib.Omega.{arith}
 use Rattle.counting.proofs.tests.TestLaws.{true-false}
 use Rattle.load.specs.View.{View}
 use Rattle.rules.specs.declared.Slot.{Slot}
-use Rattle.rules.specs.Bound.{bound}
 use Rattle.rules.specs.State.{State, fresh}
 use Rattle.rules.specs.Outcomes.{toldBy}
 use Rattle.rules.specs.Move.{startedFull, ticked, allFinished, nextSlot, move}
 use Rattle.rules.specs.Run.{stateAfter, starts, schedule}
 use Rattle.rules.specs.Slots.{slotEnd, lastEnd}
-use Rattle.rules.proofs.bound.TightBound.{tightBound, tightBound-le}
+use Rattle.rules.proofs.bound.TightBound.{tightBound}
 use Rattle.rules.proofs.invariant.Runnable.{Runnable}
 use Rattle.rules.proofs.moves.MoveLaws.{Turn, starts as starting, idles, started-clock}
 use Rattle.rules.proofs.invariant.MoveKeeps.{Accounted, fresh-accounted, accounted-done, accounted-turn}
-use Rattle.rules.proofs.run.RunLaws.{
-  stateAfter-next,
-  run-accounted,
-  run-finished,
-  run-clock,
-  starts-next,
-  schedule-whole,
-}
+use Rattle.rules.proofs.run.RunLaws.{stateAfter-next, run-accounted, run-finished, starts-next, schedule-whole}
 use Rattle.rules.proofs.slots.SlotLaws.{slotEnd-is}
 
 lastEnd-last : (L : View) (slots : List Slot) (x : Slot) → lastEnd L (slots ++ x ∷ []) ≡ slotEnd L x
@@ -81,7 +72,3 @@ module _ (L : View) (g : Runnable L) where
   -- the schedule ends when the run does
   pub schedule-ends : (n : ℕ) → tightBound L ≤ n → lastEnd L (schedule L) ≡ stateAfter L n fresh .clock
   schedule-ends n h = ap (lastEnd L) (schedule-whole L g n h) ∙ run-ends-now n (run-finished L g n h)
-
-  pub lastEnd-le : lastEnd L (schedule L) ≤ bound L
-  lastEnd-le =
-      omega (arith, schedule-ends (tightBound L) (omega arith), run-clock L g (tightBound L), tightBound-le L)
