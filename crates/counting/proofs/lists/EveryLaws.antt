@@ -7,10 +7,10 @@ use mathlib.Core.Logic.{_≢_}
 use mathlib.Core.Path.{_≡_, refl, ap₂}
 use native.Mathlib.Decide.{ℕ-discrete}
 use native.Mathlib.Omega.{arith}
-use Rattle.counting.specs.Lists.{joinTo, keepIn, firstIn, numbersWhere}
+use Rattle.counting.specs.Lists.{joinTo, anyIn, numbersWhere}
 use Rattle.counting.specs.Searches.{Found, at, none, found}
 use Rattle.counting.specs.Sorting.{inserted, sorted}
-use Rattle.counting.proofs.tests.TestLaws.{true-false}
+use Rattle.counting.proofs.tests.TestLaws.{or-left, or-right, true-false}
 use Rattle.counting.proofs.sorting.SortLaws.{Every, Every-append}
 
 module _ {A : Type 0} where
@@ -22,28 +22,11 @@ module _ {A : Type 0} where
   append-every-right P [] m e = e
   append-every-right P (a ∷ rest) m e = append-every-right P rest m (e .1)
 
-  pub every-keepIn : (P : A → Type 0) (q : A → Bool) (l : List A) → Every P l → Every P (keepIn q l)
-  unfolding keepIn
-  every-keepIn P q [] e = tt
-  every-keepIn P q (a ∷ rest) e = go (q a) (every-keepIn P q rest (e .1))
-    where
-      go : (b : Bool) → Every P (keepIn q rest) → Every P (cond b (a ∷ keepIn q rest) (keepIn q rest))
-      go true f = (e .0, f)
-      go false f = f
-
-  -- the first that has p, among those kept, where all that have p are kept
-  pub firstIn-kept : (p q : A → Bool) (z : A) (l : List A) → Every (λ a. p a ≡ true → q a ≡ true) l
-      → firstIn p z (keepIn q l) ≡ firstIn p z l
-  unfolding firstIn keepIn
-  firstIn-kept p q z [] e = refl
-  firstIn-kept p q z (a ∷ rest) e = go (q a) refl (p a) refl (firstIn-kept p q z rest (e .1))
-    where
-      go : (b : Bool) → q a ≡ b → (c : Bool) → p a ≡ c → firstIn p z (keepIn q rest) ≡ firstIn p z rest
-          → firstIn p z (cond b (a ∷ keepIn q rest) (keepIn q rest)) ≡ cond c a (firstIn p z rest)
-      go true f true h ih = rw h
-      go true f false h ih = rw h ih
-      go false f true h ih = absurd (true-false (q a) (e .0 h) f)
-      go false f false h ih = ih
+  -- where no member has p, every member lacks it
+  pub anyIn-every : (p : A → Bool) (l : List A) → anyIn p l ≡ false → Every (λ a. p a ≡ false) l
+  unfolding anyIn
+  anyIn-every p [] e = tt
+  anyIn-every p (a ∷ l) e = (or-left (p a) (anyIn p l) e, anyIn-every p l (or-right (p a) (anyIn p l) e))
 
   module _ (P : A → Type 0) (before : A → A → Bool) where
     pub every-inserted : (a : A) (l : List A) → P a → Every P l → Every P (inserted before a l)

@@ -1,11 +1,14 @@
--- Laws of the members that are kept of a list: each has p, and stood at a place of the list.
+-- Laws of the members that are kept of a list: each has p and stood at a place of the list, and has what every member
+-- has; and a search among them finds what it would find in the list, where all that it looks for are kept.
 use Prim.Native.Nat.{ℕ, zero, suc, _<_}
-use mathlib.Core.Bool.{Bool, true, false, cond}
+use mathlib.Core.Bool.{Bool, true, false, cond, _&&_, _||_, and-true, and-false, and-or-distrib-right}
 use mathlib.Core.List.{List, [], _∷_}
-use mathlib.Core.Path.{_≡_, refl}
+use mathlib.Core.Path.{_≡_, refl, sym, ap₂, _∙_}
 use native.Mathlib.Omega.{arith}
 use lib.ListN.{length, getD}
-use Rattle.counting.specs.Lists.{keepIn}
+use Rattle.counting.specs.Lists.{anyIn, keepIn, firstIn}
+use Rattle.counting.proofs.tests.TestLaws.{true-false}
+use Rattle.counting.proofs.sorting.SortLaws.{Every}
 
 module _ {A : Type 0} (p : A → Bool) where
   -- the place in the list of the kept member at place k
@@ -37,3 +40,42 @@ module _ {A : Type 0} (p : A → Bool) where
       go (suc k) false q b ih =
           let m = ih (suc k) b in
           record { below = rw q (omega (arith, m .below)); has = rw q (m .has); is = rw q (m .is) }
+
+module _ {A : Type 0} where
+  pub every-keepIn : (P : A → Type 0) (q : A → Bool) (l : List A) → Every P l → Every P (keepIn q l)
+  unfolding keepIn
+  every-keepIn P q [] e = tt
+  every-keepIn P q (a ∷ rest) e = go (q a) (every-keepIn P q rest (e .1))
+    where
+      go : (b : Bool) → Every P (keepIn q rest) → Every P (cond b (a ∷ keepIn q rest) (keepIn q rest))
+      go true f = (e .0, f)
+      go false f = f
+
+  anyIn-cond : (p : A → Bool) (a : A) (t : Bool) (l : List A) → anyIn p (cond t (a ∷ l) l) ≡ (p a && t || anyIn p l)
+  unfolding anyIn
+  anyIn-cond p a true l = ap₂ _||_ (sym (and-true (p a))) refl
+  anyIn-cond p a false l = ap₂ _||_ (sym (and-false (p a))) refl
+
+  -- what is kept has p where the list has, if of those with p all are kept or, by b, none
+  pub anyIn-kept : (p q : A → Bool) (b : Bool) (l : List A) → Every (λ a. (p a && q a) ≡ (p a && b)) l
+      → anyIn p (keepIn q l) ≡ (anyIn p l && b)
+  unfolding anyIn keepIn
+  anyIn-kept p q b [] e = refl
+  anyIn-kept p q b (a ∷ l) e =
+      anyIn-cond p a (q a) (keepIn q l)
+      ∙ ap₂ _||_ (e .0) (anyIn-kept p q b l (e .1))
+      ∙ sym (and-or-distrib-right (p a) (anyIn p l) b)
+
+  -- the first that has p, among those kept, where all that have p are kept
+  pub firstIn-kept : (p q : A → Bool) (z : A) (l : List A) → Every (λ a. p a ≡ true → q a ≡ true) l
+      → firstIn p z (keepIn q l) ≡ firstIn p z l
+  unfolding firstIn keepIn
+  firstIn-kept p q z [] e = refl
+  firstIn-kept p q z (a ∷ rest) e = go (q a) refl (p a) refl (firstIn-kept p q z rest (e .1))
+    where
+      go : (b : Bool) → q a ≡ b → (c : Bool) → p a ≡ c → firstIn p z (keepIn q rest) ≡ firstIn p z rest
+          → firstIn p z (cond b (a ∷ keepIn q rest) (keepIn q rest)) ≡ cond c a (firstIn p z rest)
+      go true f true h ih = rw h
+      go true f false h ih = rw h ih
+      go false f true h ih = absurd (true-false (q a) (e .0 h) f)
+      go false f false h ih = ih

@@ -6,7 +6,7 @@ use mathlib.Core.Path.{_≡_, refl, ap, ap₂, sym, _∙_}
 use Rattle.counting.specs.Lists.{keepIn}
 use Rattle.counting.specs.Sorting.{inserted, sorted}
 use Rattle.counting.proofs.sorting.SortLaws.{Every, IsOrder, InOrder, Every-map, Every-sorted, sorted-in-order}
-use Rattle.counting.proofs.lists.EveryLaws.{every-keepIn}
+use Rattle.counting.proofs.lists.KeepLaws.{every-keepIn}
 
 module _ {A : Type 0} where
   -- sorting looks at the order between members only

@@ -11,7 +11,8 @@ use lib.Dec.{leb, ltb}
 use Rattle.counting.proofs.searches.FirstToLaws.{IsFirst, firstTo-first}
 use Rattle.counting.proofs.tests.TestLaws.{true-false}
 use Rattle.counting.proofs.sorting.SortLaws.{Every, Every-map}
-use Rattle.counting.proofs.tests.KeptTests.{anyIn-every, anyIn-kept}
+use Rattle.counting.proofs.lists.EveryLaws.{anyIn-every}
+use Rattle.counting.proofs.lists.KeepLaws.{anyIn-kept}
 use Rattle.load.specs.declared.Window.{Window}
 use Rattle.load.specs.Load.{shown}
 use Rattle.load.specs.View.{View, embeddedIn, embedded, isFree, openWith}

@@ -10,8 +10,7 @@ use lib.ListN.{length}
 use borrow.Author.Tests.{leb-true, ltb-true, le-leb}
 use Rattle.counting.proofs.tests.TestLaws.{and-left, and-right, true-false}
 use Rattle.counting.proofs.sorting.SortLaws.{Every-map, Every-at, at-Every}
-use Rattle.counting.proofs.lists.EveryLaws.{firstIn-kept}
-use Rattle.counting.proofs.lists.KeepLaws.{keptPlace, keepIn-at}
+use Rattle.counting.proofs.lists.KeepLaws.{keptPlace, keepIn-at, firstIn-kept}
 use Rattle.load.specs.declared.Window.{Window}
 use Rattle.load.specs.Load.{noWindow}
 use Rattle.load.specs.View.{View, chain, embedded, openWith, openAt}
