@@ -17,16 +17,11 @@ use Rattle.rules.specs.Run.{schedule}
 use Rattle.rules.specs.Slots.{noSlot, slotAt, slotEnd, lastEnd}
 use Rattle.rules.specs.ScheduleRules.{NamesStep}
 use Rattle.rules.proofs.invariant.RunnableLaws.{acceptable-runnable}
+use Rattle.rules.proofs.run.RunEnd.{lastEnd-last}
 use Rattle.rules.proofs.run.RunMade.{schedule-is-whole}
 use Rattle.rules.proofs.slots.WholeLaws.{Whole, names}
 use Rattle.bound.proofs.AcceptedLaws.{accepted-few}
 use Rattle.lines.specs.inner.Parts.{Scheduled}
-
-lastEnd-last : (L : View) (slots : List Slot) (slot : Slot) → lastEnd L (slots ++ slot ∷ []) ≡ slotEnd L slot
-unfolding lastEnd
-lastEnd-last L [] slot = refl
-lastEnd-last L (a ∷ []) slot = refl
-lastEnd-last L (a ∷ b ∷ rest) slot = lastEnd-last L (b ∷ rest) slot
 
 pub lastEnd-none : (L : View) (slots : List Slot) (n : ℕ) → n ≡ 0 → lastEnd L (take n slots) ≡ 0
 unfolding lastEnd

@@ -5,9 +5,9 @@ use mathlib.Core.Bool.{Bool, true, false, cond}
 use mathlib.Core.Path.{_≡_, refl}
 use native.Mathlib.Omega.{arith}
 use borrow.Author.Tests.{eqb-true, le-ltb, lt-leb, ne-eqb}
-use lib.Dec.{eqb, ltb}
+use lib.Dec.{eqb}
 use lib.ListN.{length, length-take}
-use Rattle.counting.proofs.tests.TestLaws.{or-neither, false-anyTo, true-allFrom}
+use Rattle.counting.proofs.tests.TestLaws.{false-anyTo, true-allFrom}
 use Rattle.refusals.specs.declared.Checked.the-variants.{Good}
 use Rattle.refusals.proofs.FirstMetLaws.{good-firstFaultTo}
 use Rattle.load.specs.declared.Window.{Window}
@@ -23,15 +23,7 @@ use Rattle.load.specs.Load.{
   windowAt,
 }
 use Rattle.load.specs.View.{viewOf}
-use Rattle.load.specs.Faults.{
-  outside,
-  rowTests,
-  takenTests,
-  stepTests,
-  windowTests,
-  mostWait,
-  lastBefore,
-}
+use Rattle.load.specs.Faults.{rowTests, takenTests, stepTests, windowTests, mostWait, lastBefore}
 use Rattle.load.specs.Check.{
   isZeroStep,
   isZeroWindow,
@@ -44,11 +36,8 @@ use Rattle.load.specs.Check.{
   checkLoad,
 }
 use Rattle.load.specs.Acceptable.{Acceptable, Registered, Placed}
+use Rattle.load.proofs.RangeLaws.{within-outside}
 use Rattle.load.proofs.AcceptableLaws.{window-is}
-
--- a number in its range
-inside : (least most n : ℕ) → least ≤ n → n ≤ most → outside least most n ≡ false
-inside least most n l m = or-neither (ltb n least) (ltb most n) (le-ltb n least l) (le-ltb most n m)
 
 le-mostWait : (row : Row) (j n : ℕ) → n ≤ largestWait → (shown j ≡ row .steps → n ≡ 0) → n ≤ mostWait row j
 le-mostWait row j n most last = go (eqb (shown j) (row .steps)) refl
@@ -63,11 +52,11 @@ module _ (load : Load) (ok : Acceptable (viewOf load)) (reg : Registered load) (
     unfolding rowTests viewOf
     fields-good =
         rw (
-          inside 1 _ _ (reg .identifier-least i l) (reg .identifier-most i l),
-          inside 1 _ _ (reg .box-least i l) (reg .box-most i l),
+          within-outside 1 _ _ (reg .identifier-least i l) (reg .identifier-most i l),
+          within-outside 1 _ _ (reg .box-least i l) (reg .box-most i l),
           le-ltb _ _ (ok .phase-most i l),
-          inside 1 _ _ (ok .deadline-least i l) (ok .deadline-most i l),
-          inside 1 _ _ (ok .steps-least i l) (ok .steps-most i l),
+          within-outside 1 _ _ (ok .deadline-least i l) (ok .deadline-most i l),
+          within-outside 1 _ _ (ok .steps-least i l) (ok .steps-most i l),
           le-ltb mostWindows (rowAt load i .windows) windows-le,
         )
       where
@@ -92,7 +81,7 @@ module _ (load : Load) (ok : Acceptable (viewOf load)) (reg : Registered load) (
     unfolding stepTests viewOf
     step-good j h =
         rw (
-          inside 1 _ _ (ok .cost-least i j l h) (ok .cost-most i j l h),
+          within-outside 1 _ _ (ok .cost-least i j l h) (ok .cost-most i j l h),
           le-ltb _ _ (le-mostWait (rowAt load i) j _ (ok .wait-most i j l h) (ok .wait-last i j l h)),
         )
 
@@ -119,7 +108,7 @@ module _ (load : Load) (ok : Acceptable (viewOf load)) (reg : Registered load) (
         rw (
           ne-eqb (w .first) 0 (omega arith),
           ne-eqb (w .last) 0 (omega arith),
-          inside 1 _ _ (rw is at (ok .limit-least i p l s)) (rw is at (ok .limit-most i p l s)),
+          within-outside 1 _ _ (rw is at (ok .limit-least i p l s)) (rw is at (ok .limit-most i p l s)),
           lt-leb (w .last) (w .first) grows,
           le-ltb _ _ (rw is at (ok .last-most i p l s)),
           lt-leb _ _ (last-before p h),

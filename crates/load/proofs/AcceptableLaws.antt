@@ -12,7 +12,7 @@ use lib.Dec.{eqb, ltb}
 use lib.ListN.{length, length-take, List·getD-eq-default}
 use lib.Seq.{getD-take}
 use Rattle.counting.specs.Sums.{allFrom}
-use Rattle.counting.proofs.tests.TestLaws.{or-left, or-right, anyTo-false, allFrom-true}
+use Rattle.counting.proofs.tests.TestLaws.{anyTo-false, allFrom-true}
 use Rattle.refusals.specs.declared.Refusal.the-variants.{OutOfRange}
 use Rattle.refusals.specs.declared.Checked.{Checked}
 use Rattle.refusals.specs.declared.Checked.the-variants.{Good}
@@ -32,7 +32,7 @@ use Rattle.load.specs.Load.{
   windowAt,
 }
 use Rattle.load.specs.View.{viewOf}
-use Rattle.load.specs.Faults.{outside, rowTests, takenTests, stepTests, windowTests, mostWait}
+use Rattle.load.specs.Faults.{rowTests, takenTests, stepTests, windowTests, mostWait}
 use Rattle.load.specs.Check.{
   allZero,
   isZeroStep,
@@ -48,6 +48,7 @@ use Rattle.load.specs.Check.{
   checkLoad,
 }
 use Rattle.load.specs.Acceptable.{Acceptable, Registered, Placed, windowOf}
+use Rattle.load.proofs.RangeLaws.{outside-least, outside-most}
 
 -- what `checkLoad` finds, in its order
 abbrev loadFindings : Load → List Checked
@@ -68,13 +69,7 @@ rowFindings load i row =
     ∷ allZero (zeroWindowsFrom row (row .windows))
     ∷ []
 
-outside-least : (least most n : ℕ) → outside least most n ≡ false → least ≤ n
-outside-least least most n e = ltb-false n least (or-left (ltb n least) (ltb most n) e)
-
-outside-most : (least most n : ℕ) → outside least most n ≡ false → n ≤ most
-outside-most least most n e = ltb-false most n (or-right (ltb n least) (ltb most n) e)
-
-allZero-good : (zeros : Bool) → allZero zeros ≡ Good → zeros ≡ true
+pub allZero-good : (zeros : Bool) → allZero zeros ≡ Good → zeros ≡ true
 allZero-good zeros e = not-false zeros (firstMet-good-first _ [] e)
 
 -- what a wait may be is at most 3,600, and 0 at the last step

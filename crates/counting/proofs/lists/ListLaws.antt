@@ -1,5 +1,5 @@
--- Laws of lists made from the numbers below n: their equations at n + 1, their lengths, what stands at a place, and
--- how a filled array grows by one place.
+-- Laws of lists made from the numbers below n, or of the members of a list: their equations at n + 1, their lengths,
+-- what stands at a place, and how a filled array grows by one place.
 use Prim.Native.Nat.{ℕ, zero, suc, _+_, _-_, _*_, _≤_, _<_}
 use mathlib.Core.Bool.{cond}
 use mathlib.Core.List.{List, [], _∷_, _++_, append-assoc, append-nil}
@@ -12,7 +12,7 @@ use lib.Dec.{ltb}
 use lib.ListN.{length, getD, set, replicate, length-append, length-replicate, getD-replicate, List·getD-append}
 use lib.Seq.{ext-getD, getD-append-add, getD-at, set-at}
 use Rattle.counting.specs.Sums.{sumTo}
-use Rattle.counting.specs.Lists.{joinTo, listTo, filled}
+use Rattle.counting.specs.Lists.{joinTo, joinIn, listTo, filled}
 
 module _ {A : Type 0} where
   pub joinTo-zero : (f : ℕ → List A) → joinTo f 0 ≡ []
@@ -120,3 +120,9 @@ module _ {A : Type 0} where
       each i l (no b) =
           getD-unfilled f n last i z z (omega arith) l
           ∙ sym (getD-listTo at last i z l ∙ ap (λ t. cond t (f i) z) (le-ltb i n (omega arith)))
+
+pub joinIn-append : {A B : Type 0} → (f : B → List A) (s t : List B) → joinIn f (s ++ t) ≡ joinIn f s ++ joinIn f t
+unfolding joinIn
+joinIn-append f [] t = refl
+joinIn-append f (a ∷ s) t =
+    ap (λ l. f a ++ l) (joinIn-append f s t) ∙ sym (append-assoc (f a) (joinIn f s) (joinIn f t))

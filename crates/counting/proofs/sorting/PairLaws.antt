@@ -2,8 +2,8 @@
 -- with at most r members below it and at least r up to it, their sum is one over the numbers, and no list is made.
 use Prim.Native.Nat.{ℕ, zero, suc, _+_, _*_, _≤_, _<_}
 use mathlib.Core.Bool.{Bool, true, false, cond}
-use mathlib.Core.List.{List, [], _∷_, _++_, append-assoc, append-nil}
-use mathlib.Core.Path.{_≡_, refl, sym, ap, ap₂, _∙_}
+use mathlib.Core.List.{List, [], _∷_, _++_, append-nil}
+use mathlib.Core.Path.{_≡_, refl, ap, ap₂, _∙_}
 use native.Mathlib.Decide.{decLt}
 use native.Mathlib.Omega.{arith}
 use borrow.Author.Tests.{lt-ltb, le-ltb, le-leb, lt-leb}
@@ -11,9 +11,8 @@ use lib.Dec.{leb, ltb}
 use lib.ListN.{length}
 use Rattle.counting.specs.Sums.{sumTo, bit, countTo}
 use Rattle.counting.specs.Lists.{joinTo, joinIn, numbersWhere}
-use Rattle.counting.proofs.sums.SumLaws.{sumTo-ext, sumTo-mono, sumTo-next}
-use Rattle.counting.proofs.lists.ListLaws.{joinTo-ext}
-use Rattle.counting.proofs.sums.MaxLaws.{sumTo-none}
+use Rattle.counting.proofs.sums.SumLaws.{sumTo-ext, sumTo-mono, sumTo-next, sumTo-none}
+use Rattle.counting.proofs.lists.ListLaws.{joinTo-ext, joinIn-append}
 use Rattle.counting.proofs.sorting.SortLaws.{totalIn, totalIn-append}
 use Rattle.counting.proofs.lists.NumbersLaws.{numbersWhere-length}
 use Rattle.counting.proofs.sorting.SmallestLaws.{smallestSum, pairsOf}
@@ -48,12 +47,6 @@ pub record Splits (f g : ℕ → ℕ) (p : ℕ → Bool) (n t : ℕ) : Type 0 wh
   pub up-to : countTo p n ≤ pairsUpTo f g p n t
 
 module _ {A : Type 0} where
-  joinIn-append : (h : ℕ → List A) (s t : List ℕ) → joinIn h (s ++ t) ≡ joinIn h s ++ joinIn h t
-  unfolding joinIn
-  joinIn-append h [] t = refl
-  joinIn-append h (a ∷ s) t =
-      ap (λ l. h a ++ l) (joinIn-append h s t) ∙ sym (append-assoc (h a) (joinIn h s) (joinIn h t))
-
   -- lists joined over the numbers that have p
   joinIn-numbersWhere : (h : ℕ → List A) (p : ℕ → Bool) (n : ℕ)
       → joinIn h (numbersWhere p n) ≡ joinTo (λ k. cond (p k) (h k) []) n
@@ -117,9 +110,7 @@ module _ (f g : ℕ → ℕ) (p : ℕ → Bool) where
   pub pairsBelow-none : (n : ℕ) → pairsBelow f g p n 0 ≡ 0
   unfolding pairTotal
   pairsBelow-none n =
-      sumTo-ext (λ k. cond (p k) (bit (ltb (f k) 0) + bit (ltb (g k) 0)) 0) (λ k. 0) n
-      (λ k l. none (p k) k)
-      ∙ sumTo-none n
+      sumTo-none (λ k. cond (p k) (bit (ltb (f k) 0) + bit (ltb (g k) 0)) 0) n (λ k l. none (p k) k)
     where
       none : (b : Bool) (k : ℕ) → cond b (bit (ltb (f k) 0) + bit (ltb (g k) 0)) 0 ≡ 0
       none true k = rw (le-ltb (f k) 0 (omega arith), le-ltb (g k) 0 (omega arith))

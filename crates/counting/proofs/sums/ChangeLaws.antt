@@ -85,11 +85,6 @@ pub sumTo-suc : (f : ℕ → ℕ) (n : ℕ) → sumTo f (suc n) ≡ sumTo f n + 
 unfolding sumTo
 sumTo-suc f n = refl
 
-pub sumTo-none : (f : ℕ → ℕ) (n : ℕ) → ((i : ℕ) → i < n → f i ≡ 0) → sumTo f n ≡ 0
-unfolding sumTo
-sumTo-none f zero h = refl
-sumTo-none f (suc n) h = omega (arith, sumTo-none f n (λ i l. h i (omega arith)), h n (omega arith))
-
 -- a term that counts only where a test holds
 pub cond-le : (b : Bool) (x y d : ℕ) → (b ≡ true → x ≤ y + d) → cond b x 0 ≤ cond b y 0 + d
 cond-le true x y d h = h refl

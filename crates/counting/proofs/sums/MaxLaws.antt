@@ -4,7 +4,7 @@ use Prim.Native.Nat.{ℕ, zero, suc, _+_, _-_, _≤_, _<_}
 use mathlib.Core.Path.{_≡_, refl, ap}
 use native.Mathlib.Omega.{arith}
 use Rattle.counting.specs.Sums.{sumTo, maxTo}
-use Rattle.counting.proofs.sums.SumLaws.{sumTo-ext, sumTo-add, sumTo-split, maxTo-le}
+use Rattle.counting.proofs.sums.SumLaws.{sumTo-none, sumTo-ext, sumTo-add, sumTo-split, maxTo-le}
 
 pub maxTo-mono : (f g : ℕ → ℕ) (n : ℕ) → ((i : ℕ) → i < n → f i ≤ g i) → maxTo f n ≤ maxTo g n
 unfolding maxTo
@@ -17,15 +17,10 @@ unfolding maxTo sumTo
 maxTo-sumTo-le f zero = omega arith
 maxTo-sumTo-le f (suc n) = omega (arith, maxTo-sumTo-le f n)
 
-pub sumTo-none : (n : ℕ) → sumTo (λ i. 0) n ≡ 0
-unfolding sumTo
-sumTo-none zero = refl
-sumTo-none (suc n) = omega (arith, sumTo-none n)
-
 -- rows first, or columns first
 pub sumTo-swap : (f : ℕ → ℕ → ℕ) (n m : ℕ) → sumTo (λ i. sumTo (f i) m) n ≡ sumTo (λ j. sumTo (λ i. f i j) n) m
 unfolding sumTo
-sumTo-swap f zero m = omega (arith, sumTo-none m)
+sumTo-swap f zero m = omega (arith, sumTo-none (λ j. 0) m (λ j l. refl))
 sumTo-swap f (suc n) m = omega (arith, sumTo-swap f n m, sumTo-add (λ j. sumTo (λ i. f i j) n) (f n) m)
 
 -- a sum whose terms from n on are 0
@@ -38,8 +33,7 @@ sumTo-shorter f g n k h same zeros =
       ap (sumTo f) e,
       sumTo-split f n (k - n),
       sumTo-ext f g n same,
-      sumTo-ext (λ d. f (n + d)) (λ d. 0) (k - n) (λ d l. zeros (n + d) (omega arith) (omega arith)),
-      sumTo-none (k - n),
+      sumTo-none (λ d. f (n + d)) (k - n) (λ d l. zeros (n + d) (omega arith) (omega arith)),
     )
 
 pub maxTo-none : (f : ℕ → ℕ) (n : ℕ) → ((i : ℕ) → i < n → f i ≡ 0) → maxTo f n ≡ 0

@@ -15,6 +15,12 @@ pub sumTo-next : (f : ℕ → ℕ) (n : ℕ) → sumTo f (n + 1) ≡ sumTo f n +
 unfolding sumTo
 sumTo-next f n = rw add-one
 
+-- a sum of nothing but 0
+pub sumTo-none : (f : ℕ → ℕ) (n : ℕ) → ((i : ℕ) → i < n → f i ≡ 0) → sumTo f n ≡ 0
+unfolding sumTo
+sumTo-none f zero h = refl
+sumTo-none f (suc n) h = omega (arith, sumTo-none f n (λ i l. h i (omega arith)), h n (omega arith))
+
 pub sumTo-ext : (f g : ℕ → ℕ) (n : ℕ) → ((i : ℕ) → i < n → f i ≡ g i) → sumTo f n ≡ sumTo g n
 unfolding sumTo
 sumTo-ext f g zero h = refl

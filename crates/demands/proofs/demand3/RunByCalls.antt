@@ -4,12 +4,12 @@ use Prim.Native.Nat.{ℕ, zero, suc}
 use mathlib.Core.Path.{_≡_, refl, ap, sym, _∙_, subst}
 use Rattle.refusals.specs.declared.Checked.the-variants.{Good}
 use Rattle.load.specs.declared.Load.{Load}
-use Rattle.load.specs.View.{View, viewOf}
+use Rattle.load.specs.View.{viewOf}
 use Rattle.load.specs.Check.{checkLoad}
-use Rattle.rules.specs.State.{State, fresh}
+use Rattle.rules.specs.State.{fresh}
 use Rattle.rules.specs.Move.{move}
 use Rattle.rules.specs.Run.{stateAfter}
-use Rattle.rules.proofs.run.RunLaws.{stateAfter-next}
+use Rattle.rules.proofs.run.RunLaws.{stateAfter-next, stateAfter-zero}
 use Rattle.bench.specs.declared.Bench.{Bench}
 use Rattle.bench.specs.declared.Moved.{Moved}
 use Rattle.bench.specs.Held.{stateOf, benchOf, nextMove}
@@ -34,10 +34,6 @@ run-of load =
       goes-on = λ n. refl;
     }
 
-stateAfter-none : (L : View) (s : State) → stateAfter L 0 s ≡ s
-unfolding stateAfter
-stateAfter-none L s = refl
-
 module _ (load : Load) (accepted : checkLoad load ≡ Good) (run : Run load) where
   -- the next bench, as the definition has it
   next-bench : (n : ℕ) → run .bench (suc n) ≡ nextMove load (run .bench n) .bench
@@ -49,7 +45,7 @@ module _ (load : Load) (accepted : checkLoad load ≡ Good) (run : Run load) whe
 
   pub run-states : (n : ℕ) → stateOf (run .bench n) ≡ stateAfter (viewOf load) n fresh
   run-states zero =
-      ap stateOf (run .begins) ∙ stateOf-benchOf fresh fresh-ends ∙ sym (stateAfter-none (viewOf load) fresh)
+      ap stateOf (run .begins) ∙ stateOf-benchOf fresh fresh-ends ∙ sym (stateAfter-zero (viewOf load) fresh)
   run-states (suc n) =
       ap stateOf (next-bench n)
       ∙ next-same load accepted (run .bench n) (run-held n) .state-is

@@ -1,6 +1,6 @@
 -- The tests 13, 14 and 17 of a slot are the plain rules, whatever the other slots are: a test that is met is a rule
 -- that is broken, and one that is not met a rule that is kept. 13 is asked by three tests.
-use Prim.Native.Nat.{ℕ, zero, suc, _≤_}
+use Prim.Native.Nat.{ℕ, zero, suc}
 use mathlib.Core.Bool.{Bool, true, false, _||_}
 use mathlib.Core.List.{List}
 use mathlib.Core.Path.{_≡_, refl, sym, subst}
@@ -11,6 +11,7 @@ use Rattle.counting.proofs.tests.TestLaws.{and-left, and-right, and-both, or-le
 use Rattle.load.specs.Load.{lastMoment, shown}
 use Rattle.load.specs.View.{View}
 use Rattle.load.specs.Faults.{outside}
+use Rattle.load.proofs.RangeLaws.{outside-least, outside-most}
 use Rattle.rules.specs.declared.Slot.{Slot}
 use Rattle.rules.specs.Slots.{slotAt, rowOf, slotEnd}
 use Rattle.rules.specs.Check.{namesNoStep, notNext, overlaps, endsRowLate}
@@ -32,13 +33,6 @@ use Rattle.rules.proofs.slots.SlotLaws.{ofRow}
 or-cases : {A : Type 0} → (a b : Bool) → (a || b) ≡ true → (a ≡ true → A) → (b ≡ true → A) → A
 or-cases true b e f g = f refl
 or-cases false b e f g = g e
-
--- a number that is not outside its range
-pub outside-false : (least most n : ℕ) → outside least most n ≡ false → (least ≤ n) × (n ≤ most)
-outside-false least most n e = (
-  ltb-false n least (or-left (ltb n least) (ltb most n) e),
-  ltb-false most n (or-right (ltb n least) (ltb most n) e),
-)
 
 -- a slot that names its row's next step
 pub record Named (L : View) (slots : List Slot) (k : ℕ) : Type 0 where
@@ -74,14 +68,14 @@ module _ (L : View) (slots : List Slot) (k : ℕ) where
       let there = or-left (namesNoStep L x) (notNext slots k x) both in
       let a = outside 1 (L .rows) (x .row) in
       let b = outside 1 (L .steps (rowOf x)) (x .step) in
-      let rows = outside-false 1 (L .rows) (x .row) (or-left a b there) in
-      let steps = outside-false 1 (L .steps (rowOf x)) (x .step) (or-right a b there) in
+      let row = or-left a b there in
+      let step = or-right a b there in
       record {
         names = record {
-          row-from = rows .0;
-          row-to = rows .1;
-          step-from = steps .0;
-          step-to = steps .1;
+          row-from = outside-least 1 (L .rows) (x .row) row;
+          row-to = outside-most 1 (L .rows) (x .row) row;
+          step-from = outside-least 1 (L .steps (rowOf x)) (x .step) step;
+          step-to = outside-most 1 (L .steps (rowOf x)) (x .step) step;
           start-to =
               ltb-false lastMoment (x .start)
               (or-right (namesNoStep L x || notNext slots k x) (ltb lastMoment (x .start)) e);

@@ -37,7 +37,7 @@ use Rattle.rules.specs.Check.{
 }
 use Rattle.rules.specs.ScheduleRules.{NamesStep}
 use Rattle.rules.proofs.slots.SlotLaws.{IsSlot}
-use Rattle.rules.proofs.slots.NextLaws.{EachNext, once}
+use Rattle.rules.proofs.slots.NextLaws.{EachNext, once, in-order}
 use Rattle.rules.proofs.slots.RowCounts.{ofRow-steps, after-all}
 use Rattle.rules.proofs.check.SlotTests.{looked}
 use Rattle.rules.proofs.slots.WholeLaws.{Whole}
@@ -115,7 +115,7 @@ module _ (L : View) (slots : List Slot) (e : checkSlots L slots ≡ Good) where
       let f = looked slots i j (record { place = h; below = l; its-row = is .its-row; its-step = is .its-step }) in
       f .is
       ∙ ap (slotAt slots)
-      (once slots met-next (f .place) h
+      (once slots (in-order slots met-next) (f .place) h
       (record { first = f .below; second = l; same = f .its-row ∙ sym (is .its-row) })
       (f .its-step ∙ sym (is .its-step)))
 

@@ -18,7 +18,7 @@ use Rattle.load.specs.declared.Window.{Window}
 use Rattle.load.specs.Load.{lastMoment, shown, noWindow}
 use Rattle.load.specs.View.{View}
 use Rattle.load.specs.Acceptable.{windowOf as windowAt}
-use Rattle.load.specs.Faults.{outside}
+use Rattle.load.proofs.RangeLaws.{within-outside}
 use Rattle.rules.specs.declared.Slot.{Slot}
 use Rattle.rules.specs.Ready.{release}
 use Rattle.rules.specs.Slots.{noSlot, slotAt, rowOf, stepOf, slotEnd, isFor, slotFor}
@@ -26,7 +26,7 @@ use Rattle.rules.specs.Check.{namesNoStep, notNext, overlaps, startsEarl
 use Rattle.rules.specs.ScheduleRules.{NamesStep, HasSlot}
 use Rattle.rules.proofs.slots.SlotLaws.{ofRow, IsSlot}
 use Rattle.rules.proofs.slots.WholeLaws.{Whole, names, each}
-use Rattle.rules.proofs.slots.NextLaws.{later, slot-is}
+use Rattle.rules.proofs.slots.NextLaws.{slot-is, in-order, lower-first}
 
 -- the slot that a row and a step are looked up by stands in the list
 pub record Looked (slots : List Slot) (row step : ℕ) : Type 0 where
@@ -65,9 +65,6 @@ looked slots i j h =
               (s .has));
         }
 
-inside : (least most n : ℕ) → least ≤ n → n ≤ most → outside least most n ≡ false
-inside least most n a b = rw (le-ltb n least a, le-ltb most n b)
-
 module _ (L : View) (slots : List Slot) (w : Whole L slots)
     (long : (i p : ℕ) → i < L .rows → p < length (L .windows i) → windowAt L i p .first < windowAt L i p .last)
     (first : (i p : ℕ) → i < L .rows → p < length (L .windows i) → 1 ≤ windowAt L i p .first)
@@ -90,8 +87,8 @@ module _ (L : View) (slots : List Slot) (w : Whole L slots)
   names-false : namesNoStep L x ≡ false
   names-false =
       rw (
-        inside 1 (L .rows) (x .row) (mine .row-from) (mine .row-to),
-        inside 1 (L .steps i) (x .step) (mine .step-from) (mine .step-to),
+        within-outside 1 (L .rows) (x .row) (mine .row-from) (mine .row-to),
+        within-outside 1 (L .steps i) (x .step) (mine .step-from) (mine .step-to),
       )
 
   next-false : notNext slots k x ≡ false
@@ -114,7 +111,7 @@ module _ (L : View) (slots : List Slot) (w : Whole L slots)
 
     before : found .place < k
     before =
-        later slots (λ h lh. w .fits h lh .next) (found .place) k
+        lower-first slots (in-order slots (λ h lh. w .fits h lh .next)) (found .place) k
         (record { first = found .below; second = l; same = found .its-row ∙ sym (is .its-row) })
         (omega (arith, found .its-step))
 

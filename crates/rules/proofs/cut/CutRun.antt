@@ -6,11 +6,7 @@ use mathlib.Core.Logic.{_≢_}
 use mathlib.Core.Path.{_≡_, refl, ap, sym, _∙_, subst}
 use native.Mathlib.Decide.{decLt}
 use native.Mathlib.Omega.{arith}
-use lib.Dec.{leb}
-use borrow.Author.Tests.{leb-true}
-use Rattle.counting.specs.Sums.{allTo}
 use Rattle.counting.specs.Searches.{Found, at, none}
-use Rattle.counting.proofs.tests.TestLaws.{allTo-true}
 use Rattle.load.specs.View.{View}
 use Rattle.rules.specs.Cut.{kept, cut}
 use Rattle.rules.specs.Margins.{rowBound}
@@ -28,39 +24,12 @@ use Rattle.rules.proofs.moves.MoveLaws.{
   started-end-other,
   chosen-at,
   canStart-isCandidate,
-  move-goes,
 }
-use Rattle.rules.proofs.invariant.ClockBound.{tightBound-fits}
-use Rattle.rules.proofs.invariant.MoveKeeps.{
-  Accounted,
-  accounted-shaped,
-  accounted-early,
-  accounted-done,
-  accounted-turn,
-}
+use Rattle.rules.proofs.moves.MoveRefused.{left-unfinished}
+use Rattle.rules.proofs.invariant.MoveKeeps.{Accounted, accounted-done, accounted-turn, accounted-goes}
 use Rattle.rules.proofs.run.RunLaws.{stateAfter-next, run-accounted, run-clock}
 use Rattle.rules.proofs.cut.CutRunnable.{runnable-of-cut}
 use Rattle.rules.proofs.cut.CutMoves.{startedFull-same, chosen-same}
-
--- a row with steps left, and so not all finished
-late-unfinished : (L : View) (s : State) (z : ℕ) → z < L .rows → s .finished z < L .steps z → allFinished L s ≡ false
-unfolding allFinished
-late-unfinished L s z lz late = go (allTo (λ i. leb (L .steps i) (s .finished i)) (L .rows)) refl
-  where
-    go : (b : Bool) → allTo (λ i. leb (L .steps i) (s .finished i)) (L .rows) ≡ b → b ≡ false
-    go false e = refl
-    go true e =
-        absurd (omega (
-          arith,
-          leb-true (L .steps z) (s .finished z)
-              (allTo-true (λ i. leb (L .steps i) (s .finished i)) (L .rows) e z lz),
-        ))
-
--- a move with work left
-accounted-goes : (L : View) (s : State) → Runnable L → Accounted L s → allFinished L s ≡ false
-    → move L s ≡ startOrIdle L s (chosen L s)
-accounted-goes L s g v nd =
-    move-goes L s (accounted-shaped L s g v) nd (omega (arith, accounted-early L s g v nd, tightBound-fits L g))
 
 -- a finished row stays as it is
 record Stays (s t : State) (z : ℕ) : Type 0 where
@@ -113,10 +82,12 @@ module _ (L : View) (g : Runnable L) (z : ℕ) (lz : z < L .rows) where
       inside i l = omega (arith, vK .invariant .shape .finished-le i l, steps-of-cut L m i)
 
       nL : allFinished L s ≡ false
-      nL = late-unfinished L s z lz late
+      nL = left-unfinished L s (record { row = z; there = lz; left = late })
 
       nK : allFinished K s ≡ false
-      nK = late-unfinished K s z lz′ (omega (arith, steps-of-cut L m z, firstKept-le L m z))
+      nK =
+          left-unfinished K s
+          (record { row = z; there = lz′; left = omega (arith, steps-of-cut L m z, firstKept-le L m z) })
 
       go : (f : Found) → chosen L s ≡ f → startOrIdle K s f .then ≡ startOrIdle L s f .then
       go none e = refl

@@ -10,7 +10,8 @@ use lib.Dec.{eqb, leb, ltb}
 use borrow.Author.Tests.{ltb-true, eqb-false, not-true, lt-ltb, le-ltb, le-leb, lt-leb, eq-eqb, ne-eqb}
 use Rattle.counting.specs.Sums.{sumTo}
 use Rattle.counting.proofs.tests.TestLaws.{and-left, and-right}
-use Rattle.counting.proofs.sums.ChangeLaws.{sumTo-suc, sumTo-none, cond-mono}
+use Rattle.counting.proofs.sums.ChangeLaws.{sumTo-suc, cond-mono}
+use Rattle.counting.proofs.sums.SumLaws.{sumTo-none}
 use Rattle.load.specs.Load.{mostSteps}
 use Rattle.load.specs.View.{View, embedded, isFree, embeddedWait}
 use Rattle.rules.specs.Bound.{largestPhase, embeddedWaitAt, largestW}

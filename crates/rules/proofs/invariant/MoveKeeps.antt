@@ -10,16 +10,25 @@ use borrow.Author.Tests.{ltb-true, ltb-false, eqb-true, lt-ltb, le-leb, eq-eqb}
 use Rattle.counting.specs.Sums.{sumTo, allTo}
 use Rattle.counting.specs.Lists.{changed}
 use Rattle.counting.proofs.tests.TestLaws.{and-left, and-right, and-both, true-allTo, true-false}
-use Rattle.counting.proofs.sums.ChangeLaws.{sumTo-none}
+use Rattle.counting.proofs.sums.SumLaws.{sumTo-none}
 use Rattle.counting.proofs.searches.LeastLaws.{Least, nothing, least-at, least}
 use Rattle.load.specs.View.{View}
 use Rattle.rules.specs.State.{State, fresh, shaped}
 use Rattle.rules.specs.Plan.{stack}
-use Rattle.rules.specs.Move.{startedFull, ticked, allFinished, handedBack, move}
+use Rattle.rules.specs.Move.{startedFull, ticked, allFinished, handedBack, move, startOrIdle, chosen}
 use Rattle.rules.specs.declared.Outcome.the-variants.{Done}
 use Rattle.rules.proofs.bound.TightBound.{tightBound}
 use Rattle.rules.proofs.invariant.Runnable.{Runnable}
-use Rattle.rules.proofs.moves.MoveLaws.{CanStart, Turn, starts, idles, started-clock, move-done, move-turn}
+use Rattle.rules.proofs.moves.MoveLaws.{
+  CanStart,
+  Turn,
+  starts,
+  idles,
+  started-clock,
+  move-done,
+  move-turn,
+  move-goes,
+}
 use Rattle.rules.proofs.plan.StartPasses.{fresh-passes}
 use Rattle.rules.proofs.moves.ShapeExact.{shape-shaped}
 use Rattle.rules.proofs.moves.ShapeLaws.{rows-shape, fresh-shape}
@@ -189,6 +198,9 @@ module _ (L : View) (s : State) (g : Runnable L) (v : Accounted L s) where
 
   pub accounted-turn : allFinished L s ≡ false → Turn L s
   accounted-turn nd = move-turn L s accounted-shaped nd (omega (arith, accounted-early nd, tightBound-fits L g))
+
+  pub accounted-goes : allFinished L s ≡ false → move L s ≡ startOrIdle L s (chosen L s)
+  accounted-goes nd = move-goes L s accounted-shaped nd (omega (arith, accounted-early nd, tightBound-fits L g))
 
   turn-accounted : allFinished L s ≡ false → Turn L s → Accounted L (move L s .then)
   turn-accounted nd (starts i c e) = rw e (start-accounted i c)

@@ -26,7 +26,7 @@ numberIn outcome = toldBy outcome .number
 
 module _ (L : View) (s : State) where
   -- a step is left exactly when not all are finished
-  left-unfinished : StepLeft L s → allFinished L s ≡ false
+  pub left-unfinished : StepLeft L s → allFinished L s ≡ false
   unfolding allFinished
   left-unfinished l =
       false-allTo (λ i. leb (L .steps i) (s .finished i)) (L .rows) (l .row) (l .there)

@@ -31,6 +31,13 @@ module _ (L : View) (s : State) where
       let o = embedded-place L i (s .finished i) (sym (opensAt-embedded L i (s .finished i)) ∙ e) in
       record { place = o .place; there = o .below; begun = o .begun; going = o .going }
 
+  pub hasOpen-none : (i : ℕ) → ¬ HasOpen L s i → isOpen L s i ≡ false
+  hasOpen-none i none = go (isOpen L s i) refl
+    where
+      go : (b : Bool) → isOpen L s i ≡ b → b ≡ false
+      go true e = absurd (none (isOpen-hasOpen i e))
+      go false e = refl
+
   -- from the test to the facts
   module _ (e : shaped L s ≡ true) where
     clock-rows : (leb (s .clock) lastMoment && allTo (rowShaped L s) (L .rows)) ≡ true
@@ -52,11 +59,9 @@ module _ (L : View) (s : State) where
         (and-right (leb (s .finished i) (L .steps i) && endFits s i) (openingFits L s i) (row-shaped i l))
 
     no-opening : (i : ℕ) → i < L .rows → ¬ HasOpen L s i → s .opening i ≡ 0
-    no-opening i l none = go (isOpen L s i) refl (opening-fits i l)
-      where
-        go : (b : Bool) → isOpen L s i ≡ b → s .opening i ≤ cond b (s .end i) 0 → s .opening i ≡ 0
-        go true q h = absurd (none (isOpen-hasOpen i q))
-        go false q h = omega arith
+    no-opening i l none =
+        let h : s .opening i ≤ 0 = rw (hasOpen-none i none) at (opening-fits i l) in
+        omega arith
 
     row-unused : (i : ℕ) → L .rows ≤ i → i < mostRows → Unused s i
     unfolding shaped

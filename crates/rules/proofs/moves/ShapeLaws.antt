@@ -10,10 +10,10 @@ use Rattle.load.specs.Load.{lastMoment}
 use Rattle.load.specs.View.{View, embedded, opensAt}
 use Rattle.load.proofs.WindowLaws.{opensAt-embedded}
 use Rattle.rules.specs.State.{State, fresh, isOpen}
-use Rattle.rules.specs.Shape.{HasOpen, Unused, Shape}
+use Rattle.rules.specs.Shape.{Unused, Shape}
 use Rattle.rules.specs.Move.{started, ticked, openingAfter}
 use Rattle.rules.proofs.invariant.Runnable.{Runnable}
-use Rattle.rules.proofs.moves.ShapeExact.{hasOpen-isOpen, isOpen-hasOpen}
+use Rattle.rules.proofs.moves.ShapeExact.{hasOpen-isOpen, hasOpen-none}
 use Rattle.rules.proofs.moves.MoveLaws.{
   started-clock,
   started-finished-same,
@@ -38,13 +38,6 @@ pub record RowsShaped (L : View) (s : State) : Type 0 where
 
 -- with a clock that goes no further than 1,000,000 it is the shape
 module _ (L : View) (s : State) (h : RowsShaped L s) where
-  closed : (i : ℕ) → i < L .rows → ¬ HasOpen L s i → s .opening i ≡ 0
-  closed i l none = go (isOpen L s i) refl
-    where
-      go : (b : Bool) → isOpen L s i ≡ b → s .opening i ≡ 0
-      go true e = absurd (none (isOpen-hasOpen L s i e))
-      go false e = h .opening-zero i l (sym (opensAt-embedded L i (s .finished i)) ∙ e)
-
   pub rows-shape : s .clock ≤ lastMoment → Shape L s
   rows-shape c =
       record {
@@ -54,7 +47,8 @@ module _ (L : View) (s : State) (h : RowsShaped L s) where
         end-none = h .end-zero;
         opening-most = λ i l o.
             h .opening-le i l (sym (opensAt-embedded L i (s .finished i)) ∙ hasOpen-isOpen L s i o);
-        opening-none = closed;
+        opening-none = λ i l none.
+            h .opening-zero i l (sym (opensAt-embedded L i (s .finished i)) ∙ hasOpen-none L s i none);
         unused = λ i l most. h .unused i l;
       }
 

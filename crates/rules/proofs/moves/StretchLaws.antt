@@ -22,15 +22,7 @@ use Rattle.rules.specs.Move.{
 }
 use Rattle.rules.specs.Run.{starts}
 use Rattle.rules.proofs.invariant.Runnable.{Runnable}
-use Rattle.rules.proofs.moves.MoveLaws.{move-goes}
-use Rattle.rules.proofs.invariant.ClockBound.{tightBound-fits}
-use Rattle.rules.proofs.invariant.MoveKeeps.{
-  Accounted,
-  accounted-done,
-  accounted-early,
-  accounted-shaped,
-  move-accounted,
-}
+use Rattle.rules.proofs.invariant.MoveKeeps.{Accounted, accounted-done, move-accounted, accounted-goes}
 use Rattle.rules.proofs.run.RunLaws.{starts-move, starts-zero}
 
 -- a state so many ticks later
@@ -64,13 +56,10 @@ module _ (L : View) (g : Runnable L) where
   starts-done (suc n) s v d = starts-move L n s (handedBack L s Done) (accounted-done L s g v d)
 
   module _ (s : State) (v : Accounted L s) (nd : allFinished L s ≡ false) where
-    goes : move L s ≡ startOrIdle L s (chosen L s)
-    goes = move-goes L s (accounted-shaped L s g v) nd (omega (arith, accounted-early L s g v nd, tightBound-fits L g))
-
     -- the row that is chosen starts
     module _ (i : ℕ) (e : chosen L s ≡ at i) where
       start-move : move L s ≡ handedBack L (startedFull L s i) (Start (nextSlot s i))
-      start-move = goes ∙ ap (startOrIdle L s) e
+      start-move = accounted-goes L s g v nd ∙ ap (startOrIdle L s) e
 
       pub starts-start : (n : ℕ) → starts L (suc n) s ≡ nextSlot s i ∷ starts L n (startedFull L s i)
       starts-start n = starts-move L n s (handedBack L (startedFull L s i) (Start (nextSlot s i))) start-move
@@ -81,7 +70,7 @@ module _ (L : View) (g : Runnable L) where
     -- where nothing is chosen, the clock moves one tick
     module _ (e : chosen L s ≡ none) where
       idle-move : move L s ≡ handedBack L (ticked s) Idle
-      idle-move = goes ∙ ap (startOrIdle L s) e
+      idle-move = accounted-goes L s g v nd ∙ ap (startOrIdle L s) e
 
       starts-idle : (n : ℕ) → starts L (suc n) s ≡ starts L n (ticked s)
       starts-idle n = starts-move L n s (handedBack L (ticked s) Idle) idle-move

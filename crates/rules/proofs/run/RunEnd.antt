@@ -19,7 +19,7 @@ use Rattle.rules.proofs.invariant.MoveKeeps.{Accounted, fresh-accounted
 use Rattle.rules.proofs.run.RunLaws.{stateAfter-next, run-accounted, run-finished, starts-next, schedule-whole}
 use Rattle.rules.proofs.slots.SlotLaws.{slotEnd-is}
 
-lastEnd-last : (L : View) (slots : List Slot) (x : Slot) → lastEnd L (slots ++ x ∷ []) ≡ slotEnd L x
+pub lastEnd-last : (L : View) (slots : List Slot) (x : Slot) → lastEnd L (slots ++ x ∷ []) ≡ slotEnd L x
 unfolding lastEnd
 lastEnd-last L [] x = refl
 lastEnd-last L (a ∷ []) x = refl

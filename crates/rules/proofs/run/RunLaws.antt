@@ -31,6 +31,10 @@ use Rattle.rules.proofs.invariant.MoveKeeps.{
   move-later,
 }
 
+pub stateAfter-zero : (L : View) (s : State) → stateAfter L 0 s ≡ s
+unfolding stateAfter
+stateAfter-zero L s = refl
+
 pub stateAfter-next : (L : View) (n : ℕ) (s : State) → stateAfter L (suc n) s ≡ move L (stateAfter L n s) .then
 unfolding stateAfter
 stateAfter-next L zero s = refl
@@ -119,10 +123,6 @@ module _ (L : View) (g : Runnable L) where
   unfolding starts
   starts-zero s = refl
 
-  stateAfter-zero : (s : State) → stateAfter L 0 s ≡ s
-  unfolding stateAfter
-  stateAfter-zero s = refl
-
   startsAfter-suc : (n : ℕ) (s : State) → startsAfter (suc n) s ≡ startsAfter n (move L s .then)
   unfolding stateAfter
   startsAfter-suc n s = refl
@@ -132,7 +132,7 @@ module _ (L : View) (g : Runnable L) where
     where
       now : (m : Moved) → move L s ≡ m → startsAfter 0 s ≡ toldBy (m .outcome) .starts
       now m e =
-          ap (λ t. toldBy (move L t .outcome) .starts) (stateAfter-zero s)
+          ap (λ t. toldBy (move L t .outcome) .starts) (stateAfter-zero L s)
           ∙ ap (λ (w : Moved). toldBy (w .outcome) .starts) e
 
       by : Turn L s → starts L 1 s ≡ startsAfter 0 s

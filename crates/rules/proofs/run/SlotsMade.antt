@@ -6,7 +6,7 @@ use mathlib.Core.Path.{_≡_, refl, sym}
 use native.Mathlib.Omega.{arith}
 use lib.ListN.{length}
 use Rattle.counting.specs.Sums.{sumTo}
-use Rattle.counting.proofs.sums.ChangeLaws.{sumTo-none}
+use Rattle.counting.proofs.sums.SumLaws.{sumTo-none}
 use Rattle.load.specs.Load.{shown}
 use Rattle.load.specs.View.{View}
 use Rattle.load.specs.Acceptable.{windowOf as windowAt}

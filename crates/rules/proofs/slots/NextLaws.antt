@@ -93,35 +93,36 @@ module _ (slots : List Slot) (n : ℕ) (next : NextTo slots n) where
             next (r .place) (r .below) ∙ ap shown (ap (λ y. ofRow slots y (r .place)) its ∙ r .rank);
       }
 
-module _ (slots : List Slot) (next : EachNext slots) where
-  -- the steps of a row stand in order, and once
-  pub in-order : (k h : ℕ) → SameRow slots k h → k < h → slotAt slots k .step < slotAt slots h .step
-  in-order k h r l = order-to slots (length slots) next k h l (r .second) (r .same)
+-- the steps of a row stand in order
+abbrev pub Ordered : List Slot → Type 0
+Ordered slots = (k h : ℕ) → SameRow slots k h → k < h → slotAt slots k .step < slotAt slots h .step
 
-  pub later : (k h : ℕ) → SameRow slots k h → slotAt slots k .step < slotAt slots h .step → k < h
-  later k h r l =
+pub in-order : (slots : List Slot) → EachNext slots → Ordered slots
+in-order slots next k h r l = order-to slots (length slots) next k h l (r .second) (r .same)
+
+module _ (slots : List Slot) (ordered : Ordered slots) where
+  -- the other of two slots of a row before the one
+  behind : (k h : ℕ) → SameRow slots k h → h < k → slotAt slots h .step < slotAt slots k .step
+  behind k h r l = ordered h k (record { first = r .second; second = r .first; same = sym (r .same) }) l
+
+  -- of two slots of a row the one of the lower step stands first
+  pub lower-first : (k h : ℕ) → SameRow slots k h → slotAt slots k .step < slotAt slots h .step → k < h
+  lower-first k h r l =
       elim (decLt k h) [
         | yes q ↦ q
         | no q ↦ elim (ℕ-discrete k h) [
           | yes e ↦ absurd (omega (arith, ap (λ y. slotAt slots y .step) e))
-          | no e ↦
-              absurd (omega (
-                arith,
-                in-order h k (record { first = r .second; second = r .first; same = sym (r .same) }) (omega arith),
-              ))
+          | no e ↦ absurd (omega (arith, behind k h r (omega arith)))
         ]
       ]
 
+  -- and each step stands once
   pub once : (k h : ℕ) → SameRow slots k h → slotAt slots k .step ≡ slotAt slots h .step → k ≡ h
   once k h r e =
       elim (ℕ-discrete k h) [
         | yes q ↦ q
         | no q ↦ elim (decLt k h) [
-          | yes l ↦ absurd (omega (arith, in-order k h r l))
-          | no l ↦
-              absurd (omega (
-                arith,
-                in-order h k (record { first = r .second; second = r .first; same = sym (r .same) }) (omega arith),
-              ))
+          | yes l ↦ absurd (omega (arith, ordered k h r l))
+          | no l ↦ absurd (omega (arith, behind k h r (omega arith)))
         ]
       ]

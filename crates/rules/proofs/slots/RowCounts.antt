@@ -11,8 +11,8 @@ use lib.Dec.{eqb}
 use lib.ListN.{length}
 use borrow.Author.Tests.{eqb-true, eq-eqb, ne-eqb, lt-ltb}
 use Rattle.counting.specs.Sums.{sumTo, bit}
-use Rattle.counting.proofs.sums.SumLaws.{sumTo-add, sumTo-split}
-use Rattle.counting.proofs.sums.ChangeLaws.{sumTo-suc, sumTo-none, sumTo-change-ge}
+use Rattle.counting.proofs.sums.SumLaws.{sumTo-add, sumTo-split, sumTo-none}
+use Rattle.counting.proofs.sums.ChangeLaws.{sumTo-suc, sumTo-change-ge}
 use Rattle.counting.proofs.lists.NumbersLaws.{sumTo-only}
 use Rattle.load.specs.Load.{shown}
 use Rattle.load.specs.View.{View, stepsInAll}

@@ -3,7 +3,6 @@
 use Prim.Native.Nat.{ℕ, zero, suc, _+_, _≤_, _<_}
 use mathlib.Core.List.{List}
 use mathlib.Core.Path.{_≡_, refl, ap, ap₂, sym, _∙_, subst}
-use native.Mathlib.Decide.{ℕ-discrete, decLt}
 use native.Mathlib.Omega.{arith}
 use lib.Dec.{eqb}
 use lib.ListN.{length}
@@ -16,27 +15,11 @@ use Rattle.rules.specs.declared.Slot.{Slot}
 use Rattle.rules.specs.Slots.{slotAt, rowOf, stepOf, slotEnd}
 use Rattle.rules.specs.ScheduleRules.{HasSlot, SameRow, SlotRules}
 use Rattle.rules.proofs.slots.SlotLaws.{ofRow, IsSlot}
-use Rattle.rules.proofs.slots.NextLaws.{slot-is, EachNext}
+use Rattle.rules.proofs.slots.NextLaws.{slot-is, EachNext, lower-first}
 use Rattle.rules.proofs.slots.RowCounts.{ofRow-none, ofRow-one, ofRow-all, after-all}
 use Rattle.rules.proofs.slots.WholeLaws.{Whole}
 
 module _ (L : View) (slots : List Slot) (rules : SlotRules L slots) where
-  -- of two slots of a row the one of the lower step stands first
-  lower-first : (a b : ℕ) → SameRow slots a b → slotAt slots a .step < slotAt slots b .step → a < b
-  lower-first a b r h =
-      elim (decLt a b) [
-        | yes l ↦ l
-        | no l ↦ elim (ℕ-discrete a b) [
-          | yes e ↦ absurd (omega (arith, ap (λ y. slotAt slots y .step) e))
-          | no e ↦
-              absurd (omega (
-                arith,
-                rules .in-order b a (record { first = r .second; second = r .first; same = sym (r .same) })
-                    (omega arith),
-              ))
-        ]
-      ]
-
   -- two slots of row i
   both : (i a b : ℕ) → a < length slots → b < length slots → slotAt slots a .row ≡ shown i
       → slotAt slots b .row ≡ shown i → SameRow slots a b
@@ -74,7 +57,7 @@ module _ (L : View) (slots : List Slot) (rules : SlotRules L slots) where
 
       first : a .place < k
       first =
-          lower-first (a .place) k (both i (a .place) k (a .below) l (a .its-row) (e .its-row))
+          lower-first slots (rules .in-order) (a .place) k (both i (a .place) k (a .below) l (a .its-row) (e .its-row))
           (omega (arith, a .its-step, e .its-step))
 
   rules-next : EachNext slots

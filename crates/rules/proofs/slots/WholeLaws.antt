@@ -15,7 +15,15 @@ use Rattle.load.specs.Acceptable.{windowOf as windowAt}
 use Rattle.rules.specs.declared.Slot.{Slot}
 use Rattle.rules.specs.Slots.{slotAt, rowOf, stepOf, slotEnd}
 use Rattle.rules.specs.ScheduleRules.{NamesStep, HasSlot, SameRow, SlotRules}
-use Rattle.rules.proofs.slots.NextLaws.{countTo-ranked, slot-is, ofRow-mono, EachNext, in-order, later, once}
+use Rattle.rules.proofs.slots.NextLaws.{
+  countTo-ranked,
+  slot-is,
+  ofRow-mono,
+  in-order,
+  once,
+  Ordered,
+  lower-first,
+}
 use Rattle.rules.proofs.slots.SlotLaws.{AfterLower, ofRow, Fits}
 
 pub record Whole (L : View) (slots : List Slot) : Type 0 where
@@ -27,8 +35,8 @@ module _ (L : View) (slots : List Slot) (w : Whole L slots) where
   pub names : (k : ℕ) → k < length slots → NamesStep L (slotAt slots k)
   names k l = w .fits k l .names
 
-  next : EachNext slots
-  next k l = w .fits k l .next
+  ordered : Ordered slots
+  ordered = in-order slots (λ k l. w .fits k l .next)
 
   -- each step has its slot
   pub each : (i j : ℕ) → i < L .rows → j < L .steps i → HasSlot slots i j
@@ -56,7 +64,7 @@ module _ (L : View) (slots : List Slot) (w : Whole L slots) where
   waits k h r e =
       let mine = slot-is L (slotAt slots k) (names k (r .first)) in
       w .fits h (r .second) .wait k (rowOf (slotAt slots k)) (stepOf (slotAt slots k))
-      (later slots next k h r (omega arith)) mine
+      (lower-first slots ordered k h r (omega arith)) mine
       (record { its-row = sym (r .same) ∙ mine .its-row; its-step = omega (arith, mine .its-step) })
 
   -- a window is kept
@@ -70,8 +78,8 @@ module _ (L : View) (slots : List Slot) (w : Whole L slots) where
       let mine = slot-is L (slotAt slots k) (names k (r .first)) in
       let i = rowOf (slotAt slots k) in
       let li : i < L .rows = omega (arith, names k (r .first) .row-from, names k (r .first) .row-to) in
-      w .fits h (r .second) .window k i p (later slots next k h r (omega (arith, long i p li lp))) li lp (mine .its-row)
-      (sym (r .same) ∙ mine .its-row) first last
+      let before : k < h = lower-first slots ordered k h r (omega (arith, long i p li lp)) in
+      w .fits h (r .second) .window k i p before li lp (mine .its-row) (sym (r .same) ∙ mine .its-row) first last
 
   -- a free step stands after all lower steps of all rows
   pub free-last : ((k : ℕ) → k < length slots → AfterLower L slots k (slotAt slots k))
@@ -105,8 +113,8 @@ module _ (L : View) (slots : List Slot) (w : Whole L slots) where
       record {
         only = names;
         each = each;
-        once = once slots next;
-        in-order = in-order slots next;
+        once = once slots ordered;
+        in-order = ordered;
         no-overlap = λ k l. w .fits (suc k) l .after k (omega arith);
         phases = λ k l e.
             w .fits k l .phase (rowOf (slotAt slots k))
