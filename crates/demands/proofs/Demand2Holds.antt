@@ -30,7 +30,7 @@ use Rattle.schedule.proofs.CheckExactly.{checkSchedule-exactly}
 use Rattle.demands.specs.Demand2.{fileIn, Demand2}
 use Rattle.demands.proofs.demand3.MovesHeld.{next-same}
 use Rattle.demands.proofs.demand2.HostHolds.{host-answers}
-use Rattle.demands.proofs.demand2.TwinsHold.{twins}
+use Rattle.demands.proofs.demand2.TwinsHold.{twins-answered}
 
 -- a file that is not refused, written back
 pub file-back : (bs : List ℕ) → Bytes bs → readLoad bs .answer ≡ Good → WrittenLoad (readLoad bs .load) bs
@@ -87,5 +87,5 @@ demand2 =
       moves = λ load bench r good held e. rw e (next-same load (sym good) bench held);
       says-yes = λ load slots r e. rw e (checkSchedule-exactly load slots);
       host = host-answers;
-      twins = twins;
+      twins = twins-answered;
     }

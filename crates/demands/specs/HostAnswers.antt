@@ -32,8 +32,8 @@ use Rattle.lines.specs.Calls.{textPlaces, TextOf, PrintLines, lengthGiven}
 
 -- a call for C: of a file that is read as a load, it refuses nothing but the room, and gives that
 -- load's answer
-abbrev pub Answers : (List ℕ → List ℕ → ℕ → List ℕ → Type 0) → (View → List ℕ) → Type 0
-Answers call answer =
+abbrev pub GivesAnswer : (List ℕ → List ℕ → ℕ → List ℕ → Type 0) → (View → List ℕ) → Type 0
+GivesAnswer call answer =
     (bs : List ℕ) (read : Reading) → ReadLoad bs read → read .answer ≡ Good
     → (out : List ℕ) (n : ℕ) (after : List ℕ) → call bs out n after
     → Numbered Good (answer (viewOf (read .load))) out n after
@@ -48,13 +48,13 @@ Refuses call =
 -- what the host gets
 pub record HostAnswers : Type 0 where
   -- the bound, 4 bytes
-  pub bounds : Answers BenchBound (λ L. littleEndian 4 (bound L))
+  pub bounds : GivesAnswer BenchBound (λ L. littleEndian 4 (bound L))
   -- the verdict, 1 byte: 1 for yes and 0 for no
-  pub verdicts : Answers BenchVerdict (λ L. bit (verdict L) ∷ [])
+  pub verdicts : GivesAnswer BenchVerdict (λ L. bit (verdict L) ∷ [])
   -- all margins, 96 bytes
-  pub margins : Answers BenchMargins marginBytes
+  pub margins : GivesAnswer BenchMargins marginBytes
   -- the schedule file of the starts from fresh to Done
-  pub schedules : Answers BenchSchedule (λ L. scheduleBytes (schedule L))
+  pub schedules : GivesAnswer BenchSchedule (λ L. scheduleBytes (schedule L))
   -- a file that is refused has the number that reading gives
   pub bounds-refused : Refuses BenchBound
   pub verdicts-refused : Refuses BenchVerdict

@@ -26,7 +26,7 @@ pub record HasSlot (slots : List Slot) (i j : ℕ) : Type 0 where
   pub its-step : slotAt slots place .step ≡ shown j
 
 -- the slots at places k and h are of one row
-pub record SameRow (slots : List Slot) (k h : ℕ) : Type 0 where
+pub record OneRow (slots : List Slot) (k h : ℕ) : Type 0 where
   pub first : k < length slots
   pub second : h < length slots
   pub same : slotAt slots k .row ≡ slotAt slots h .row
@@ -38,9 +38,9 @@ pub record SlotRules (L : View) (slots : List Slot) : Type 0 where
   -- each step is
   pub each : (i j : ℕ) → i < L .rows → j < L .steps i → HasSlot slots i j
   -- and once
-  pub once : (k h : ℕ) → SameRow slots k h → slotAt slots k .step ≡ slotAt slots h .step → k ≡ h
+  pub once : (k h : ℕ) → OneRow slots k h → slotAt slots k .step ≡ slotAt slots h .step → k ≡ h
   -- the steps of a row stand in order
-  pub in-order : (k h : ℕ) → SameRow slots k h → k < h → slotAt slots k .step < slotAt slots h .step
+  pub in-order : (k h : ℕ) → OneRow slots k h → k < h → slotAt slots k .step < slotAt slots h .step
   -- no slot starts before the one before it ends
   pub no-overlap : (k : ℕ) → suc k < length slots
       → slotEnd L (slotAt slots k) ≤ slotAt slots (suc k) .start
@@ -48,11 +48,11 @@ pub record SlotRules (L : View) (slots : List Slot) : Type 0 where
   pub phases : (k : ℕ) → k < length slots → slotAt slots k .step ≡ 1
       → L .phase (rowOf (slotAt slots k)) ≤ slotAt slots k .start
   -- a later step starts when the step before it in the row has ended and its wait has passed
-  pub waits : (k h : ℕ) → SameRow slots k h → slotAt slots h .step ≡ slotAt slots k .step + 1
+  pub waits : (k h : ℕ) → OneRow slots k h → slotAt slots h .step ≡ slotAt slots k .step + 1
       → slotEnd L (slotAt slots k) + L .wait (rowOf (slotAt slots k)) (stepOf (slotAt slots k))
       ≤ slotAt slots h .start
   -- a window's last step ends within the limit from the start of its first
-  pub windows : (k h p : ℕ) → SameRow slots k h → p < length (L .windows (rowOf (slotAt slots k)))
+  pub windows : (k h p : ℕ) → OneRow slots k h → p < length (L .windows (rowOf (slotAt slots k)))
       → slotAt slots k .step ≡ windowOf L (rowOf (slotAt slots k)) p .first
       → slotAt slots h .step ≡ windowOf L (rowOf (slotAt slots k)) p .last
       → slotEnd L (slotAt slots h)

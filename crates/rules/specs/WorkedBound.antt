@@ -86,8 +86,8 @@ pub record WorkedBound : Type 0 where
       cut (rowsSeen (row 1 (1 w 0 ∷ []) [] ∷ row 2 (1 w 6 ∷ 2 w 0 ∷ []) [] ∷ [])) 1 .wait 1 0 ≡ 0
 
 -- two rows of phases 0 and 1, with row bounds 3 and 11, and deadlines
-abbrev pub due : ℕ → ℕ → View
-due first second =
+abbrev pub dueAt : ℕ → ℕ → View
+dueAt first second =
     rowsSeen (rowBy 1 0 first (1 w 0 ∷ []) [] ∷ rowBy 2 1 second (1 w 6 ∷ 2 w 0 ∷ []) [] ∷ [])
 
 -- all margins, those of two rows given
@@ -97,10 +97,10 @@ marginsFrom first second = padded mostRows (pos 0) (first ∷ second ∷ [])
 -- margins and verdict
 pub record WorkedMargins : Type 0 where
   -- "its deadline less its row bound", not less the bound; "those of rows not there are 0"
-  pub exact : margins (due 3 11) ≡ marginsFrom (pos 0) (pos 0)
-  pub missing : margins (due 2 10) ≡ marginsFrom (negsuc 0) (negsuc 0)
+  pub exact : margins (dueAt 3 11) ≡ marginsFrom (pos 0) (pos 0)
+  pub missing : margins (dueAt 2 10) ≡ marginsFrom (negsuc 0) (negsuc 0)
   -- "yes when no margin is negative": at 0 and 0, and not at 0 and -1 or -1 and 0
-  pub judged : map verdict (due 3 11 ∷ due 3 10 ∷ due 2 11 ∷ []) ≡ true ∷ false ∷ false ∷ []
+  pub judged : map verdict (dueAt 3 11 ∷ dueAt 3 10 ∷ dueAt 2 11 ∷ []) ≡ true ∷ false ∷ false ∷ []
   -- "4 to a row, little-endian two's complement": 300 and -1, and zeros up to 96 bytes
-  pub spelled : marginBytes (due 303 10)
+  pub spelled : marginBytes (dueAt 303 10)
       ≡ padded 96 0 (44 ∷ 1 ∷ 0 ∷ 0 ∷ 255 ∷ 255 ∷ 255 ∷ 255 ∷ [])

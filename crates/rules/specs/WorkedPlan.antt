@@ -21,8 +21,8 @@ abbrev pub single : ℕ → ℕ → Row
 single n cost = row n (cost w 0 ∷ []) []
 
 -- row 1 with two windows one after the other, and a row with one step
-abbrev pub twice : Load
-twice =
+abbrev pub twoWindows : Load
+twoWindows =
     loadOf
     (row 1 (1 w 0 ∷ 1 w 0 ∷ 1 w 0 ∷ 1 w 0 ∷ []) (window 1 2 2 ∷ window 3 4 9 ∷ [])
     ∷ single 2 1
@@ -72,7 +72,7 @@ pub record WorkedPlan : Type 0 where
       answer (loadOf (row 1 (1 w 0 ∷ 1 w 4 ∷ 1 w 0 ∷ []) (window 1 3 8 ∷ []) ∷ single 2 2 ∷ [])) one
       ≡ Start (slot 1 1 2)
   -- the window that is open is asked for, 2 + 9, and not the one before it, 2 + 2
-  pub second-window : answer twice (state 4 (has 3 3 2 ∷ [])) ≡ Start (slot 4 2 1)
+  pub second-window : answer twoWindows (state 4 (has 3 3 2 ∷ [])) ≡ Start (slot 4 2 1)
   -- "as things stand at the candidate's end": a window that the candidate ends is open no more, and
   -- is not asked for, though it is late
   pub own-ended : answer (loadOf (held 1 1 0 1 2 ∷ [])) (state 5 (has 1 5 0 ∷ []))

@@ -21,7 +21,7 @@ use Rattle.lines.specs.Calls.{textHolding}
 use Rattle.lines.proofs.PrintedLaws.{text-taken}
 use Rattle.lines.proofs.LengthLaws.{printed-le}
 use Rattle.lines.proofs.PrintedFront.{printed-front}
-use Rattle.demands.specs.HostAnswers.{Answers, HostAnswers}
+use Rattle.demands.specs.HostAnswers.{GivesAnswer, HostAnswers}
 
 module _ (bs : List ℕ) (read : Reading) (m : ReadLoad bs read) where
   fault-is : fileFault bs ≡ read .answer
@@ -32,7 +32,7 @@ module _ (bs : List ℕ) (read : Reading) (m : ReadLoad bs read) where
   unfolding readLoad
   load-is e = sym (ap (λ (r : Reading). r .load) m ∙ ap (λ f. loadBeside f (loadIn bs)) (fault-is ∙ e))
 
-answers : (answer : View → List ℕ) → Answers (ForC answer) answer
+answers : (answer : View → List ℕ) → GivesAnswer (ForC answer) answer
 answers answer bs read m e out n after c =
     subst (λ (l : Load). Numbered Good (answer (viewOf l)) out n after) (load-is bs read m e)
     (subst (λ f. Numbered f (answer (viewOf (loadIn bs))) out n after) (fault-is bs read m ∙ e) c)

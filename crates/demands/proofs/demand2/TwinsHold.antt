@@ -52,5 +52,5 @@ module _ (a b : Load) (same : SameLoad a b) (ga : checkLoad a ≡ Good) (gb : ch
         schedules = λ r s p q. p ∙ (λ t. ranWith (one-check t) (one-schedule t)) ∙ sym q;
       }
 
-pub twins : Twins
-twins a b same ga gb = same-answers a b same (sym ga) (sym gb)
+pub twins-answered : Twins
+twins-answered a b same ga gb = same-answers a b same (sym ga) (sym gb)

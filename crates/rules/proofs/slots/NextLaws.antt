@@ -14,7 +14,7 @@ use Rattle.load.specs.Load.{shown}
 use Rattle.load.specs.View.{View}
 use Rattle.rules.specs.declared.Slot.{Slot}
 use Rattle.rules.specs.Slots.{slotAt, rowOf, stepOf}
-use Rattle.rules.specs.ScheduleRules.{NamesStep, SameRow}
+use Rattle.rules.specs.ScheduleRules.{NamesStep, OneRow}
 use Rattle.rules.proofs.slots.SlotLaws.{ofRow, IsSlot}
 
 -- the place below n at which the numbers that have p are j
@@ -95,18 +95,18 @@ module _ (slots : List Slot) (n : ℕ) (next : NextTo slots n) where
 
 -- the steps of a row stand in order
 abbrev pub Ordered : List Slot → Type 0
-Ordered slots = (k h : ℕ) → SameRow slots k h → k < h → slotAt slots k .step < slotAt slots h .step
+Ordered slots = (k h : ℕ) → OneRow slots k h → k < h → slotAt slots k .step < slotAt slots h .step
 
 pub in-order : (slots : List Slot) → EachNext slots → Ordered slots
 in-order slots next k h r l = order-to slots (length slots) next k h l (r .second) (r .same)
 
 module _ (slots : List Slot) (ordered : Ordered slots) where
   -- the other of two slots of a row before the one
-  behind : (k h : ℕ) → SameRow slots k h → h < k → slotAt slots h .step < slotAt slots k .step
+  behind : (k h : ℕ) → OneRow slots k h → h < k → slotAt slots h .step < slotAt slots k .step
   behind k h r l = ordered h k (record { first = r .second; second = r .first; same = sym (r .same) }) l
 
   -- of two slots of a row the one of the lower step stands first
-  pub lower-first : (k h : ℕ) → SameRow slots k h → slotAt slots k .step < slotAt slots h .step → k < h
+  pub lower-first : (k h : ℕ) → OneRow slots k h → slotAt slots k .step < slotAt slots h .step → k < h
   lower-first k h r l =
       elim (decLt k h) [
         | yes q ↦ q
@@ -117,7 +117,7 @@ module _ (slots : List Slot) (ordered : Ordered slots) where
       ]
 
   -- and each step stands once
-  pub once : (k h : ℕ) → SameRow slots k h → slotAt slots k .step ≡ slotAt slots h .step → k ≡ h
+  pub once : (k h : ℕ) → OneRow slots k h → slotAt slots k .step ≡ slotAt slots h .step → k ≡ h
   once k h r e =
       elim (ℕ-discrete k h) [
         | yes q ↦ q

@@ -13,7 +13,7 @@ use Rattle.load.specs.View.{View}
 use Rattle.load.specs.Acceptable.{windowOf as windowAt}
 use Rattle.rules.specs.declared.Slot.{Slot}
 use Rattle.rules.specs.Slots.{slotAt, rowOf, stepOf, slotEnd}
-use Rattle.rules.specs.ScheduleRules.{HasSlot, SameRow, SlotRules}
+use Rattle.rules.specs.ScheduleRules.{HasSlot, OneRow, SlotRules}
 use Rattle.rules.proofs.slots.SlotLaws.{ofRow, IsSlot}
 use Rattle.rules.proofs.slots.NextLaws.{slot-is, EachNext, lower-first}
 use Rattle.rules.proofs.slots.RowCounts.{ofRow-none, ofRow-one, ofRow-all, after-all}
@@ -22,7 +22,7 @@ use Rattle.rules.proofs.slots.WholeLaws.{Whole}
 module _ (L : View) (slots : List Slot) (rules : SlotRules L slots) where
   -- two slots of row i
   both : (i a b : ℕ) → a < length slots → b < length slots → slotAt slots a .row ≡ shown i
-      → slotAt slots b .row ≡ shown i → SameRow slots a b
+      → slotAt slots b .row ≡ shown i → OneRow slots a b
   both i a b la lb p q = record { first = la; second = lb; same = p ∙ sym q }
 
   -- a step has before it just the row's lower steps

@@ -14,7 +14,7 @@ use Rattle.load.specs.View.{View, isFree, stepsInAll}
 use Rattle.load.specs.Acceptable.{windowOf as windowAt}
 use Rattle.rules.specs.declared.Slot.{Slot}
 use Rattle.rules.specs.Slots.{slotAt, rowOf, stepOf, slotEnd}
-use Rattle.rules.specs.ScheduleRules.{NamesStep, HasSlot, SameRow, SlotRules}
+use Rattle.rules.specs.ScheduleRules.{NamesStep, HasSlot, OneRow, SlotRules}
 use Rattle.rules.proofs.slots.NextLaws.{
   countTo-ranked,
   slot-is,
@@ -58,7 +58,7 @@ module _ (L : View) (slots : List Slot) (w : Whole L slots) where
       }
 
   -- a step starts when the step before it has ended and its wait has passed
-  pub waits : (k h : ℕ) → SameRow slots k h → slotAt slots h .step ≡ slotAt slots k .step + 1
+  pub waits : (k h : ℕ) → OneRow slots k h → slotAt slots h .step ≡ slotAt slots k .step + 1
       → slotEnd L (slotAt slots k) + L .wait (rowOf (slotAt slots k)) (stepOf (slotAt slots k))
       ≤ slotAt slots h .start
   waits k h r e =
@@ -70,7 +70,7 @@ module _ (L : View) (slots : List Slot) (w : Whole L slots) where
   -- a window is kept
   pub windows-kept : ((i p : ℕ) → i < L .rows → p < length (L .windows i)
       → windowAt L i p .first < windowAt L i p .last)
-      → (k h p : ℕ) → SameRow slots k h → p < length (L .windows (rowOf (slotAt slots k)))
+      → (k h p : ℕ) → OneRow slots k h → p < length (L .windows (rowOf (slotAt slots k)))
       → slotAt slots k .step ≡ windowAt L (rowOf (slotAt slots k)) p .first
       → slotAt slots h .step ≡ windowAt L (rowOf (slotAt slots k)) p .last
       → slotEnd L (slotAt slots h) ≤ slotAt slots k .start + windowAt L (rowOf (slotAt slots k)) p .limit
