@@ -75,12 +75,16 @@ slotTests L slots k slot =
     ∷ (endsRowLate L slot, RowLate)
     ∷ []
 
+-- what the slot at place k is refused with
+abbrev pub slotFault : View → List Slot → ℕ → Checked
+slotFault L slots k = firstMet (slotTests L slots k (slotAt slots k))
+
 -- the slots against a load's view: 12, then slot by slot
 unfoldable pub checkSlots : View → List Slot → Checked
 checkSlots L slots =
     firstFault
     (firstMet ((not (eqb (length slots) (stepsInAll L)), SlotCount) ∷ [])
-    ∷ firstFaultTo (λ k. firstMet (slotTests L slots k (slotAt slots k))) (length slots)
+    ∷ firstFaultTo (slotFault L slots) (length slots)
     ∷ [])
 
 -- the schedule check: 3 to 7, then 12, then 13 to 17; it says yes when none is met

@@ -29,7 +29,8 @@ use Rattle.rules.specs.Check.{checkSlots, checkSchedule}
 use Rattle.rules.specs.FirstBroken.{refusalFor}
 use Rattle.rules.proofs.moves.MoveRefused.{shape-refused, clock-refused}
 use Rattle.rules.proofs.check.BrokenSlot.{numbered-range}
-use Rattle.rules.proofs.check.CheckGiven.{last-good, count-given, rule-given}
+use Rattle.rules.proofs.check.SlotsPass.{andThen-last}
+use Rattle.rules.proofs.check.CheckGiven.{count-given, rule-given}
 use Rattle.bench.specs.declared.Bench.{Bench}
 use Rattle.bench.specs.declared.Moved.{Moved}
 use Rattle.schedule.specs.Calls.{CheckSchedule}
@@ -112,7 +113,7 @@ module _ (load : Load) where
 
     same-check : checkLoad load ≡ Good → r ≡ checkSlots (viewOf load) slots
     unfolding checkSchedule
-    same-check q = m ∙ rw q (last-good (checkSlots (viewOf load) slots))
+    same-check q = m ∙ rw q (andThen-last (checkSlots (viewOf load) slots))
 
     check-exactly : (refusal : Refusal) (P : Type 0) → 7 < numberOf refusal
         → (checkLoad load ≡ Good → (checkSlots (viewOf load) slots ≡ Refused refusal) ↔ P)

@@ -1,7 +1,7 @@
 -- The tests 15 and 16 of a slot are the plain rules where 13 is met neither there nor before: then each slot so far is
 -- its row's next, and the slot that a test looks up by row and step is the only one before.
 use Prim.Native.Nat.{ℕ, zero, suc, _+_, _-_, _≤_, _<_}
-use mathlib.Core.Bool.{Bool, true, false, _&&_}
+use mathlib.Core.Bool.{Bool, true, false}
 use mathlib.Core.List.{List}
 use mathlib.Core.Path.{_≡_, refl, ap, sym, _∙_, subst}
 use native.Mathlib.Decide.{ℕ-discrete, decLt}
@@ -27,6 +27,7 @@ use Rattle.rules.specs.FirstBroken.{
   EndsWindowLate,
 }
 use Rattle.rules.proofs.slots.NextLaws.{NextTo, LowerSlot, order-to, lower-to}
+use Rattle.rules.proofs.check.SlotTests.{lateIn}
 use Rattle.rules.proofs.check.BrokenTests.{Named}
 
 -- a slot that is looked up, where each up to it is its row's next
@@ -111,16 +112,15 @@ module _ (L : View) (slots : List Slot) (k : ℕ) (l : k < length slots) (before
       let r = subst (λ (y : Slot). slotEnd L y + L .wait row (stepOf (slotAt slots h)) ≤ mine .start) found q in
       omega arith
 
-  -- a window that it ends
-  abbrev lateIn : Window → Bool
-  lateIn w =
-      eqb (mine .step) (w .last) && ltb (slotFor slots (mine .row) (w .first) .start + w .limit) (slotEnd L mine)
+  -- it ends a window late
+  abbrev late : Window → Bool
+  late = lateIn L slots mine (mine .row)
 
   module _ (ok : Acceptable L) where
     there : row < L .rows
     there = omega (arith, named .names .row-from, named .names .row-to)
 
-    late-at : (p : ℕ) → p < length (L .windows row) → lateIn (windowOf L row p) ≡ true → EndsWindowLate L slots k
+    late-at : (p : ℕ) → p < length (L .windows row) → late (windowOf L row p) ≡ true → EndsWindowLate L slots k
     late-at p lp e =
         let w = windowOf L row p in
         let a = eqb (mine .step) (w .last) in
@@ -145,14 +145,14 @@ module _ (L : View) (slots : List Slot) (k : ℕ) (l : k < length slots) (before
         }
 
     pub met16 : endsWindowLate L slots mine ≡ true → EndsWindowLate L slots k
-    met16 e = let f = anyIn-true lateIn noWindow (L .windows row) e in late-at (f .place) (f .below) (f .has)
+    met16 e = let f = anyIn-true late noWindow (L .windows row) e in late-at (f .place) (f .below) (f .has)
 
     pub unmet16 : endsWindowLate L slots mine ≡ false → ¬ EndsWindowLate L slots k
     unmet16 e m =
         let w = windowOf L row (m .window) in
         let found = found-at (m .opened) (m .of-row) (w .first) (m .is-first) in
         true-false (endsWindowLate L slots mine)
-        (true-anyIn lateIn noWindow (L .windows row) (m .window) (m .there)
+        (true-anyIn late noWindow (L .windows row) (m .window) (m .there)
         (and-both (eqb (mine .step) (w .last))
         (ltb (slotFor slots (mine .row) (w .first) .start + w .limit) (slotEnd L mine))
         (eq-eqb (mine .step) (w .last) (m .is-last))

@@ -12,13 +12,21 @@ use Rattle.refusals.specs.declared.Refusal.the-variants.{NoSuchSlot, SlotOverla
 use Rattle.refusals.specs.declared.Checked.{Checked}
 use Rattle.refusals.specs.declared.Checked.the-variants.{Good, Refused}
 use Rattle.refusals.specs.Refusals.{numberOf}
-use Rattle.refusals.specs.FirstMet.{firstMet}
 use Rattle.load.specs.Load.{lastMoment}
 use Rattle.load.specs.View.{View}
 use Rattle.load.specs.Acceptable.{Acceptable}
 use Rattle.rules.specs.declared.Slot.{Slot}
 use Rattle.rules.specs.Slots.{slotAt}
-use Rattle.rules.specs.Check.{namesNoStep, notNext, overlaps, startsEarly, endsWindowLate, endsRowLate, slotTests}
+use Rattle.rules.specs.Check.{
+  namesNoStep,
+  notNext,
+  overlaps,
+  startsEarly,
+  endsWindowLate,
+  endsRowLate,
+  slotTests,
+  slotFault,
+}
 use Rattle.rules.specs.FirstBroken.{
   Rule,
   thirteen,
@@ -79,15 +87,11 @@ five a b c d e =
     (cond c (Refused SlotEarly) (cond d (Refused WindowLate) (cond e (Refused RowLate) Good))))
 
 module _ (L : View) (ok : Acceptable L) (slots : List Slot) where
-  -- what the tests of a slot find
-  abbrev pub found : ℕ → Checked
-  found k = firstMet (slotTests L slots k (slotAt slots k))
-
-  found-five : (k : ℕ) → found k
+  slotFault-five : (k : ℕ) → slotFault L slots k
       ≡ five (asks13 L slots k) (overlaps L slots k (slotAt slots k)) (startsEarly L slots (slotAt slots k))
       (endsWindowLate L slots (slotAt slots k)) (endsRowLate L (slotAt slots k))
   unfolding slotTests five
-  found-five k = go (namesNoStep L x) (notNext slots k x) (ltb lastMoment (x .start)) _
+  slotFault-five k = go (namesNoStep L x) (notNext slots k x) (ltb lastMoment (x .start)) _
     where
       x : Slot
       x = slotAt slots k
@@ -118,30 +122,31 @@ module _ (L : View) (ok : Acceptable L) (slots : List Slot) where
 
   -- the two ways in which the tests of a slot end
   pub data Way (k : ℕ) : Type 0 where
-    fine : found k ≡ Good → ((rule : Rule) → ¬ Breaks rule L slots k) → Way k
-    broken : (rule : Rule) → found k ≡ Refused (refusalFor rule) → Breaks rule L slots k → KeepsBelow (numbered rule) k
-        → Way k
+    fine : slotFault L slots k ≡ Good → ((rule : Rule) → ¬ Breaks rule L slots k) → Way k
+    broken : (rule : Rule) → slotFault L slots k ≡ Refused (refusalFor rule) → Breaks rule L slots k
+        → KeepsBelow (numbered rule) k → Way k
 
   pub way : (k : ℕ) → k < length slots → NextTo slots k → Way k
   unfolding five
-  way k l before = first (asks13 L slots k) refl (found-five k)
+  way k l before = first (asks13 L slots k) refl (slotFault-five k)
     where
       x : Slot
       x = slotAt slots k
 
       fifth : KeepsBelow 17 k → (e : Bool) → endsRowLate L (slotAt slots k) ≡ e
-          → found k ≡ five false false false false e → Way k
+          → slotFault L slots k ≡ five false false false false e → Way k
       fifth low true q is = broken seventeen is (met17 L slots k q) low
       fifth low false q is =
           fine is (λ rule. keep k seventeen low (unmet17 L slots k q) rule (numbered-range rule .1))
 
       fourth : Named L slots k → KeepsBelow 16 k → (d : Bool) → endsWindowLate L slots (slotAt slots k) ≡ d
-          → found k ≡ five false false false d (endsRowLate L (slotAt slots k)) → Way k
+          → slotFault L slots k ≡ five false false false d (endsRowLate L (slotAt slots k)) → Way k
       fourth n low true q is = broken sixteen is (met16 L slots k l before n ok q) low
       fourth n low false q is = fifth (keep k sixteen low (unmet16 L slots k l before n ok q)) _ refl is
 
       third : Named L slots k → KeepsBelow 15 k → (c : Bool) → startsEarly L slots (slotAt slots k) ≡ c
-          → found k ≡ five false false c (endsWindowLate L slots (slotAt slots k)) (endsRowLate L (slotAt slots k))
+          → slotFault L slots k
+          ≡ five false false c (endsWindowLate L slots (slotAt slots k)) (endsRowLate L (slotAt slots k))
           → Way k
       third n low true q is = broken fifteen is (met15 L slots k l before n q) low
       third n low false q is = fourth n (keep k fifteen low (unmet15 L slots k l before n q)) _ refl is
@@ -150,7 +155,7 @@ module _ (L : View) (ok : Acceptable L) (slots : List Slot) where
       keepsBelow-14 n = keep k thirteen (keepsBelow-13 k) (named-right L slots k n)
 
       second : Named L slots k → (b : Bool) → overlaps L slots k (slotAt slots k) ≡ b
-          → found k
+          → slotFault L slots k
           ≡ five false b (startsEarly L slots (slotAt slots k)) (endsWindowLate L slots (slotAt slots k))
           (endsRowLate L (slotAt slots k))
           → Way k
@@ -158,7 +163,7 @@ module _ (L : View) (ok : Acceptable L) (slots : List Slot) where
       second n false q is = third n (keep k fourteen (keepsBelow-14 n) (unmet14 L slots k q)) _ refl is
 
       first : (a : Bool) → asks13 L slots k ≡ a
-          → found k
+          → slotFault L slots k
           ≡ five a (overlaps L slots k (slotAt slots k)) (startsEarly L slots (slotAt slots k))
           (endsWindowLate L slots (slotAt slots k)) (endsRowLate L (slotAt slots k))
           → Way k

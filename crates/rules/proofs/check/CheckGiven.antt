@@ -7,43 +7,32 @@ use mathlib.Core.Path.{_≡_, refl, ap, sym, _∙_}
 use native.Mathlib.Omega.{arith}
 use lib.Dec.{eqb}
 use lib.ListN.{length}
-use borrow.Author.Tests.{eqb-true, eqb-false, eq-eqb, ne-eqb}
+use borrow.Author.Tests.{eqb-true, eqb-false, ne-eqb}
 use Rattle.refusals.specs.declared.Refusal.the-variants.{SlotCount}
-use Rattle.refusals.specs.declared.Checked.{Checked}
-use Rattle.refusals.specs.declared.Checked.the-variants.{Good, Refused}
+use Rattle.refusals.specs.declared.Checked.the-variants.{Refused}
 use Rattle.refusals.specs.Refusals.{numberGiven}
-use Rattle.refusals.specs.FirstMet.{firstFaultTo, andThen}
 use Rattle.load.specs.View.{View, stepsInAll}
 use Rattle.load.specs.Acceptable.{Acceptable}
 use Rattle.rules.specs.declared.Slot.{Slot}
 use Rattle.rules.specs.Check.{checkSlots}
 use Rattle.rules.specs.FirstBroken.{Rule, refusalFor, CountedFirst}
-use Rattle.rules.proofs.check.BrokenSlot.{numbered-range, found}
+use Rattle.rules.proofs.check.SlotsPass.{checkSlots-counted}
+use Rattle.rules.proofs.check.BrokenSlot.{numbered-range}
 use Rattle.rules.proofs.check.FirstBroken.{first-given, found-number}
 
--- nothing behind a finding
-pub last-good : (c : Checked) → andThen c Good ≡ c
-last-good Good = refl
-last-good (Refused refusal) = refl
-
 module _ (L : View) (ok : Acceptable L) (slots : List Slot) where
-  -- what the slots are refused with
-  abbrev slotBySlot : Checked
-  slotBySlot = firstFaultTo (found L ok slots) (length slots)
-
-  counted : length slots ≡ stepsInAll L → checkSlots L slots ≡ slotBySlot
-  unfolding checkSlots
-  counted e = rw (eq-eqb (length slots) (stepsInAll L) e) (last-good slotBySlot)
-
   miscounted : length slots ≢ stepsInAll L → checkSlots L slots ≡ Refused SlotCount
   unfolding checkSlots
   miscounted ne = rw (ne-eqb (length slots) (stepsInAll L) ne)
 
   pub count-given : (checkSlots L slots ≡ Refused SlotCount) ↔ (length slots ≢ stepsInAll L)
-  count-given = (λ e same. found-number L ok slots (ap numberGiven (sym (counted same) ∙ e)), miscounted)
+  count-given = (
+    λ e same. found-number L ok slots (ap numberGiven (sym (checkSlots-counted L slots same) ∙ e)),
+    miscounted,
+  )
 
   pub rule-given : (rule : Rule) → (checkSlots L slots ≡ Refused (refusalFor rule)) ↔ CountedFirst L slots rule
-  rule-given rule = (to, λ c. counted (c .as-many) ∙ first-given L ok slots rule .1 (c .first))
+  rule-given rule = (to, λ c. checkSlots-counted L slots (c .as-many) ∙ first-given L ok slots rule .1 (c .first))
     where
       to : checkSlots L slots ≡ Refused (refusalFor rule) → CountedFirst L slots rule
       to e = go (eqb (length slots) (stepsInAll L)) refl
@@ -51,7 +40,8 @@ module _ (L : View) (ok : Acceptable L) (slots : List Slot) where
           go : (b : Bool) → eqb (length slots) (stepsInAll L) ≡ b → CountedFirst L slots rule
           go true q =
               let same = eqb-true (length slots) (stepsInAll L) q in
-              record { as-many = same; first = first-given L ok slots rule .0 (sym (counted same) ∙ e) }
+              let given = sym (checkSlots-counted L slots same) ∙ e in
+              record { as-many = same; first = first-given L ok slots rule .0 given }
           go false q =
               absurd (omega (
                 arith,

@@ -34,18 +34,15 @@ use Rattle.rules.specs.Check.{
   endsRowLate,
   slotTests,
   checkSlots,
+  slotFault,
 }
 use Rattle.rules.specs.ScheduleRules.{NamesStep}
 use Rattle.rules.proofs.slots.SlotLaws.{IsSlot}
 use Rattle.rules.proofs.slots.NextLaws.{EachNext, once, in-order}
 use Rattle.rules.proofs.slots.RowCounts.{ofRow-steps, after-all}
-use Rattle.rules.proofs.check.SlotTests.{looked}
+use Rattle.rules.proofs.check.SlotTests.{looked, lateIn}
 use Rattle.rules.proofs.slots.WholeLaws.{Whole}
 use Rattle.rules.proofs.check.BrokenTests.{Named, unmet13}
-
--- a window whose last step is the slot's ends late, by the row under which its first step is looked up
-abbrev lateIn : View → List Slot → Slot → ℕ → Window → Bool
-lateIn L slots x row v = eqb (x .step) (v .last) && ltb (slotFor slots row (v .first) .start + v .limit) (slotEnd L x)
 
 -- no test of the slot at place k is met
 record Unmet (L : View) (slots : List Slot) (k : ℕ) (x : Slot) : Type 0 where
@@ -69,7 +66,7 @@ abbrev counted : View → List Slot → Checked
 counted L slots = firstMet ((not (eqb (length slots) (stepsInAll L)), SlotCount) ∷ [])
 
 abbrev slotBySlot : View → List Slot → Checked
-slotBySlot L slots = firstFaultTo (λ k. firstMet (slotTests L slots k (slotAt slots k))) (length slots)
+slotBySlot L slots = firstFaultTo (slotFault L slots) (length slots)
 
 count-met : (L : View) (slots : List Slot) → checkSlots L slots ≡ Good → length slots ≡ stepsInAll L
 unfolding checkSlots
@@ -84,7 +81,7 @@ slots-met : (L : View) (slots : List Slot) → checkSlots L slots ≡ Good → (
 unfolding checkSlots
 slots-met L slots e k l =
     slot-unmet L slots k (slotAt slots k)
-    (firstFaultTo-good (λ h. firstMet (slotTests L slots h (slotAt slots h))) (length slots)
+    (firstFaultTo-good (slotFault L slots) (length slots)
     (firstFault-good (counted L slots ∷ slotBySlot L slots ∷ []) e 1) k l)
 
 module _ (L : View) (slots : List Slot) (e : checkSlots L slots ≡ Good) where

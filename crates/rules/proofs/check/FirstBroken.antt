@@ -17,6 +17,7 @@ use Rattle.load.specs.View.{View}
 use Rattle.load.specs.Acceptable.{Acceptable}
 use Rattle.rules.specs.declared.Slot.{Slot}
 use Rattle.rules.specs.Slots.{slotAt}
+use Rattle.rules.specs.Check.{slotFault}
 use Rattle.rules.specs.FirstBroken.{Rule, thirteen, refusalFor, Breaks, FirstBroken}
 use Rattle.rules.proofs.slots.SlotLaws.{ofRow}
 use Rattle.rules.proofs.slots.NextLaws.{NextTo}
@@ -25,7 +26,6 @@ use Rattle.rules.proofs.check.BrokenSlot.{
   numbered,
   rule-same,
   numbered-range,
-  found,
   KeepsBelow,
   Way,
   fine,
@@ -47,8 +47,8 @@ module _ (L : View) (ok : Acceptable L) (slots : List Slot) where
 
   -- and those of all slots below n
   data Ways (n : ℕ) : Type 0 where
-    all-fine : firstFaultTo (found L ok slots) n ≡ Good → FineTo n → Ways n
-    one : (rule : Rule) → firstFaultTo (found L ok slots) n ≡ Refused (refusalFor rule) → (k : ℕ) → k < n
+    all-fine : firstFaultTo (slotFault L slots) n ≡ Good → FineTo n → Ways n
+    one : (rule : Rule) → firstFaultTo (slotFault L slots) n ≡ Refused (refusalFor rule) → (k : ℕ) → k < n
         → Breaks rule L slots k → KeepsBelow L ok slots (numbered rule) k → FineTo k → Ways n
 
   -- one slot more
@@ -97,10 +97,10 @@ module _ (L : View) (ok : Acceptable L) (slots : List Slot) where
 
   -- what the slots are refused with is the first rule that is met
   pub first-given : (rule : Rule)
-      → (firstFaultTo (found L ok slots) (length slots) ≡ Refused (refusalFor rule)) ↔ FirstBroken L slots rule
+      → (firstFaultTo (slotFault L slots) (length slots) ≡ Refused (refusalFor rule)) ↔ FirstBroken L slots rule
   first-given rule = (λ e. to (ways (length slots) (omega arith)) e, λ f. from (ways (length slots) (omega arith)) f)
     where
-      to : Ways (length slots) → firstFaultTo (found L ok slots) (length slots) ≡ Refused (refusalFor rule)
+      to : Ways (length slots) → firstFaultTo (slotFault L slots) (length slots) ≡ Refused (refusalFor rule)
           → FirstBroken L slots rule
       to (all-fine q f) e = absurd (good-refused _ _ q e)
       to (one own q k l b low f) e =
@@ -109,7 +109,7 @@ module _ (L : View) (ok : Acceptable L) (slots : List Slot) where
           (record { place = k; below = l; broken = b; none-lower = low; none-before = f })
 
       from : Ways (length slots) → FirstBroken L slots rule
-          → firstFaultTo (found L ok slots) (length slots) ≡ Refused (refusalFor rule)
+          → firstFaultTo (slotFault L slots) (length slots) ≡ Refused (refusalFor rule)
       from (all-fine q f) g = absurd (f rule (g .place) (g .below) (g .broken))
       from (one own q k l b low f) g =
           q
@@ -118,7 +118,7 @@ module _ (L : View) (ok : Acceptable L) (slots : List Slot) where
           (record { place = k; below = l; broken = b; none-lower = low; none-before = f }) g)
 
   -- and nothing else: not 12
-  pub found-number : ¬ (numberGiven (firstFaultTo (found L ok slots) (length slots)) ≡ 12)
+  pub found-number : ¬ (numberGiven (firstFaultTo (slotFault L slots) (length slots)) ≡ 12)
   found-number e = go (ways (length slots) (omega arith))
     where
       go : Ways (length slots) → ⊥

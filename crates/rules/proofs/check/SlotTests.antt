@@ -13,7 +13,6 @@ use Rattle.counting.proofs.tests.TestLaws.{and-left, and-right, and-both}
 use Rattle.counting.proofs.lists.MemberLaws.{First, true-anyIn, false-anyIn, anyIn-true}
 use Rattle.refusals.specs.declared.Refusal.the-variants.{RowLate}
 use Rattle.refusals.specs.declared.Checked.the-variants.{Good, Refused}
-use Rattle.refusals.specs.FirstMet.{firstMet}
 use Rattle.load.specs.declared.Window.{Window}
 use Rattle.load.specs.Load.{lastMoment, shown, noWindow}
 use Rattle.load.specs.View.{View}
@@ -22,7 +21,16 @@ use Rattle.load.proofs.RangeLaws.{within-outside}
 use Rattle.rules.specs.declared.Slot.{Slot}
 use Rattle.rules.specs.Ready.{release}
 use Rattle.rules.specs.Slots.{noSlot, slotAt, rowOf, stepOf, slotEnd, isFor, slotFor}
-use Rattle.rules.specs.Check.{namesNoStep, notNext, overlaps, startsEarly, endsWindowLate, endsRowLate, slotTests}
+use Rattle.rules.specs.Check.{
+  namesNoStep,
+  notNext,
+  overlaps,
+  startsEarly,
+  endsWindowLate,
+  endsRowLate,
+  slotTests,
+  slotFault,
+}
 use Rattle.rules.specs.ScheduleRules.{NamesStep, HasSlot}
 use Rattle.rules.proofs.slots.SlotLaws.{ofRow, IsSlot}
 use Rattle.rules.proofs.slots.WholeLaws.{Whole, names, each}
@@ -64,6 +72,10 @@ looked slots i j h =
               (and-right (eqb (slotAt slots (s .place) .row) (shown i)) (eqb (slotAt slots (s .place) .step) (shown j))
               (s .has));
         }
+
+-- a window whose last step is the slot's ends late, by the row under which its first step is looked up
+abbrev pub lateIn : View → List Slot → Slot → ℕ → Window → Bool
+lateIn L slots x row v = eqb (x .step) (v .last) && ltb (slotFor slots row (v .first) .start + v .limit) (slotEnd L x)
 
 module _ (L : View) (slots : List Slot) (w : Whole L slots)
     (long : (i p : ℕ) → i < L .rows → p < length (L .windows i) → windowAt L i p .first < windowAt L i p .last)
@@ -138,8 +150,7 @@ module _ (L : View) (slots : List Slot) (w : Whole L slots)
   window-false = false-anyIn late noWindow (L .windows i) (λ p lp. at p lp (eqb (x .step) (windowAt L i p .last)) refl)
     where
       late : Window → Bool
-      late v =
-          eqb (x .step) (v .last) && ltb (slotFor slots (x .row) (v .first) .start + v .limit) (slotEnd L x)
+      late = lateIn L slots x (x .row)
 
       at : (p : ℕ) → p < length (L .windows i) → (b : Bool) → eqb (x .step) (windowAt L i p .last) ≡ b
           → late (windowAt L i p) ≡ false
@@ -170,6 +181,6 @@ module _ (L : View) (slots : List Slot) (w : Whole L slots)
               (f .its-step ∙ sym opens) step
 
   -- 13 to 16 are not met
-  pub slot-late : firstMet (slotTests L slots k x) ≡ cond (endsRowLate L x) (Refused RowLate) Good
+  pub slot-late : slotFault L slots k ≡ cond (endsRowLate L x) (Refused RowLate) Good
   unfolding slotTests
   slot-late = rw (names-false, next-false, start-false, overlaps-false, early-false, window-false)

@@ -10,13 +10,13 @@ use borrow.Author.Tests.{eqb-true, le-ltb, eq-eqb}
 use Rattle.refusals.specs.declared.Refusal.the-variants.{RowLate}
 use Rattle.refusals.specs.declared.Checked.{Checked}
 use Rattle.refusals.specs.declared.Checked.the-variants.{Good, Refused}
-use Rattle.refusals.specs.FirstMet.{firstMet, firstFaultTo, andThen}
+use Rattle.refusals.specs.FirstMet.{firstFaultTo, andThen}
 use Rattle.refusals.proofs.FirstMetLaws.{good-firstFaultTo}
 use Rattle.load.specs.View.{View, stepsInAll}
 use Rattle.load.specs.Acceptable.{windowOf as windowAt}
 use Rattle.rules.specs.declared.Slot.{Slot}
 use Rattle.rules.specs.Slots.{slotAt, rowOf, slotEnd}
-use Rattle.rules.specs.Check.{endsRowLate, slotTests, checkSlots}
+use Rattle.rules.specs.Check.{endsRowLate, checkSlots, slotFault}
 use Rattle.rules.proofs.slots.WholeLaws.{Whole}
 use Rattle.rules.specs.Demand3.{GoodOrLate, good, late}
 use Rattle.rules.proofs.check.SlotTests.{slot-late}
@@ -31,41 +31,39 @@ firstFaultTo-late f (suc n) h = go (firstFaultTo-late f n (λ k l. h k (omega ar
     go (good e) (late q) = late (ap₂ andThen e q)
     go (good e) (good q) = good (ap₂ andThen e q)
 
+-- nothing behind a finding
+pub andThen-last : (c : Checked) → andThen c Good ≡ c
+andThen-last Good = refl
+andThen-last (Refused refusal) = refl
+
+-- with as many slots as steps, the check goes slot by slot
+pub checkSlots-counted : (L : View) (slots : List Slot) → length slots ≡ stepsInAll L
+    → checkSlots L slots ≡ firstFaultTo (slotFault L slots) (length slots)
+unfolding checkSlots
+checkSlots-counted L slots e =
+    rw (eq-eqb (length slots) (stepsInAll L) e) (andThen-last (firstFaultTo (slotFault L slots) (length slots)))
+
 module _ (L : View) (slots : List Slot) (w : Whole L slots)
     (long : (i p : ℕ) → i < L .rows → p < length (L .windows i) → windowAt L i p .first < windowAt L i p .last)
     (first : (i p : ℕ) → i < L .rows → p < length (L .windows i) → 1 ≤ windowAt L i p .first) where
-  check-by-slots : checkSlots L slots
-      ≡ andThen (firstFaultTo (λ k. firstMet (slotTests L slots k (slotAt slots k))) (length slots)) Good
-  unfolding checkSlots
-  check-by-slots = rw (eq-eqb (length slots) (stepsInAll L) (w .in-all))
-
   -- whatever the deadlines are
   pub check-late : GoodOrLate (checkSlots L slots)
   check-late =
-      rw check-by-slots
-      (go (firstFaultTo-late tests (length slots) (λ k l. at k l (endsRowLate L (slotAt slots k)) refl)))
+      rw (checkSlots-counted L slots (w .in-all))
+      (firstFaultTo-late (slotFault L slots) (length slots) (λ k l. at k l (endsRowLate L (slotAt slots k)) refl))
     where
-      tests : ℕ → Checked
-      tests k = firstMet (slotTests L slots k (slotAt slots k))
-
-      at : (k : ℕ) → k < length slots → (b : Bool) → endsRowLate L (slotAt slots k) ≡ b → GoodOrLate (tests k)
+      at : (k : ℕ) → k < length slots → (b : Bool) → endsRowLate L (slotAt slots k) ≡ b
+          → GoodOrLate (slotFault L slots k)
       at k l true e = late (slot-late L slots w long first k l ∙ ap (λ b. cond b (Refused RowLate) Good) e)
       at k l false e = good (slot-late L slots w long first k l ∙ ap (λ b. cond b (Refused RowLate) Good) e)
-
-      go : GoodOrLate (firstFaultTo tests (length slots))
-          → GoodOrLate (andThen (firstFaultTo tests (length slots)) Good)
-      go (good e) = good (ap (λ c. andThen c Good) e)
-      go (late e) = late (ap (λ c. andThen c Good) e)
 
   -- Good where each row's last step ends by its deadline
   pub check-good : ((k : ℕ) → k < length slots → slotAt slots k .step ≡ L .steps (rowOf (slotAt slots k))
       → slotEnd L (slotAt slots k) ≤ L .deadline (rowOf (slotAt slots k)))
       → checkSlots L slots ≡ Good
-  check-good deadlines = check-by-slots ∙ ap (λ c. andThen c Good) (good-firstFaultTo tests (length slots) right)
+  check-good deadlines =
+      checkSlots-counted L slots (w .in-all) ∙ good-firstFaultTo (slotFault L slots) (length slots) right
     where
-      tests : ℕ → Checked
-      tests k = firstMet (slotTests L slots k (slotAt slots k))
-
       in-time : (k : ℕ) → k < length slots → (b : Bool)
           → eqb (slotAt slots k .step) (L .steps (rowOf (slotAt slots k))) ≡ b
           → (b && ltb (L .deadline (rowOf (slotAt slots k))) (slotEnd L (slotAt slots k))) ≡ false
@@ -74,7 +72,7 @@ module _ (L : View) (slots : List Slot) (w : Whole L slots)
           le-ltb (L .deadline (rowOf (slotAt slots k))) (slotEnd L (slotAt slots k))
           (deadlines k l (eqb-true (slotAt slots k .step) (L .steps (rowOf (slotAt slots k))) e))
 
-      right : (k : ℕ) → k < length slots → tests k ≡ Good
+      right : (k : ℕ) → k < length slots → slotFault L slots k ≡ Good
       right k l =
           slot-late L slots w long first k l
           ∙ ap (λ b. cond b (Refused RowLate) Good)
