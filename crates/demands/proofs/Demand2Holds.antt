@@ -28,7 +28,7 @@ use Rattle.bound.specs.declared.Judged.{Judged}
 use Rattle.bound.specs.Calls.{ifGood, BoundOf, MarginsOf, VerdictOf}
 use Rattle.schedule.proofs.CheckExactly.{checkSchedule-exactly}
 use Rattle.demands.specs.Demand2.{fileIn, Demand2}
-use Rattle.demands.proofs.demand3.MovesHeld.{next-same}
+use Rattle.demands.proofs.moves.MovesHeld.{next-same}
 use Rattle.demands.proofs.demand2.HostHolds.{host-answers}
 use Rattle.demands.proofs.demand2.TwinsHold.{twins-answered}
 

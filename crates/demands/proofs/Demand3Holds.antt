@@ -29,7 +29,7 @@ use Rattle.bench.proofs.running.RunsLaws.{Runs-schedule}
 use Rattle.demands.specs.Numbers.{OneOf}
 use Rattle.demands.specs.Demand3.{Run, startsOf, RunKept, Demand3}
 use Rattle.demands.proofs.Demand2Holds.{file-back, demand2}
-use Rattle.demands.proofs.demand3.RunByCalls.{run-of, run-states, run-moves}
+use Rattle.demands.proofs.moves.RunByCalls.{run-of, run-states, run-moves}
 
 -- a check that is Good or 17, behind a load's check that is Good
 late-number : (load : Load) (slots : List Slot) → checkLoad load ≡ Good → GoodOrLate (checkSlots (viewOf load) slots)

@@ -4,7 +4,7 @@ pub mod Joined
 pub mod JoinedHolds
 pub mod demand1
 pub mod Demand1Holds
-pub mod demand3
+pub mod moves
 pub mod demand2
 pub mod Demand2Holds
 pub mod Demand3Holds

@@ -1,7 +1,8 @@
--- What every moment of a run keeps, and why the clock stays below the bound.
+-- What every start and idle tick of a run from fresh keeps, and with it that the clock stays below the bound.
 pub mod Runnable
 pub mod RunnableLaws
 pub mod Invariant
+pub mod TickLaws
 pub mod StartKeeps
 pub mod ClockBound
 pub mod IdleKeeps

@@ -1,7 +1,5 @@
--- Laws of one move: what a start and a tick change, shape, 10 and 11.
+-- One move: what a start and a tick change, that 10 and 11 are given exactly then, and that both keep the shape.
 pub mod MoveLaws
 pub mod ShapeExact
 pub mod MoveRefused
 pub mod ShapeLaws
-pub mod TickLaws
-pub mod StretchLaws

@@ -26,7 +26,7 @@ use Rattle.rules.proofs.invariant.Runnable.{Runnable}
 use Rattle.rules.proofs.invariant.RunnableLaws.{acceptable-runnable}
 use Rattle.rules.proofs.invariant.MoveKeeps.{Accounted, fresh-accounted, accounted-early, accounted-shaped}
 use Rattle.rules.proofs.invariant.ClockBound.{tightBound-fits}
-use Rattle.rules.proofs.moves.StretchLaws.{later, Quiet, starts-done, quiet-accounted, quiet-starts}
+use Rattle.rules.proofs.run.StretchLaws.{later, Quiet, starts-done, quiet-accounted, quiet-starts}
 use Rattle.bench.specs.declared.Bench.{Bench}
 use Rattle.bench.specs.declared.Board.{Board}
 use Rattle.bench.specs.Held.{stateOf, benchOf}

@@ -23,7 +23,7 @@ use Rattle.rules.specs.Run.{starts, schedule}
 use Rattle.rules.proofs.invariant.Runnable.{Runnable}
 use Rattle.rules.proofs.invariant.RunnableLaws.{acceptable-runnable}
 use Rattle.rules.proofs.invariant.MoveKeeps.{Accounted}
-use Rattle.rules.proofs.moves.StretchLaws.{starts-start, chosen-accounted}
+use Rattle.rules.proofs.run.StretchLaws.{starts-start, chosen-accounted}
 use Rattle.bench.specs.declared.Bench.{Bench}
 use Rattle.bench.specs.declared.Look.{Look}
 use Rattle.bench.specs.declared.Board.{Board}

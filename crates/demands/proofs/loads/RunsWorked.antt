@@ -15,7 +15,7 @@ use Rattle.demands.specs.LoadB.{loadB}
 use Rattle.demands.specs.WorkedRuns.{WorkedRuns}
 use Rattle.demands.proofs.loads.Computing.{computing}
 use Rattle.demands.proofs.loads.LoadsHold.{a-holds, b-holds}
-use Rattle.demands.proofs.demand3.RunByCalls.{run-of}
+use Rattle.demands.proofs.moves.RunByCalls.{run-of}
 use Rattle.demands.proofs.Demand3Holds.{demand3}
 
 -- each member is below 256

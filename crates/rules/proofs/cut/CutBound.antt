@@ -35,7 +35,7 @@ use Rattle.rules.proofs.cut.CutLaws.{
   isFree-past,
   wait-of-cut,
 }
-use Rattle.rules.proofs.bound.SmallestCosts.{smallestCosts-of-cut, minima-of-cut}
+use Rattle.rules.proofs.cut.CutCosts.{smallestCosts-of-cut, minima-of-cut}
 
 -- all costs that are kept
 abbrev pub keptCosts : View → ℕ → ℕ

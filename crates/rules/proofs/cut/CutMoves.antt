@@ -25,7 +25,7 @@ use Rattle.rules.specs.Move.{started, startedFull, passes, chosen}
 use Rattle.rules.proofs.cut.CutLaws.{firstKept-le, kept-le, steps-of-cut}
 use Rattle.rules.proofs.invariant.Runnable.{Runnable}
 use Rattle.rules.proofs.moves.MoveLaws.{started-finished-same, started-finished-other}
-use Rattle.rules.proofs.moves.TickLaws.{allowed-free}
+use Rattle.rules.proofs.invariant.TickLaws.{allowed-free}
 use Rattle.rules.proofs.cut.CutWindows.{kept-shut}
 use Rattle.rules.proofs.cut.CutPlan.{cost-of-cut, release-of-cut, plan-same, started-same, allowed-same}
 

@@ -40,7 +40,7 @@ use Rattle.rules.proofs.invariant.Invariant.{
   worked-here,
 }
 use Rattle.rules.proofs.invariant.ClockBound.{room-for}
-use Rattle.rules.proofs.moves.TickLaws.{
+use Rattle.rules.proofs.invariant.TickLaws.{
   allowed-embedded,
   allowed-lowest,
   tick-worked,

@@ -23,7 +23,7 @@ use Rattle.rules.proofs.moves.MoveLaws.{
   started-end-other,
 }
 use Rattle.rules.proofs.moves.ShapeLaws.{started-keeps-shape}
-use Rattle.rules.proofs.moves.TickLaws.{allowed-free}
+use Rattle.rules.proofs.invariant.TickLaws.{allowed-free}
 use Rattle.rules.proofs.invariant.Invariant.{
   spent,
   waitedOf,

@@ -23,7 +23,7 @@ use Rattle.load.proofs.WindowLeft.{leftAt}
 use Rattle.rules.proofs.moves.MoveLaws.{CanStart}
 use Rattle.rules.proofs.plan.StackLaws.{due-is, windowLeft-is, plan-in-time}
 use Rattle.rules.proofs.invariant.Invariant.{isFree-embedded}
-use Rattle.rules.proofs.moves.TickLaws.{allowed-free}
+use Rattle.rules.proofs.invariant.TickLaws.{allowed-free}
 use Rattle.rules.proofs.slots.SlotLaws.{AfterLower, IsSlot, Fits, slotEnd-is}
 use Rattle.rules.proofs.run.SlotsMade.{Made}
 

@@ -15,8 +15,8 @@ use Rattle.bench.specs.declared.Moved.{Moved}
 use Rattle.bench.specs.Held.{stateOf, benchOf, nextMove}
 use Rattle.demands.specs.Demand2.{HeldBench, SameMove}
 use Rattle.demands.specs.Demand3.{Run}
-use Rattle.demands.proofs.demand3.StateHeld.{benchOf-held, stateOf-benchOf, fresh-ends}
-use Rattle.demands.proofs.demand3.MovesHeld.{next-held, next-same}
+use Rattle.demands.proofs.moves.StateHeld.{benchOf-held, stateOf-benchOf, fresh-ends}
+use Rattle.demands.proofs.moves.MovesHeld.{next-held, next-same}
 
 -- every load has a run: each bench is what the move before it hands back
 benchAt : Load → ℕ → Bench

@@ -15,7 +15,7 @@ use Rattle.bench.specs.Held.{stateOf, benchAfter, nextMove}
 use Rattle.bench.proofs.choice.NextLaws.{nextMove-good}
 use Rattle.demands.specs.Demand2.{HeldBench, SameMove}
 use Rattle.demands.proofs.demand1.RefusedMoves.{move-alone}
-use Rattle.demands.proofs.demand3.StateHeld.{Ends, held-ends, benchOf-held, stateOf-benchOf, move-ends}
+use Rattle.demands.proofs.moves.StateHeld.{Ends, held-ends, benchOf-held, stateOf-benchOf, move-ends}
 
 -- the bench after an answer holds the state after it
 after-is : (bench : Bench) (answer : Outcome) (s : State) → Ends s
