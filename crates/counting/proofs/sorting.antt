@@ -1,7 +1,7 @@
--- Laws of sorting, and of the r smallest.
+-- Laws of sorting, by any order and by a key, and of the sum of the r smallest.
 pub mod SortLaws
-pub mod SmallestLaws
 pub mod OrderLaws
 pub mod KeyLaws
+pub mod SmallestLaws
 pub mod ThresholdLaws
 pub mod PairLaws

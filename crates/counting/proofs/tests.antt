@@ -1,3 +1,3 @@
--- Laws of tests over the numbers below n, and from one number to another.
+-- Laws of tests over the numbers below n, and over those from a on and below b.
 pub mod TestLaws
 pub mod FromLaws

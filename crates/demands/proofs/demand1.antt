@@ -1,7 +1,8 @@
--- Why demand 1 holds: the table, the numbers of each call, what a refusal leaves.
+-- For demand 1: each refusal has its own number of the table, each call refuses with no other and exactly then, and a
+-- refusal is returned alone.
+pub mod TableLaws
 pub mod NumberLaws
 pub mod CallNumbers
-pub mod TableLaws
 pub mod WritingCalls
 pub mod NumbersHold
 pub mod ExactlyHolds

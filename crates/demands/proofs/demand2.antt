@@ -1,3 +1,3 @@
--- Why demand 2 holds of the host and of twins.
+-- For demand 2: what C and the program get is the answer of the load that was read, and twins get the same answers.
 pub mod HostHolds
 pub mod TwinsHold

@@ -1,12 +1,12 @@
--- Laws of the rules: of the bound, of the cut and of the margins; what a move does; that the plan and the invariant are
--- kept; that the run ends by the bound; that its slots pass the check; and demand 3.
+-- Laws of the rules: of the bound; of a move, the plan and what a run keeps; of slots and the run that makes them; of
+-- the cut and the check; demand 3 from all of them; and worked cases.
 pub mod bound
-pub mod cut
-pub mod invariant
 pub mod moves
 pub mod plan
-pub mod run
+pub mod invariant
 pub mod slots
+pub mod run
+pub mod cut
 pub mod check
 pub mod Demand3
 pub mod worked

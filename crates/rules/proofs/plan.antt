@@ -1,4 +1,4 @@
--- Laws of the stack and of the stacking plan.
+-- The stacking plan: what it looks at, what a tick and an earlier end leave of it, and which starts pass it.
 pub mod PlanLaws
 pub mod StackLaws
 pub mod PlanSooner

@@ -1,4 +1,4 @@
--- The worked cases, by computing.
+-- The worked cases hold, by computing.
 pub mod WorkedComputing
 pub mod WorkedBound
 pub mod WorkedMoves
