@@ -10,7 +10,7 @@ use Rattle.load.specs.declared.Load.{Load}
 use Rattle.load.specs.View.{viewOf}
 use Rattle.load.specs.Check.{checkLoad}
 use Rattle.rules.specs.declared.Slot.{Slot}
-use Rattle.rules.specs.Slots.{noSlot, places, slotAt}
+use Rattle.rules.specs.Slots.{noSlot, slotPlaces, slotAt}
 use Rattle.rules.specs.Run.{schedule}
 use Rattle.bench.specs.declared.Ran.{Ran}
 
@@ -24,5 +24,5 @@ ranWith answer slots =
     record {
       answer = answer;
       count = length slots;
-      slots = filled (slotAt slots) (length slots) places noSlot;
+      slots = filled (slotAt slots) (length slots) slotPlaces noSlot;
     }

@@ -16,7 +16,7 @@ use load::MOST_ROWS;
 pub use moves::next_move;
 use refusals::Checked;
 use rules::Outcome;
-use rules::PLACES;
+use rules::SLOT_PLACES;
 use rules::Slot;
 pub use runs::run;
 pub use state::fresh;
@@ -43,7 +43,7 @@ pub struct Moved {
 pub struct Ran {
     pub answer: Checked,
     pub count: usize,
-    pub slots: [Slot; PLACES],
+    pub slots: [Slot; SLOT_PLACES],
 }
 
 // What is looked up of a row: steps finished and steps in all, the opening, its next step's cost

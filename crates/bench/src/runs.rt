@@ -15,7 +15,7 @@ use load::Row;
 use load::check_load;
 use refusals::Checked;
 use refusals::Refusal;
-use rules::PLACES;
+use rules::SLOT_PLACES;
 use rules::Slot;
 ghost use mathlib.Core.Path.{_≡_};
 ghost use mathlib.Core.Bool.{true};
@@ -58,7 +58,7 @@ fn run_checked(load: Load) -> Ran
         row: 0,
         step: 0,
         start: 0,
-    }; PLACES];
+    }; SLOT_PLACES];
     let mut done = all_finished(board, rows);
     while !done {
         let i = search(board, clock, rows);
@@ -96,7 +96,7 @@ fn refused_run(refusal: Refusal) -> Ran
             row: 0,
             step: 0,
             start: 0,
-        }; PLACES],
+        }; SLOT_PLACES],
     }
 }
 

@@ -13,7 +13,7 @@ use load::row_at;
 use load::step_at;
 use load_file::read_load;
 use refusals::Checked;
-use rules::PLACES;
+use rules::SLOT_PLACES;
 use rules::Slot;
 ghost use mathlib.Core.Path.{_≡_};
 ghost use Prim.Native.Nat.{_≤_};
@@ -48,7 +48,7 @@ fn end_of(load: Load, slot: Slot) -> u32
 }
 
 // Gives the end of the last slot, and 0 where there is none.
-fn last_end(load: Load, slots: [Slot; PLACES], count: usize) -> u32
+fn last_end(load: Load, slots: [Slot; SLOT_PLACES], count: usize) -> u32
     requires { ⌜ Scheduled load slots count ⌝ }
     ensures { λ r. ⌜ r ≡ lastEnd (viewOf load) (take count slots) ⌝ }
 {
@@ -59,7 +59,7 @@ fn last_end(load: Load, slots: [Slot; PLACES], count: usize) -> u32
 }
 
 // Puts the lines of so many slots from a place on.
-fn put_slots(text: &mut [u8], at: usize, slots: [Slot; PLACES], count: usize) -> usize
+fn put_slots(text: &mut [u8], at: usize, slots: [Slot; SLOT_PLACES], count: usize) -> usize
     requires { ⌜ (at ≤ rowsEnd) × (count ≤ mostSlots) ⌝ }
     ensures { λ r. ⌜ Put (now (text .entry)) at
         (joinTo (λ k. slotLine (slotAt slots k)) count) (now (text .exit)) r ⌝ }
@@ -98,7 +98,7 @@ fn put_rows(text: &mut [u8], at: usize, load: Load) -> usize
 }
 
 // Puts the first line of a load with its schedule. It has as many steps as slots.
-fn put_head(text: &mut [u8], load: Load, slots: [Slot; PLACES], count: usize) -> usize
+fn put_head(text: &mut [u8], load: Load, slots: [Slot; SLOT_PLACES], count: usize) -> usize
     requires { ⌜ Scheduled load slots count ⌝ }
     ensures { λ r. ⌜ Put (now (text .entry)) 0
         (loadLine (viewOf load) (schedule (viewOf load))) (now (text .exit)) r ⌝ }
@@ -117,7 +117,7 @@ fn put_head(text: &mut [u8], load: Load, slots: [Slot; PLACES], count: usize) ->
 }
 
 // Puts the lines of a load with its schedule: the first line, the row lines, the slot lines.
-fn put_lines(text: &mut [u8], load: Load, slots: [Slot; PLACES], count: usize) -> usize
+fn put_lines(text: &mut [u8], load: Load, slots: [Slot; SLOT_PLACES], count: usize) -> usize
     requires { ⌜ Scheduled load slots count ⌝ }
     ensures { λ r. ⌜ Put (now (text .entry)) 0
         (loadLines load) (now (text .exit)) r ⌝ }

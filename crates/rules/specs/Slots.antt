@@ -14,8 +14,8 @@ abbrev pub noSlot : Slot
 noSlot = record { row = 0; step = 0; start = 0 }
 
 -- an array of slots has 256 places
-abbrev pub places : ℕ
-places = 256
+abbrev pub slotPlaces : ℕ
+slotPlaces = 256
 
 -- the slot at a place of a list
 abbrev pub slotAt : List Slot → ℕ → Slot

@@ -3,7 +3,7 @@
 use refusals::Refusal;
 
 // An array of slots has 256 places.
-pub const PLACES: usize = 256;
+pub const SLOT_PLACES: usize = 256;
 
 // A slot: a row and a step of it, both counted from 1, and the moment at which the step starts.
 pub struct Slot {

@@ -8,13 +8,13 @@ use Rattle.refusals.specs.declared.Checked.{Checked}
 use Rattle.refusals.specs.Given.{Given}
 use Rattle.load.specs.declared.Load.{Load}
 use Rattle.rules.specs.declared.Slot.{Slot}
-use Rattle.rules.specs.Slots.{places}
+use Rattle.rules.specs.Slots.{slotPlaces}
 use Rattle.rules.specs.Check.{checkSchedule}
 use Rattle.schedule.specs.ScheduleFile.{slotsFault, scheduleBytes}
 
 -- the first n slots of an array, at most 256
 abbrev pub firstSlots : List Slot → ℕ → List Slot
-firstSlots slots n = take (min n places) slots
+firstSlots slots n = take (min n slotPlaces) slots
 
 -- check_schedule(load, slots): the first of 3 to 7, then 12, then slot by slot 13 to 17, or Good
 abbrev pub CheckSchedule : Load → List Slot → Checked → Type 0

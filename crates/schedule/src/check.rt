@@ -1,12 +1,12 @@
 // The check of a schedule against its load. The slots are lent as a slice of slot records, the form
 // that the scope asks for by name; a function over it is proved by a walk by hand, so each of the
 // three does little: one takes a slot apart, one is the loop, and one lends the front of an array.
-use crate::PLACES;
-use crate::Seen;
-use crate::before::at_most_places;
-use crate::before::begin;
-use crate::before::finish;
+use crate::SLOT_PLACES;
 use crate::found::check_slot;
+use crate::seen::Seen;
+use crate::seen::at_most_places;
+use crate::seen::begin;
+use crate::seen::finish;
 use load::Load;
 use refusals::Checked;
 use rules::Slot;
@@ -42,7 +42,7 @@ pub fn check_schedule(load: Load, slots: &[Slot]) -> Checked
 }
 
 // Checks the first n slots of an array, at most 256, as check_schedule does a lent slice.
-pub fn check_array(load: Load, slots: [Slot; PLACES], n: usize) -> Checked
+pub fn check_array(load: Load, slots: [Slot; SLOT_PLACES], n: usize) -> Checked
     ensures { λ r. ⌜ CheckArray load slots n r ⌝ }
 {
     let count = at_most_places(n);

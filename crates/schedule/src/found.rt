@@ -1,7 +1,7 @@
 // The tests 13 to 17 of one slot, on plain numbers.
-use crate::Seen;
-use crate::before::place_of;
-use crate::before::with_found;
+use crate::seen::Seen;
+use crate::seen::place_of;
+use crate::seen::with_found;
 use load::LAST_MOMENT;
 use load::Load;
 use load::MOST_ROWS;

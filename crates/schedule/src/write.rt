@@ -2,9 +2,8 @@
 // unchecked; a function over it is proved by a walk by hand, so each of the three does little: one
 // takes a slot apart, one is the loop, and one lends the front of an array. The file is gathered by
 // value, and written where it fits.
-use crate::Gathered;
-use crate::PLACES;
-use crate::before::at_most_places;
+use crate::SLOT_PLACES;
+use crate::seen::at_most_places;
 use refusals::Checked;
 use refusals::Refusal;
 use rules::Slot;
@@ -26,6 +25,12 @@ ghost use Rattle.schedule.specs.Calls.{WriteSchedule, WriteArray};
 
 // A schedule has at most 192 slots.
 pub const MOST_SLOTS: usize = 192;
+
+// The bytes of a file that is gathered, and how many of them there are.
+pub struct Gathered {
+    pub at: usize,
+    pub bytes: [u8; 1540],
+}
 
 // Begins a file of n slots with its head.
 pub fn head(n: usize) -> Gathered
@@ -115,7 +120,7 @@ pub fn write_schedule(slots: &[Slot], out: &mut [u8]) -> Checked
 
 // Writes the schedule file of the first n slots of an array, at most 256, as write_schedule does
 // that of a lent slice.
-pub fn write_array(slots: [Slot; PLACES], n: usize, out: &mut [u8]) -> Checked
+pub fn write_array(slots: [Slot; SLOT_PLACES], n: usize, out: &mut [u8]) -> Checked
     ensures { λ r. ⌜ WriteArray slots n (now (out .entry)) r (now (out .exit)) ⌝ }
 {
     let count = at_most_places(n);

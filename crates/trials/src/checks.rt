@@ -10,11 +10,11 @@ use crate::slots::SLOT_SIZE;
 use crate::slots::SLOTS_SIZE;
 use crate::slots::slots_from;
 use rules::Slot;
-use schedule::PLACES;
+use schedule::SLOT_PLACES;
 use schedule::check_array;
 
 // Writes what the check of the first n slots finds, or the file's refusal.
-fn write_checked(given: Given, slots: [Slot; PLACES], n: usize) {
+fn write_checked(given: Given, slots: [Slot; SLOT_PLACES], n: usize) {
     let refused = given.found;
     if !write_refused(refused) {
         write_found(b"check ", check_array(given.load, slots, n));

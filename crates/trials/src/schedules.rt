@@ -12,12 +12,12 @@ use crate::slots::SLOT_SIZE;
 use crate::slots::SLOTS_SIZE;
 use crate::slots::slots_from;
 use rules::Slot;
-use schedule::PLACES;
+use schedule::SLOT_PLACES;
 use schedule::write_array;
 
 // Answers for the first n slots, their writing lent a room at the front of the bytes. Says no where
 // they are fewer. The slots' file has a head of four bytes, and eight for each slot.
-fn answer_written(slots: [Slot; PLACES], n: u16, bytes: &mut [u8], room: Room) -> bool {
+fn answer_written(slots: [Slot; SLOT_PLACES], n: u16, bytes: &mut [u8], room: Room) -> bool {
     let size = room.size;
     if bytes.len() < size {
         return false;

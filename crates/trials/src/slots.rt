@@ -1,6 +1,6 @@
 // The slots of a question: how many (2 bytes), at most 256, and six bytes for each.
 use rules::Slot;
-use schedule::PLACES;
+use schedule::SLOT_PLACES;
 use words::byte_at;
 use words::number32_at;
 ghost use Prim.Native.Nat.{_<_};
@@ -24,14 +24,14 @@ fn slot_from(bytes: &[u8], i: usize) -> Slot
 }
 
 // Gives the slots that the bytes spell; those behind the last that was read are zero, as its bytes.
-pub fn slots_from(bytes: &[u8; SLOTS_SIZE]) -> [Slot; PLACES] {
+pub fn slots_from(bytes: &[u8; SLOTS_SIZE]) -> [Slot; SLOT_PLACES] {
     let none = Slot {
         row: 0,
         step: 0,
         start: 0,
     };
-    let mut slots = [none; PLACES];
-    for i in 0..PLACES {
+    let mut slots = [none; SLOT_PLACES];
+    for i in 0..SLOT_PLACES {
         slots[i] = slot_from(bytes, i);
     }
     slots

@@ -19,7 +19,7 @@ use Rattle.load.specs.Check.{checkLoad}
 use Rattle.load.proofs.AcceptableLaws.{check-acceptable}
 use Rattle.rules.specs.declared.Slot.{Slot}
 use Rattle.rules.specs.State.{State, fresh, shaped}
-use Rattle.rules.specs.Slots.{noSlot, places, slotAt}
+use Rattle.rules.specs.Slots.{noSlot, slotPlaces, slotAt}
 use Rattle.rules.specs.Move.{allFinished, chosen}
 use Rattle.rules.specs.Run.{starts, enoughMoves, schedule}
 use Rattle.rules.proofs.invariant.Runnable.{Runnable}
@@ -56,7 +56,7 @@ pub record Running (load : Load) (board : Board) (clock count : ℕ) (slots : Li
   pub before : List Slot
   pub count-is : length before ≡ count
   pub schedule-is : schedule (viewOf load) ≡ before ++ starts (viewOf load) moves (stateOf bench)
-  pub slots-are : slots ≡ filled (slotAt (schedule (viewOf load))) count places noSlot
+  pub slots-are : slots ≡ filled (slotAt (schedule (viewOf load))) count slotPlaces noSlot
 
 module _ (load : Load) (accepted : checkLoad load ≡ Good) (most : load .rows ≤ 24) where
   abbrev L : View
@@ -70,7 +70,7 @@ module _ (load : Load) (accepted : checkLoad load ≡ Good) (most : load .rows �
 
   -- before the first move
   pub running-fresh : (board : Board) → Shows load (benchOf fresh) board
-      → Running load board 0 0 (replicate places noSlot)
+      → Running load board 0 0 (replicate slotPlaces noSlot)
   unfolding schedule fresh benchOf
   running-fresh board shows =
       record {
@@ -84,7 +84,7 @@ module _ (load : Load) (accepted : checkLoad load ≡ Good) (most : load .rows �
         before = [];
         count-is = refl;
         schedule-is = ap (starts L enoughMoves) (sym fresh-state);
-        slots-are = sym (filled-none (slotAt (schedule L)) places noSlot);
+        slots-are = sym (filled-none (slotAt (schedule L)) slotPlaces noSlot);
       }
 
   module _ (board : Board) (clock count : ℕ) (slots : List Slot) (r : Running load board clock count slots) where
@@ -109,7 +109,7 @@ module _ (load : Load) (accepted : checkLoad load ≡ Good) (most : load .rows �
         ∙ append-nil (r .before)) in
         let counted : count ≡ length (schedule L) = sym (r .count-is) ∙ ap length (sym whole) in
         ap₂ (λ n l. record { answer = Good; count = n; slots = l }) counted
-        (r .slots-are ∙ ap (λ n. filled (slotAt (schedule L)) n places noSlot) counted)
+        (r .slots-are ∙ ap (λ n. filled (slotAt (schedule L)) n slotPlaces noSlot) counted)
 
     -- a stretch of ticks at which nothing is chosen
     pub running-idle : finishedIn board (load .rows) ≡ false → (k : ℕ) → k ≤ lastMoment - clock → Quiet L s k

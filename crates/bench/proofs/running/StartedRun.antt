@@ -17,7 +17,7 @@ use Rattle.load.specs.Check.{checkLoad}
 use Rattle.load.proofs.AcceptableLaws.{check-acceptable}
 use Rattle.rules.specs.declared.Slot.{Slot}
 use Rattle.rules.specs.State.{State}
-use Rattle.rules.specs.Slots.{noSlot, places, slotAt}
+use Rattle.rules.specs.Slots.{noSlot, slotPlaces, slotAt}
 use Rattle.rules.specs.Move.{allFinished, chosen, nextSlot, startedFull}
 use Rattle.rules.specs.Run.{starts, schedule}
 use Rattle.rules.proofs.invariant.Runnable.{Runnable}
@@ -162,6 +162,6 @@ module _ (load : Load) (accepted : checkLoad load ≡ Good) (most : load .rows �
           schedule-is =
               goes-on ∙ ap (λ t. (r .before ++ (slot ∷ [])) ++ starts L (r .moves - 1) t) (sym state);
           slots-are =
-              filled-stored (slotAt (schedule L)) count places noSlot slot slots (r .slots-are) (sym slot-stands)
+              filled-stored (slotAt (schedule L)) count slotPlaces noSlot slot slots (r .slots-are) (sym slot-stands)
               (omega (arith, place-left));
         }

@@ -22,13 +22,13 @@ use Rattle.load.proofs.AcceptableLaws.{check-acceptable, check-placed}
 use Rattle.rules.specs.declared.Slot.{Slot}
 use Rattle.rules.specs.Slots.{slotAt}
 use Rattle.rules.specs.Check.{checkSlots, checkSchedule}
-use Rattle.schedule.specs.declared.Seen.{Seen}
+use Rattle.schedule.specs.declared.seen.Seen.{Seen}
 use Rattle.schedule.specs.inner.Seen.{counted, begun, foundAt}
 use Rattle.schedule.specs.inner.SeenFold.{advanced, withFound, byFinding, nextSlot, stepSlot, seenOf, foldSlots}
 use Rattle.schedule.proofs.fold.SeenLaws.{testsAt, Before}
 use Rattle.schedule.proofs.fold.RightLaws.{tests-right}
 use Rattle.schedule.proofs.fold.StepLaws.{tests-same}
-use Rattle.schedule.proofs.fold.KeepLaws.{advanced-kept}
+use Rattle.schedule.proofs.fold.KeepLaws.{advanced-seen}
 use Rattle.schedule.proofs.walks.FoldLaws.{foldSlots-next, foldSlots-end}
 
 module _ (load : Load) (ok : Acceptable (viewOf load)) (placed : Placed load) (slots : List Slot) where
@@ -68,7 +68,7 @@ module _ (load : Load) (ok : Acceptable (viewOf load)) (placed : Placed load) (s
           subst (Before L slots (suc k)) (sym s)
           (record {
             found-is = sym (ap₂ andThen clean q);
-            kept = λ g. advanced-kept load ok placed slots k seen (b .kept e) clean (tests-right L slots k q);
+            kept = λ g. advanced-seen load ok placed slots k seen (b .kept e) clean (tests-right L slots k q);
           })
 
       go : (c : Checked) → seen .found ≡ c → Before L slots (suc k) (byFinding (seen .found) seen then)

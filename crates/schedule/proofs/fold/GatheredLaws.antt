@@ -19,7 +19,7 @@ use Rattle.refusals.specs.declared.Checked.the-variants.{Refused}
 use Rattle.refusals.specs.FirstMet.{firstMet}
 use Rattle.refusals.specs.Given.{Given, outputAfter}
 use Rattle.rules.specs.declared.Slot.{Slot}
-use Rattle.schedule.specs.declared.Gathered.{Gathered}
+use Rattle.schedule.specs.declared.write.Gathered.{Gathered}
 use Rattle.schedule.specs.ScheduleFile.{mostSlots, slotRecord, scheduleBytes}
 use Rattle.schedule.specs.inner.Gathered.{headBytes, headed, withSlot, gatheredOf, gathered}
 use Rattle.schedule.specs.Calls.{WriteSchedule}

@@ -21,15 +21,15 @@ use Rattle.rules.specs.declared.Slot.{Slot}
 use Rattle.rules.specs.Slots.{slotAt, rowOf, stepOf}
 use Rattle.rules.proofs.slots.SlotLaws.{ofRow}
 use Rattle.rules.proofs.slots.NextLaws.{ofRow-lt}
-use Rattle.schedule.specs.declared.Seen.{Seen}
+use Rattle.schedule.specs.declared.seen.Seen.{Seen}
 use Rattle.schedule.specs.inner.Seen.{startAt, withStart}
 use Rattle.schedule.specs.inner.SeenFold.{advanced}
-use Rattle.schedule.proofs.fold.SeenLaws.{testsAt, Kept}
+use Rattle.schedule.proofs.fold.SeenLaws.{testsAt, SeenTo}
 use Rattle.schedule.proofs.fold.RightLaws.{Right}
 use Rattle.schedule.proofs.fold.StepLaws.{right}
 
 module _ (load : Load) (ok : Acceptable (viewOf load)) (placed : Placed load) (slots : List Slot) (k : ℕ) (seen : Seen)
-    (kept : Kept (viewOf load) slots k seen)
+    (kept : SeenTo (viewOf load) slots k seen)
     (clean : firstFaultTo (testsAt (viewOf load) slots) k ≡ Good)
     (mine : Right (viewOf load) slots k (slotAt slots k)) where
   abbrev x : Slot
@@ -121,9 +121,9 @@ module _ (load : Load) (ok : Acceptable (viewOf load)) (placed : Placed load) (s
               differ)
               ∙ kept .starts h q
 
-  pub advanced-kept : Kept (viewOf load) slots (suc k) (advanced load seen (x .row) (x .step) (x .start))
+  pub advanced-seen : SeenTo (viewOf load) slots (suc k) (advanced load seen (x .row) (x .step) (x .start))
   unfolding viewOf
-  advanced-kept =
+  advanced-seen =
       record {
         counts = counts;
         starts = starts;

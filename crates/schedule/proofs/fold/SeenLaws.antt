@@ -24,7 +24,7 @@ use Rattle.rules.specs.declared.Slot.{Slot}
 use Rattle.rules.specs.Slots.{slotAt, rowOf, stepOf, slotEnd}
 use Rattle.rules.specs.Check.{slotTests as ruleTests}
 use Rattle.rules.proofs.slots.SlotLaws.{ofRow}
-use Rattle.schedule.specs.declared.Seen.{Seen}
+use Rattle.schedule.specs.declared.seen.Seen.{Seen}
 use Rattle.schedule.specs.inner.Seen.{startAt, foundAt, slotTests}
 
 -- a slot that is right names a row of the 24
@@ -79,8 +79,8 @@ endBefore L slots (suc h) = slotEnd L (slotAt slots h)
 abbrev pub testsAt : View → List Slot → ℕ → Checked
 testsAt L slots k = firstMet (ruleTests L slots k (slotAt slots k))
 
--- what is kept before place k
-pub record Kept (L : View) (slots : List Slot) (k : ℕ) (seen : Seen) : Type 0 where
+-- what is kept is what the slots before place k show
+pub record SeenTo (L : View) (slots : List Slot) (k : ℕ) (seen : Seen) : Type 0 where
   pub counts : (i : ℕ) → i < 24 → getD (seen .next) i 0 ≡ ofRow slots (shown i) k
   pub starts : (h : ℕ) → h < k
       → startAt (seen .starts) (rowOf (slotAt slots h) * 8 + stepOf (slotAt slots h)) ≡ slotAt slots h .start
@@ -90,4 +90,4 @@ pub record Kept (L : View) (slots : List Slot) (k : ℕ) (seen : Seen) : Type 0 
 
 pub record Before (L : View) (slots : List Slot) (k : ℕ) (seen : Seen) : Type 0 where
   pub found-is : seen .found ≡ firstFaultTo (testsAt L slots) k
-  pub kept : seen .found ≡ Good → Kept L slots k seen
+  pub kept : seen .found ≡ Good → SeenTo L slots k seen

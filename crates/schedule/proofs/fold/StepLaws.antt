@@ -33,13 +33,13 @@ use Rattle.rules.specs.Slots.{noSlot, slotAt, rowOf, stepOf, slotEnd, isFor, sl
 use Rattle.rules.specs.Check.{slotTests as ruleTests, overlaps, notNext, startsEarly, endsWindowLate, endsRowLate}
 use Rattle.rules.proofs.slots.SlotLaws.{ofRow}
 use Rattle.rules.proofs.slots.NextLaws.{Ranked, countTo-ranked}
-use Rattle.schedule.specs.declared.Seen.{Seen}
+use Rattle.schedule.specs.declared.seen.Seen.{Seen}
 use Rattle.schedule.specs.inner.Seen.{startAt, started, releasedAt, endAt, lateWindow, stepTests, foundAt}
 use Rattle.schedule.proofs.fold.RightLaws.{Right, tests-right}
-use Rattle.schedule.proofs.fold.SeenLaws.{rest-ext, names-ext, anyIn-take, endBefore, testsAt, Kept}
+use Rattle.schedule.proofs.fold.SeenLaws.{rest-ext, names-ext, anyIn-take, endBefore, testsAt, SeenTo}
 
 module _ (load : Load) (ok : Acceptable (viewOf load)) (placed : Placed load) (slots : List Slot) (k : ℕ) (seen : Seen)
-    (kept : Kept (viewOf load) slots k seen)
+    (kept : SeenTo (viewOf load) slots k seen)
     (clean : firstFaultTo (testsAt (viewOf load) slots) k ≡ Good) where
   abbrev L : View
   L = viewOf load

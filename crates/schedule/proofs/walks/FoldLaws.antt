@@ -8,8 +8,8 @@ use lib.ListN.{length, drop}
 use Rattle.load.specs.declared.Load.{Load}
 use Rattle.rules.specs.declared.Slot.{Slot}
 use Rattle.rules.specs.Slots.{slotAt}
-use Rattle.schedule.specs.declared.Seen.{Seen}
-use Rattle.schedule.specs.declared.Gathered.{Gathered}
+use Rattle.schedule.specs.declared.seen.Seen.{Seen}
+use Rattle.schedule.specs.declared.write.Gathered.{Gathered}
 use Rattle.schedule.specs.inner.SeenFold.{seenOf, foldSlots}
 use Rattle.schedule.specs.inner.Gathered.{gatheredOf, gathered}
 

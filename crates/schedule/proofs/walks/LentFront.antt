@@ -35,10 +35,10 @@ use denote.Triple.Statement.{Contract}
 use denote.Triple.Spec.{tripleOf}
 use denote.Triple.Clauses.{ensured, lasts}
 use Rattle.rules.specs.declared.Slot.{Slot}
-use Rattle.rules.specs.Slots.{places}
+use Rattle.rules.specs.Slots.{slotPlaces}
 use Rattle.rules.proofs.Slot as T
 use Rattle.rules.proofs.Slot.Laws as T′
-use Rattle.schedule.proofs.before.at_most_places as counts
+use Rattle.schedule.proofs.seen.at_most_places as counts
 
 -- the array's type, and its machine values
 abbrev pub Slots : RattleType
@@ -56,10 +56,10 @@ only [] = vint w64 0
 only (v ∷ vs) = v
 
 -- the array has 256 slots, and so its first ones as many as are counted
-pub sized : (xs : List Slot) (n : ℕ) → length xs ≡ 256 → length (take (min n places) xs) ≡ min n places
+pub sized : (xs : List Slot) (n : ℕ) → length xs ≡ 256 → length (take (min n slotPlaces) xs) ≡ min n slotPlaces
 sized xs n all = rw length-take (omega (arith, all))
 
-pub room : (n : ℕ) → Room T.the-row (min n places)
+pub room : (n : ℕ) → Room T.the-row (min n slotPlaces)
 room n = (omega arith, omega arith)
 
 -- the slots side by side, and those past the first k
@@ -135,6 +135,6 @@ module _ {M : Type 1} (𝓤 : URA M) (H : Heap 𝓤) (A : Atoms 𝓤) (W : Given
 
   pub said-counts : (r : ℕ)
       → ent 𝓤 (ensured 𝓤 H A counts.ended (counts.clauses 𝓤 H A at-mem run) tt (n, tt) tt r)
-      (fact 𝓤 (r ≡ min n places))
+      (fact 𝓤 (r ≡ min n slotPlaces))
   said-counts r =
-      exE 𝓤 _ (λ ws. snd∗ 𝓤 (sem 𝓤 H A (lasts counts.ended tt (n, tt) ws)) (fact 𝓤 (r ≡ min n places)))
+      exE 𝓤 _ (λ ws. snd∗ 𝓤 (sem 𝓤 H A (lasts counts.ended tt (n, tt) ws)) (fact 𝓤 (r ≡ min n slotPlaces)))

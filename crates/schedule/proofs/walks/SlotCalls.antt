@@ -24,10 +24,10 @@ use denote.Triple.Statement.{Contract}
 use denote.Triple.Spec.{tripleOf}
 use denote.Triple.Clauses.{ensured, lasts}
 use Rattle.rules.proofs.Slot as T
-use Rattle.schedule.specs.declared.Gathered.{Gathered}
+use Rattle.schedule.specs.declared.write.Gathered.{Gathered}
 use Rattle.schedule.specs.inner.Gathered.{headed}
-use Rattle.schedule.proofs.before.begin as begin
-use Rattle.schedule.proofs.before.finish as finish
+use Rattle.schedule.proofs.seen.begin as begin
+use Rattle.schedule.proofs.seen.finish as finish
 use Rattle.schedule.proofs.write.head as head
 use Rattle.schedule.proofs.write.flush as flush
 

@@ -22,7 +22,7 @@ use Rattle.load.specs.declared.Row.{Row}
 use Rattle.load.specs.Load.{lastMoment, mostRows, shown, rowAt, stepAt, windowAt}
 use Rattle.load.specs.View.{viewOf, stepsInAll}
 use Rattle.load.specs.Check.{checkLoad}
-use Rattle.schedule.specs.declared.Seen.{Seen}
+use Rattle.schedule.specs.declared.seen.Seen.{Seen}
 
 -- 12: as many slots as steps
 abbrev pub counted : Load → ℕ → Checked

@@ -9,7 +9,7 @@ use Rattle.refusals.specs.declared.Checked.the-variants.{Good, Refused}
 use Rattle.load.specs.declared.Load.{Load}
 use Rattle.load.specs.Load.{rowAt}
 use Rattle.rules.specs.declared.Slot.{Slot}
-use Rattle.schedule.specs.declared.Seen.{Seen}
+use Rattle.schedule.specs.declared.seen.Seen.{Seen}
 use Rattle.schedule.specs.inner.Seen.{withStart, endAt, foundAt}
 
 -- a slot that is right is kept

@@ -53,7 +53,7 @@ use Rattle.load.specs.declared.Load.{Load}
 use Rattle.load.proofs.Load as D
 use Rattle.load.proofs.Load.Laws as D′
 use Rattle.rules.specs.declared.Slot.{Slot}
-use Rattle.rules.specs.Slots.{places}
+use Rattle.rules.specs.Slots.{slotPlaces}
 use Rattle.rules.specs.Check.{checkSchedule}
 use Rattle.rules.proofs.Slot as T
 use Rattle.rules.proofs.Slot.Laws as T′
@@ -68,10 +68,10 @@ use Rattle.schedule.proofs.walks.LentFront.{
   goes-counts,
   said-counts,
 }
-use Rattle.schedule.proofs.before.at_most_places as counts
-use Rattle.schedule.proofs.before.at_most_places.Symbol as counts-def
-use Rattle.schedule.proofs.before.at_most_places.Symbol.{name as #schedule·at-most-places}
-use Rattle.schedule.proofs.before.at_most_places.Met as counts-thm
+use Rattle.schedule.proofs.seen.at_most_places as counts
+use Rattle.schedule.proofs.seen.at_most_places.Symbol as counts-def
+use Rattle.schedule.proofs.seen.at_most_places.Symbol.{name as #schedule·at-most-places}
+use Rattle.schedule.proofs.seen.at_most_places.Met as counts-thm
 use Rattle.schedule.proofs.check.check_schedule as callee
 use Rattle.schedule.proofs.check.check_schedule.Symbol as callee-def
 use Rattle.schedule.proofs.check.check_schedule.Symbol.{name as #schedule·check-schedule}
@@ -100,7 +100,7 @@ module _ {M : Type 1} (𝓤 : URA M) (H : Heap 𝓤) (A : Atoms 𝓤) (W : Given
     (run : Routine → Fun 𝓤) (ld : Load) (xs : List Slot) (n : ℕ) (isD : Is D.the-row ld (loadVals ld))
     (isA : Is Slots xs (listVals xs)) (gn : n < 2 ^ 64) where
   abbrev count : ℕ
-  count = min n places
+  count = min n slotPlaces
 
   abbrev ys : List Slot
   ys = take count xs
@@ -261,6 +261,6 @@ check-array-spec 𝓤 H 𝓜 𝓖 𝓡 =
     (code.unfolded 𝓤 H 𝓜 𝓡) (check-array-meets 𝓤 H (𝓖 .A) (givenOf 𝓤 H 𝓜 𝓖) (𝓜 .mem) (𝓡 .run)
     (tablesOf 𝓤 H 𝓜 (tables 𝓤 H 𝓜 𝓡 code.env))
     (cited 𝓤 H (Counts 𝓤 H (𝓖 .A) (𝓜 .mem) (𝓡 .run)) 𝓜 𝓡 code.env #schedule·at-most-places counts-def.routine
-    code.calls-schedule·before·at-most-places (counts-thm.met 𝓤 H 𝓜 𝓖 𝓡))
+    code.calls-schedule·seen·at-most-places (counts-thm.met 𝓤 H 𝓜 𝓖 𝓡))
     (cited 𝓤 H (Callee 𝓤 H (𝓖 .A) (𝓜 .mem) (𝓡 .run)) 𝓜 𝓡 code.env #schedule·check-schedule callee-def.routine
     code.calls-schedule·check·check-schedule (callee-thm.met 𝓤 H 𝓜 𝓖 𝓡)))

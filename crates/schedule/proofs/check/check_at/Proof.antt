@@ -48,13 +48,13 @@ use Rattle.schedule.proofs.walks.SlotFields.{field-of}
 use Rattle.schedule.specs.inner.SeenFold.{seenOf}
 use Rattle.rules.specs.declared.Slot.{Slot}
 use Rattle.load.specs.declared.Load.{Load}
-use Rattle.schedule.specs.declared.Seen.{Seen}
+use Rattle.schedule.specs.declared.seen.Seen.{Seen}
 use Rattle.rules.proofs.Slot as T
 use Rattle.rules.proofs.Slot.Laws as T′
 use Rattle.load.proofs.Load as D
 use Rattle.load.proofs.Load.Laws as D′
-use Rattle.schedule.proofs.Seen as S
-use Rattle.schedule.proofs.Seen.Laws as S′
+use Rattle.schedule.proofs.seen.Seen as S
+use Rattle.schedule.proofs.seen.Seen.Laws as S′
 use Rattle.schedule.proofs.found.check_slot as callee
 use Rattle.schedule.proofs.found.check_slot.Symbol as callee-def
 use Rattle.schedule.proofs.found.check_slot.Symbol.{name as #schedule·check-slot}

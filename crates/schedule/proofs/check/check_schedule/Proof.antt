@@ -59,7 +59,7 @@ use Rattle.schedule.proofs.fold.CheckFold.{fold-checks}
 use Rattle.schedule.proofs.walks.SlotCalls.{slice, word, Begin, next-fits, Finish}
 use Rattle.rules.specs.declared.Slot.{Slot}
 use Rattle.load.specs.declared.Load.{Load}
-use Rattle.schedule.specs.declared.Seen.{Seen}
+use Rattle.schedule.specs.declared.seen.Seen.{Seen}
 use Rattle.refusals.specs.declared.Checked.{Checked}
 use Rattle.refusals.proofs.Checked as R
 use Rattle.refusals.proofs.Checked.Laws as R′
@@ -67,20 +67,20 @@ use denote.Enum.Laws as EL
 use Rattle.rules.proofs.Slot as T
 use Rattle.load.proofs.Load as D
 use Rattle.load.proofs.Load.Laws as D′
-use Rattle.schedule.proofs.Seen as S
-use Rattle.schedule.proofs.Seen.Laws as S′
-use Rattle.schedule.proofs.before.begin as begin
-use Rattle.schedule.proofs.before.begin.Symbol as begin-def
-use Rattle.schedule.proofs.before.begin.Symbol.{name as #schedule·begin}
-use Rattle.schedule.proofs.before.begin.Met as begin-thm
+use Rattle.schedule.proofs.seen.Seen as S
+use Rattle.schedule.proofs.seen.Seen.Laws as S′
+use Rattle.schedule.proofs.seen.begin as begin
+use Rattle.schedule.proofs.seen.begin.Symbol as begin-def
+use Rattle.schedule.proofs.seen.begin.Symbol.{name as #schedule·begin}
+use Rattle.schedule.proofs.seen.begin.Met as begin-thm
 use Rattle.schedule.proofs.check.check_at as one
 use Rattle.schedule.proofs.check.check_at.Symbol as one-def
 use Rattle.schedule.proofs.check.check_at.Symbol.{name as #schedule·check-at}
 use Rattle.schedule.proofs.check.check_at.Met as one-thm
-use Rattle.schedule.proofs.before.finish as finish
-use Rattle.schedule.proofs.before.finish.Symbol as finish-def
-use Rattle.schedule.proofs.before.finish.Symbol.{name as #schedule·finish}
-use Rattle.schedule.proofs.before.finish.Met as finish-thm
+use Rattle.schedule.proofs.seen.finish as finish
+use Rattle.schedule.proofs.seen.finish.Symbol as finish-def
+use Rattle.schedule.proofs.seen.finish.Symbol.{name as #schedule·finish}
+use Rattle.schedule.proofs.seen.finish.Met as finish-thm
 use Rattle.schedule.proofs.check.check_schedule.Key.{name as #schedule·check-schedule}
 use Rattle.schedule.proofs.check.check_schedule as self
 use Rattle.schedule.proofs.check.check_schedule.Statement as stated
@@ -313,7 +313,7 @@ check-schedule-spec 𝓤 H 𝓜 𝓖 𝓡 =
     code.env .C) (tables 𝓤 H 𝓜 𝓡 code.env .Λ) #schedule·check-schedule code.function (code.unfolded 𝓤 H 𝓜 𝓡)
     (check-schedule-meets 𝓤 H (𝓖 .A) (givenOf 𝓤 H 𝓜 𝓖) (𝓜 .mem) (𝓡 .run) (tablesOf 𝓤 H 𝓜 (tables 𝓤 H 𝓜 𝓡 code.env))
     (cited 𝓤 H (Begin 𝓤 H (𝓖 .A) (𝓜 .mem) (𝓡 .run)) 𝓜 𝓡 code.env #schedule·begin begin-def.routine
-    code.calls-schedule·before·begin (begin-thm.met 𝓤 H 𝓜 𝓖 𝓡)) (cited 𝓤 H (One 𝓤 H (𝓖 .A) (𝓜 .mem) (𝓡 .run)) 𝓜 𝓡
+    code.calls-schedule·seen·begin (begin-thm.met 𝓤 H 𝓜 𝓖 𝓡)) (cited 𝓤 H (One 𝓤 H (𝓖 .A) (𝓜 .mem) (𝓡 .run)) 𝓜 𝓡
     code.env #schedule·check-at one-def.routine code.calls-schedule·check·check-at (one-thm.met 𝓤 H 𝓜 𝓖 𝓡)) (cited 𝓤
     H (Finish 𝓤 H (𝓖 .A) (𝓜 .mem) (𝓡 .run)) 𝓜 𝓡 code.env #schedule·finish finish-def.routine
-    code.calls-schedule·before·finish (finish-thm.met 𝓤 H 𝓜 𝓖 𝓡)))
+    code.calls-schedule·seen·finish (finish-thm.met 𝓤 H 𝓜 𝓖 𝓡)))

@@ -52,7 +52,7 @@ use Rattle.refusals.specs.declared.Checked.{Checked}
 use Rattle.refusals.proofs.Checked as R
 use Rattle.refusals.proofs.Checked.Laws as R′
 use Rattle.rules.specs.declared.Slot.{Slot}
-use Rattle.rules.specs.Slots.{places}
+use Rattle.rules.specs.Slots.{slotPlaces}
 use Rattle.rules.proofs.Slot as T
 use Rattle.rules.proofs.Slot.Laws as T′
 use Rattle.schedule.specs.Calls.{WriteSchedule}
@@ -67,10 +67,10 @@ use Rattle.schedule.proofs.walks.LentFront.{
   goes-counts,
   said-counts,
 }
-use Rattle.schedule.proofs.before.at_most_places as counts
-use Rattle.schedule.proofs.before.at_most_places.Symbol as counts-def
-use Rattle.schedule.proofs.before.at_most_places.Symbol.{name as #schedule·at-most-places}
-use Rattle.schedule.proofs.before.at_most_places.Met as counts-thm
+use Rattle.schedule.proofs.seen.at_most_places as counts
+use Rattle.schedule.proofs.seen.at_most_places.Symbol as counts-def
+use Rattle.schedule.proofs.seen.at_most_places.Symbol.{name as #schedule·at-most-places}
+use Rattle.schedule.proofs.seen.at_most_places.Met as counts-thm
 use Rattle.schedule.proofs.write.write_schedule as callee
 use Rattle.schedule.proofs.write.write_schedule.Symbol as callee-def
 use Rattle.schedule.proofs.write.write_schedule.Symbol.{name as #schedule·write-schedule}
@@ -97,7 +97,7 @@ module _ {M : Type 1} (𝓤 : URA M) (H : Heap 𝓤) (A : Atoms 𝓤) (W : Given
     (run : Routine → Fun 𝓤) (κ : Lft) (q : Share) (xs : List Slot) (n : ℕ) (y : RefT (List ℕ))
     (isA : Is Slots xs (listVals xs)) (gn : n < 2 ^ 64) (isY : Is (MutSlice (named 0) κ u8) y (slice-vals y)) where
   abbrev count : ℕ
-  count = min n places
+  count = min n slotPlaces
 
   abbrev ys : List Slot
   ys = take count xs
@@ -271,6 +271,6 @@ write-array-spec 𝓤 H 𝓜 𝓖 𝓡 =
     (code.unfolded 𝓤 H 𝓜 𝓡) (write-array-meets 𝓤 H (𝓖 .A) (givenOf 𝓤 H 𝓜 𝓖) (𝓜 .mem) (𝓡 .run)
     (tablesOf 𝓤 H 𝓜 (tables 𝓤 H 𝓜 𝓡 code.env))
     (cited 𝓤 H (Counts 𝓤 H (𝓖 .A) (𝓜 .mem) (𝓡 .run)) 𝓜 𝓡 code.env #schedule·at-most-places counts-def.routine
-    code.calls-schedule·before·at-most-places (counts-thm.met 𝓤 H 𝓜 𝓖 𝓡))
+    code.calls-schedule·seen·at-most-places (counts-thm.met 𝓤 H 𝓜 𝓖 𝓡))
     (cited 𝓤 H (Callee 𝓤 H (𝓖 .A) (𝓜 .mem) (𝓡 .run)) 𝓜 𝓡 code.env #schedule·write-schedule callee-def.routine
     code.calls-schedule·write·write-schedule (callee-thm.met 𝓤 H 𝓜 𝓖 𝓡)))

@@ -46,11 +46,11 @@ use Rattle.rules.specs.Slots.{noSlot}
 use Rattle.schedule.proofs.walks.SlotFields.{field-of}
 use Rattle.schedule.specs.inner.Gathered.{gatheredOf}
 use Rattle.rules.specs.declared.Slot.{Slot}
-use Rattle.schedule.specs.declared.Gathered.{Gathered}
+use Rattle.schedule.specs.declared.write.Gathered.{Gathered}
 use Rattle.rules.proofs.Slot as T
 use Rattle.rules.proofs.Slot.Laws as T′
-use Rattle.schedule.proofs.Gathered as S
-use Rattle.schedule.proofs.Gathered.Laws as S′
+use Rattle.schedule.proofs.write.Gathered as S
+use Rattle.schedule.proofs.write.Gathered.Laws as S′
 use Rattle.schedule.proofs.write.with_slot as callee
 use Rattle.schedule.proofs.write.with_slot.Symbol as callee-def
 use Rattle.schedule.proofs.write.with_slot.Symbol.{name as #schedule·with-slot}

@@ -62,7 +62,7 @@ use Rattle.refusals.proofs.Checked.Laws as R′
 use Rattle.rules.specs.declared.Slot.{Slot}
 use Rattle.rules.specs.Slots.{noSlot}
 use Rattle.rules.proofs.Slot as T
-use Rattle.schedule.specs.declared.Gathered.{Gathered}
+use Rattle.schedule.specs.declared.write.Gathered.{Gathered}
 use Rattle.schedule.specs.ScheduleFile.{mostSlots}
 use Rattle.schedule.specs.inner.Gathered.{headed, gatheredOf, gathered}
 use Rattle.schedule.specs.Calls.{WriteSchedule}
@@ -70,8 +70,8 @@ use Rattle.schedule.proofs.walks.FoldLaws.{gathered-turn, gathered-end}
 use Rattle.schedule.proofs.fold.GatheredLaws.{gathered-given}
 use Rattle.schedule.proofs.walks.SlotCalls.{slice, word, byteRef, Head as Begin, next-fits, Flush, to-head}
 use Rattle.schedule.proofs.walks.SlotCalls.{goes-head, said-head}
-use Rattle.schedule.proofs.Gathered as S
-use Rattle.schedule.proofs.Gathered.Laws as S′
+use Rattle.schedule.proofs.write.Gathered as S
+use Rattle.schedule.proofs.write.Gathered.Laws as S′
 use Rattle.schedule.proofs.write.head as begin
 use Rattle.schedule.proofs.write.head.Symbol.{name as #schedule·head, routine as begin-routine}
 use Rattle.schedule.proofs.write.head.Met as begin-thm

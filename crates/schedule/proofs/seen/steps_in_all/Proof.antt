@@ -8,8 +8,8 @@ use Rattle.counting.proofs.sums.SumLaws.{sumTo-zero, sumTo-next}
 use Rattle.load.specs.declared.Load.{Load}
 use Rattle.load.specs.Load.{rowAt}
 use Rattle.load.specs.View.{viewOf}
-use Rattle.schedule.proofs.before.steps_in_all.Statement.{statement}
-use Rattle.schedule.proofs.before.steps_in_all.Tie as tie
+use Rattle.schedule.proofs.seen.steps_in_all.Statement.{statement}
+use Rattle.schedule.proofs.seen.steps_in_all.Tie as tie
 
 abbrev stepsOf : Load → ℕ → ℕ
 stepsOf load i = rowAt load i .steps

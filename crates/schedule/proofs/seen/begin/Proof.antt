@@ -1,8 +1,8 @@
 -- `begin` has seen no slot, and has found what `found_first` finds.
 use borrow.Author.Needs.{needs}
 use Rattle.schedule.specs.inner.Seen.{begun}
-use Rattle.schedule.proofs.before.begin.Statement.{statement}
-use Rattle.schedule.proofs.before.begin.Tie as tie
+use Rattle.schedule.proofs.seen.begin.Statement.{statement}
+use Rattle.schedule.proofs.seen.begin.Tie as tie
 
 returns : tie.Need-returns
 unfolding begun

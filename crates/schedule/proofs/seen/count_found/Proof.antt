@@ -1,8 +1,8 @@
 -- `count_found` compares with the number of steps in all.
 use borrow.Author.Needs.{needs}
 use borrow.Author.Tests.{eq-eqb, ne-eqb}
-use Rattle.schedule.proofs.before.count_found.Statement.{statement}
-use Rattle.schedule.proofs.before.count_found.Tie as tie
+use Rattle.schedule.proofs.seen.count_found.Statement.{statement}
+use Rattle.schedule.proofs.seen.count_found.Tie as tie
 
 differs : tie.Need-returns
 differs c = rw (← c .before .steps-in-all .ensures, ne-eqb _ _ (c .if1 .taken))

@@ -1,6 +1,5 @@
 // What the check keeps from one slot to the next.
-use crate::PLACES;
-use crate::Seen;
+use crate::SLOT_PLACES;
 use load::Load;
 use load::MOST_ROWS;
 use load::check_load;
@@ -12,7 +11,16 @@ ghost use Rattle.load.specs.Load.{rowAt};
 ghost use Rattle.load.specs.View.{viewOf, stepsInAll};
 ghost use Rattle.schedule.specs.inner.Seen.{begun, counted};
 ghost use Rattle.schedule.specs.inner.SeenFold.{withFound};
-ghost use Rattle.rules.specs.Slots.{places};
+ghost use Rattle.rules.specs.Slots.{slotPlaces};
+
+// What the slots so far showed: what was found, when the last of them ends, how many each row has,
+// and when the slot of each step starts, eight places a row.
+pub struct Seen {
+    pub found: Checked,
+    pub end: u64,
+    pub next: [u8; 24],
+    pub starts: [u32; 192],
+}
 
 // Gives the number of steps of the row at a place, and past the last place 0.
 fn steps_of(load: Load, i: usize) -> usize
@@ -84,9 +92,9 @@ pub fn finish(seen: Seen) -> Checked
 
 // Gives n, or 256 where that is less.
 pub fn at_most_places(n: usize) -> usize
-    ensures { λ r. ⌜ r ≡ min n places ⌝ }
+    ensures { λ r. ⌜ r ≡ min n slotPlaces ⌝ }
 {
-    if n < PLACES { n } else { PLACES }
+    if n < SLOT_PLACES { n } else { SLOT_PLACES }
 }
 
 // Gives the place of what is counted from 1, and 0 for 0.

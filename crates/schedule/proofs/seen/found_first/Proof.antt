@@ -2,8 +2,8 @@
 use mathlib.Core.Path.{sym, _∙_}
 use borrow.Author.Needs.{needs}
 use Rattle.schedule.specs.inner.Seen.{begun}
-use Rattle.schedule.proofs.before.found_first.Statement.{statement}
-use Rattle.schedule.proofs.before.found_first.Tie as tie
+use Rattle.schedule.proofs.seen.found_first.Statement.{statement}
+use Rattle.schedule.proofs.seen.found_first.Tie as tie
 
 good : tie.Need-returns
 unfolding begun

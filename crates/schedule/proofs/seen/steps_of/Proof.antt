@@ -5,8 +5,8 @@ use lib.ListN.{length, length-map, List·getD-eq-default}
 use borrow.Author.Needs.{needs}
 use Rattle.load.specs.declared.Row.{Row}
 use Rattle.load.specs.Load.{noRow}
-use Rattle.schedule.proofs.before.steps_of.Statement.{statement}
-use Rattle.schedule.proofs.before.steps_of.Tie as tie
+use Rattle.schedule.proofs.seen.steps_of.Statement.{statement}
+use Rattle.schedule.proofs.seen.steps_of.Tie as tie
 
 past : tie.Need-returns-2
 past c =
