@@ -2,11 +2,11 @@
 use crate::Look;
 use load::Row;
 use load::Window;
+use load::chain_between;
 use load::step_at;
 ghost use mathlib.Core.Path.{_≡_};
 ghost use Prim.Native.Nat.{_≤_};
-ghost use Rattle.load.specs.Load.{stepAt, mostSteps, latestPhase, lastMoment};
-ghost use Rattle.load.specs.View.{chain};
+ghost use Rattle.load.specs.Load.{mostSteps, latestPhase, lastMoment};
 ghost use Rattle.rules.specs.State.{openWindow};
 ghost use Rattle.rules.specs.Ready.{release};
 ghost use Rattle.bench.specs.inner.Alike.{Fitting, viewAlike, stateAlike, lookOf, Modest};
@@ -30,24 +30,6 @@ pub fn open_window(row: Row, finished: u8) -> Window
         last: 0,
         limit: 0,
     }
-}
-
-// Gives the costs, and the waits between them, of the steps from one place on and below another.
-pub fn ticks_left(row: Row, from: u8, last: u8) -> u32
-    ensures { λ r. ⌜ r ≡ chain (λ j. stepAt row j .cost) (λ j. stepAt row j .wait) from last ⌝ }
-    ensures { λ r. ⌜ r ≤ 40000000 ⌝ }
-{
-    if last <= from {
-        return 0;
-    }
-    let mut sum: u32 = 0;
-    let end = last as usize - 1;
-    for j in from as usize..end {
-        let step = step_at(row, j);
-        sum += step.cost as u32 + step.wait as u32;
-    }
-    let step = step_at(row, end);
-    sum + step.cost as u32
 }
 
 // Gives the moment from which a row's next step may start: its phase before the first step, then
@@ -81,11 +63,11 @@ pub fn look_of(row: Row, finished: u8, end: u32, opening: u32) -> Look
         cost: step.cost as u32,
         release: release_of(row, finished, end),
         held: finished < window.last,
-        left: ticks_left(row, finished, window.last),
+        left: chain_between(row, finished, window.last),
         due: opening + window.limit as u32,
         wait: step.wait as u32,
         stays: finished + 1 < later.last,
-        rest: ticks_left(row, finished + 1, later.last),
+        rest: chain_between(row, finished + 1, later.last),
         limit: later.limit as u32,
     }
 }

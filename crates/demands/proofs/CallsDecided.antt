@@ -30,6 +30,8 @@ use Rattle.load.proofs.CallLaws.{
   StepAt-unique,
   WindowAt-unique,
   EmbeddedAt-unique,
+  ChainBetween-unique,
+  StepsIn-unique,
   ZeroRow-unique,
   ZeroLoad-unique,
 }
@@ -93,6 +95,8 @@ sameness =
       step-at = StepAt-unique;
       window-at = WindowAt-unique;
       embedded-at = EmbeddedAt-unique;
+      chain-between = ChainBetween-unique;
+      steps-in = StepsIn-unique;
       zero-row = ZeroRow-unique;
       zero-load = ZeroLoad-unique;
       read-load = ReadLoad-unique;
@@ -173,6 +177,8 @@ every-answer =
       step-at = λ row j. is _;
       window-at = λ row k. is _;
       embedded-at = λ row j. is _;
+      chain-between = λ row from to. is _;
+      steps-in = λ load. is _;
       zero-row = is _;
       zero-load = is _;
       read-load = λ bs. is _;

@@ -26,6 +26,8 @@ use Rattle.load.specs.Calls.{
   StepAt,
   WindowAt,
   EmbeddedAt,
+  ChainBetween,
+  StepsIn,
   ZeroRow,
   ZeroLoad,
 }
@@ -81,6 +83,8 @@ pub record EveryCall {ℓ} (Claim : (A : Type 0) → (A → Type 0) → Type ℓ
   pub step-at : (row : Row) (j : ℕ) → Claim Step (StepAt row j)
   pub window-at : (row : Row) (k : ℕ) → Claim Window (WindowAt row k)
   pub embedded-at : (row : Row) (j : ℕ) → Claim Bool (EmbeddedAt row j)
+  pub chain-between : (row : Row) (from to : ℕ) → Claim ℕ (ChainBetween row from to)
+  pub steps-in : (load : Load) → Claim ℕ (StepsIn load)
   pub zero-row : Claim Row ZeroRow
   pub zero-load : Claim Load ZeroLoad
   -- load_file

@@ -21,6 +21,8 @@ use Rattle.load.specs.Calls.{
   StepAt,
   WindowAt,
   EmbeddedAt,
+  ChainBetween,
+  StepsIn,
   ZeroRow,
   ZeroLoad,
 }
@@ -56,6 +58,13 @@ WindowAt-unique row k r s p q = p ∙ sym q
 
 pub EmbeddedAt-unique : (row : Row) (j : ℕ) (r s : Bool) → EmbeddedAt row j r → EmbeddedAt row j s → r ≡ s
 EmbeddedAt-unique row j r s p q = p ∙ sym q
+
+pub ChainBetween-unique : (row : Row) (from to r s : ℕ) → ChainBetween row from to r → ChainBetween row from to s
+    → r ≡ s
+ChainBetween-unique row from to r s p q = p ∙ sym q
+
+pub StepsIn-unique : (load : Load) (r s : ℕ) → StepsIn load r → StepsIn load s → r ≡ s
+StepsIn-unique load r s p q = p ∙ sym q
 
 pub ZeroRow-unique : (r s : Row) → ZeroRow r → ZeroRow s → r ≡ s
 ZeroRow-unique r s p q = p ∙ sym q

@@ -1,10 +1,10 @@
 -- Laws of a load: its check, what an accepted one has, what its windows give, sameness of results, and worked cases.
-pub mod ChainLaws
 pub mod TakenLaws
 pub mod RangeLaws
 pub mod AcceptableLaws
 pub mod AcceptableGood
 pub mod WindowChain
+pub mod ChainFits
 pub mod WindowLaws
 pub mod WindowLeft
 pub mod CallLaws

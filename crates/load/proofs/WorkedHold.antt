@@ -48,6 +48,7 @@ windows-hold =
       first-window = refl;
       chains = refl;
       chains-in = refl;
+      chains-between = refl;
       steps-embedded = refl;
       steps-free = refl;
       waits-embedded = refl;

@@ -15,7 +15,7 @@ use Rattle.load.specs.declared.Window.{Window}
 use Rattle.load.specs.declared.Row.{Row}
 use Rattle.load.specs.declared.Load.{Load}
 use Rattle.load.specs.Load.{mostRows, rowAt, stepAt, windowAt, zeroRow, zeroLoad}
-use Rattle.load.specs.View.{rowWindows, embeddedAmong}
+use Rattle.load.specs.View.{viewOf, rowWindows, chainBetween, embeddedAmong, stepsInAll}
 use Rattle.load.specs.Check.{checkFields, checkStep, checkWindow, checkLoad}
 
 -- check_load(load): the first of 3 to 7, or Good
@@ -60,6 +60,15 @@ WindowAt row k r = r ≡ windowAt row k
 -- embedded_at(row, j): the step at a place is embedded
 abbrev pub EmbeddedAt : Row → ℕ → Bool → Type 0
 EmbeddedAt row j r = r ≡ embeddedAmong j (rowWindows row)
+
+-- chain_between(row, from, to): costs, and the waits between them, of the steps from one place on
+-- and below another
+abbrev pub ChainBetween : Row → ℕ → ℕ → ℕ → Type 0
+ChainBetween row from to r = r ≡ chainBetween row from to
+
+-- steps_in(load): how many steps it has
+abbrev pub StepsIn : Load → ℕ → Type 0
+StepsIn load r = r ≡ stepsInAll (viewOf load)
 
 -- zero_row(): the row of zeros
 abbrev pub ZeroRow : Row → Type 0

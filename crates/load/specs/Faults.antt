@@ -33,7 +33,7 @@ use Rattle.load.specs.Load.{
   stepAt,
   windowAt,
 }
-use Rattle.load.specs.View.{chain}
+use Rattle.load.specs.View.{chainBetween}
 
 -- a number is outside its range
 abbrev pub outside : ℕ → ℕ → ℕ → Bool
@@ -83,7 +83,7 @@ lastBefore row (suc k) = windowAt row k .last
 
 -- all a window's costs and the waits between them
 abbrev pub chainOf : Row → Window → ℕ
-chainOf row w = chain (λ j. stepAt row j .cost) (λ j. stepAt row j .wait) (w .first - 1) (w .last)
+chainOf row w = chainBetween row (w .first - 1) (w .last)
 
 -- the window at place k
 unfoldable pub windowTests : Row → ℕ → List (Bool × Refusal)

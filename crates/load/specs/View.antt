@@ -49,6 +49,10 @@ viewOf load =
 unfoldable pub chain : (ℕ → ℕ) → (ℕ → ℕ) → ℕ → ℕ → ℕ
 chain cost wait a b = sumFrom cost a b + sumFrom wait a (b - 1)
 
+-- the same of the steps of a row in memory
+abbrev pub chainBetween : Row → ℕ → ℕ → ℕ
+chainBetween row a b = chain (λ j. stepAt row j .cost) (λ j. stepAt row j .wait) a b
+
 -- a step, counted from 1, is in a window
 abbrev pub inWindow : ℕ → Window → Bool
 inWindow step window = leb (window .first) step && leb step (window .last)

@@ -2,7 +2,7 @@
 -- chains. The answers are the document's, taken by hand and from the second program. To be read
 -- after WorkedRanges. Rests on D4.
 use mathlib.Core.Bool.{true, false}
-use mathlib.Core.List.{List, [], _∷_}
+use mathlib.Core.List.{List, [], _∷_, _++_}
 use mathlib.Core.Path.{_≡_}
 use lib.ListN.{replicate}
 use Rattle.counting.specs.Lists.{joinIn, listTo}
@@ -10,9 +10,10 @@ use Rattle.load.specs.declared.Step.{Step}
 use Rattle.load.specs.declared.Window.{Window}
 use Rattle.load.specs.declared.Load.{Load}
 use Rattle.load.specs.View.{viewOf, embedded, isFree, freeWait, embeddedWait, stepsInAll}
+use Rattle.load.specs.View.{chainBetween}
 use Rattle.load.specs.Faults.{chainOf}
 use Rattle.load.specs.Acceptable.{chainIn}
-use Rattle.load.specs.Notation.{_w_, window, row, loadOf}
+use Rattle.load.specs.Notation.{_w_, window, row, loadPlaced}
 use Rattle.load.specs.WorkedRanges.{numbersOf, one, step1}
 
 -- 5 w7 2 w4 2 w9 1
@@ -86,6 +87,11 @@ pub record WorkedWindows : Type 0 where
       (λ t. chainIn (viewOf (one (row 1 waiting []))) 0 t ∷ [])
       (window 2 3 1 ∷ window 1 4 1 ∷ [])
       ≡ 8 ∷ 30 ∷ []
+  -- the same of places: from 1, 2, 3 and 5 on and below 3; from 2 on, as far as there are steps
+  pub chains-between :
+      joinIn (λ a. chainBetween (row 1 waiting []) a 3 ∷ []) (1 ∷ 2 ∷ 3 ∷ 5 ∷ [])
+      ++ chainBetween (row 1 waiting []) 2 9 ∷ []
+      ≡ 8 ∷ 2 ∷ 0 ∷ 0 ∷ 12 ∷ []
   -- six steps with a window from 2 to 4: steps 3 and 4 are embedded
   pub steps-embedded :
       listTo (embedded (viewOf (six (window 2 4 9 ∷ []))) 0) 6
@@ -106,5 +112,9 @@ pub record WorkedWindows : Type 0 where
   pub two-windows :
       listTo (embedded (viewOf (six (window 1 2 9 ∷ window 4 6 9 ∷ []))) 0) 6
       ≡ false ∷ true ∷ false ∷ false ∷ true ∷ true ∷ []
-  -- the steps of two rows, four and one
-  pub steps-in-all : stepsInAll (viewOf (loadOf (row 1 waiting [] ∷ row 2 step1 [] ∷ []))) ≡ 5
+  -- the steps of two rows, four and one, where 0, 1, 2 and 25 rows are counted
+  pub steps-in-all :
+      joinIn
+      (λ n. stepsInAll (viewOf (loadPlaced n (row 1 waiting [] ∷ row 2 step1 [] ∷ []))) ∷ [])
+      (0 ∷ 1 ∷ 2 ∷ 25 ∷ [])
+      ≡ 0 ∷ 4 ∷ 5 ∷ 5 ∷ []

@@ -1,7 +1,7 @@
 // The tests of each part of a load, in the order in which they are asked: a file that is read and a
 // load in memory share them. Each gives the first refusal that is met, or Good.
 use crate::Row;
-use crate::chains::chain_of;
+use crate::chains::chain_between;
 use crate::parts::step_at;
 use crate::parts::window_at;
 use crate::ranges::LARGEST_COST;
@@ -115,7 +115,7 @@ pub fn check_window(row: Row, k: usize) -> Checked
     if window.first <= last_before(row, k) {
         return Checked::Refused(Refusal::WindowSteps);
     }
-    if (window.limit as u32) < chain_of(row, window) {
+    if (window.limit as u32) < chain_between(row, window.first - 1, window.last) {
         return Checked::Refused(Refusal::LimitBelowChain);
     }
     Checked::Good

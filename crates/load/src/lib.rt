@@ -9,12 +9,14 @@ mod taken;
 mod windows;
 mod zeros;
 
+pub use chains::chain_between;
 pub use check::check_load;
 pub use faults::check_fields;
 pub use faults::check_step;
 pub use faults::check_window;
 pub use parts::row_at;
 pub use parts::step_at;
+pub use parts::steps_in;
 pub use parts::window_at;
 pub use parts::zero_load;
 pub use parts::zero_row;

@@ -1,5 +1,5 @@
-// The parts of a load that stand at a place, and the parts that are all zero. Every call is total:
-// past the last place it gives a part of zeros.
+// The parts of a load that stand at a place, how many steps there are, and the parts that are all
+// zero. Every call is total: past the last place it meets a part of zeros.
 use crate::BoxNumber;
 use crate::Identifier;
 use crate::Load;
@@ -9,7 +9,7 @@ use crate::Window;
 use crate::ranges::MOST_ROWS;
 use crate::ranges::MOST_STEPS;
 use crate::ranges::MOST_WINDOWS;
-ghost use Rattle.load.specs.Calls.{StepAt, WindowAt, RowAt, ZeroRow, ZeroLoad};
+ghost use Rattle.load.specs.Calls.{StepAt, WindowAt, RowAt, StepsIn, ZeroRow, ZeroLoad};
 
 // Gives the step at a place of a row, and past the last place a step of zeros.
 pub fn step_at(row: Row, j: usize) -> Step
@@ -66,6 +66,18 @@ pub fn row_at(load: Load, i: usize) -> Row
     } else {
         zero_row()
     }
+}
+
+// Gives how many steps a load has.
+pub fn steps_in(load: Load) -> u16
+    ensures { λ r. ⌜ StepsIn load r ⌝ }
+{
+    let mut steps: u16 = 0;
+    for i in 0..load.rows as usize {
+        let row = row_at(load, i);
+        steps += row.steps as u16;
+    }
+    steps
 }
 
 // Gives the load of zeros: no row, and every place unused.

@@ -20,7 +20,6 @@ ghost use lib.ListN.{length};
 ghost use lib.Seq.{sets};
 ghost use Rattle.counting.specs.Lists.{joinTo};
 ghost use Rattle.load.specs.Load.{mostSteps, mostWindows, rowAt, stepAt, windowAt};
-ghost use Rattle.load.specs.View.{viewOf, stepsInAll};
 ghost use Rattle.load.specs.Check.{checkLoad};
 ghost use Rattle.load_file.specs.Records.{headerKind, stepRecord, windowRecord};
 ghost use Rattle.load_file.specs.Writing.{rowBytes, loadBytes};
@@ -83,19 +82,6 @@ fn file_size(load: Load) -> usize
     size
 }
 
-// Gives how many steps a load has.
-fn steps_in(load: Load) -> u16
-    requires { ⌜ checkLoad load ≡ Checked.Good ⌝ }
-    ensures { λ r. ⌜ r ≡ stepsInAll (viewOf load) ⌝ }
-{
-    let mut steps: u16 = 0;
-    for i in 0..load.rows as usize {
-        let row = load.row[i];
-        steps += row.steps as u16;
-    }
-    steps
-}
-
 // Writes the rows of a load behind the header, and gives the place behind them.
 fn write_rows(out: &mut [u8], load: Load) -> usize
     requires { ⌜ checkLoad load ≡ Checked.Good ⌝ }
@@ -122,7 +108,7 @@ fn write_file(out: &mut [u8], load: Load)
     let header = header_record(load.rows);
     words::overwrite(out, 0, &header);
     let at = write_rows(out, load);
-    let end = end_record(steps_in(load));
+    let end = end_record(load::steps_in(load));
     words::overwrite(out, at, &end);
 }
 

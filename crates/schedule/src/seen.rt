@@ -1,14 +1,12 @@
 // What the check keeps from one slot to the next.
 use crate::SLOT_PLACES;
 use load::Load;
-use load::MOST_ROWS;
 use load::check_load;
+use load::steps_in;
 use refusals::Checked;
 use refusals::Refusal;
 ghost use mathlib.Core.Path.{_≡_};
 ghost use Prim.Native.Nat.{_-_, _≤_, min};
-ghost use Rattle.load.specs.Load.{rowAt};
-ghost use Rattle.load.specs.View.{viewOf, stepsInAll};
 ghost use Rattle.schedule.specs.inner.Seen.{begun, counted};
 ghost use Rattle.schedule.specs.inner.SeenFold.{withFound};
 ghost use Rattle.rules.specs.Slots.{slotPlaces};
@@ -22,37 +20,11 @@ pub struct Seen {
     pub starts: [u32; 192],
 }
 
-// Gives the number of steps of the row at a place, and past the last place 0.
-fn steps_of(load: Load, i: usize) -> usize
-    ensures { λ r. ⌜ r ≡ rowAt load i .steps ⌝ }
-    ensures { λ r. ⌜ r ≤ 255 ⌝ }
-{
-    if i < MOST_ROWS {
-        let row = load.row[i];
-        row.steps as usize
-    } else {
-        0
-    }
-}
-
-// Gives the number of steps in the whole load.
-fn steps_in_all(load: Load) -> usize
-    ensures { λ r. ⌜ r ≡ stepsInAll (viewOf load) ⌝ }
-{
-    let rows = load.rows as usize;
-    let mut sum: usize = 0;
-    for i in 0..rows {
-        sum += steps_of(load, i);
-    }
-    sum
-}
-
 // Compares the number of slots with the load's number of steps.
 fn count_found(load: Load, n: usize) -> Checked
     ensures { λ r. ⌜ r ≡ counted load n ⌝ }
 {
-    let steps = steps_in_all(load);
-    if n != steps {
+    if n != steps_in(load) as usize {
         return Checked::Refused(Refusal::SlotCount);
     }
     Checked::Good

@@ -103,18 +103,18 @@ shared c =
 chain : tie.Need-returns-7
 unfolding windowTests
 chain c =
-    let at6 = c .before .before .before in
+    let at6 = c .before .before .before .before in
     sym
     (passed6 at6
-    ∙ simp (← read6 at6 .window-at .ensures, ← c .before .chain-of .ensures, lt-ltb _ _ (c .if7 .taken)))
+    ∙ simp (← read6 at6 .window-at .ensures, ← c .before .chain-between .ensures, lt-ltb _ _ (c .if7 .taken)))
 
 good : tie.Need-returns-8
 unfolding windowTests
 good c =
-    let at6 = c .before .before .before in
+    let at6 = c .before .before .before .before in
     sym
     (passed6 at6
-    ∙ simp (← read6 at6 .window-at .ensures, ← c .before .chain-of .ensures, le-ltb _ _ (c .if7 .left)))
+    ∙ simp (← read6 at6 .window-at .ensures, ← c .before .chain-between .ensures, le-ltb _ _ (c .if7 .left)))
 
 pub check-window-spec : {M : Type 1} → statement M
 check-window-spec =
@@ -130,6 +130,7 @@ check-window-spec =
     steps
     (λ c κs. search needs)
     shared
+    (λ c. search needs)
     (λ c. search needs)
     (λ c κs. search needs)
     chain
