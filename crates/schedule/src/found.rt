@@ -1,10 +1,12 @@
 // The tests 13 to 17 of one slot, on plain numbers.
+use crate::MOST_SLOTS;
 use crate::seen::Seen;
 use crate::seen::place_of;
 use crate::seen::with_found;
 use load::LAST_MOMENT;
 use load::Load;
 use load::MOST_ROWS;
+use load::MOST_STEPS;
 use load::Row;
 use load::row_at;
 use load::step_at;
@@ -17,21 +19,26 @@ ghost use lib.Dec.{eqb, ltb};
 ghost use Prim.Native.Nat.{_≤_, _<_};
 ghost use Rattle.counting.specs.Sums.{anyTo};
 ghost use Rattle.refusals.specs.FirstMet.{firstMet};
+ghost use Rattle.load.specs.Load.{mostRows};
 ghost use Rattle.schedule.specs.inner.Seen.{startAt, releasedAt, endAt, lateWindow};
 ghost use Rattle.schedule.specs.inner.Seen.{stepTests, foundAt};
 ghost use Rattle.schedule.specs.inner.SeenFold.{advanced, nextSlot, stepSlot};
 
 // Gives the start at a place of the table, and past the last place 0.
-fn start_of(starts: [u32; 192], place: usize) -> u64
+fn start_of(starts: [u32; MOST_SLOTS], place: usize) -> u64
     ensures { λ r. ⌜ r ≡ startAt starts place ⌝ }
     ensures { λ r. ⌜ r ≤ 4294967295 ⌝ }
 {
-    if place < 192 { starts[place] as u64 } else { 0 }
+    if place < MOST_SLOTS {
+        starts[place] as u64
+    } else {
+        0
+    }
 }
 
 // Gives the moment from which a step, counted from 1, of the row at place i may start.
 fn release_of(row: Row, seen: Seen, i: usize, step: u8) -> u64
-    requires { ⌜ i < 24 ⌝ }
+    requires { ⌜ i < mostRows ⌝ }
     ensures { λ r. ⌜ r ≡ releasedAt row seen i step ⌝ }
 {
     if step <= 1 {
@@ -40,7 +47,7 @@ fn release_of(row: Row, seen: Seen, i: usize, step: u8) -> u64
     let j = step as usize - 2;
     let before = step_at(row, j);
     let starts = seen.starts;
-    start_of(starts, i * 8 + j) + before.cost as u64 + before.wait as u64
+    start_of(starts, i * MOST_STEPS + j) + before.cost as u64 + before.wait as u64
 }
 
 // Gives the moment at which a step, counted from 1, ends.
@@ -53,7 +60,7 @@ fn end_of(row: Row, step: u8, start: u32) -> u64
 
 // Says whether a step that ends then ends the window at place k late.
 fn late_window(row: Row, seen: Seen, i: usize, step: u8, end: u64, k: usize) -> bool
-    requires { ⌜ i < 24 ⌝ }
+    requires { ⌜ i < mostRows ⌝ }
     ensures { λ r. ⌜ r ≡ lateWindow row seen i step end k ⌝ }
 {
     let window = window_at(row, k);
@@ -61,12 +68,12 @@ fn late_window(row: Row, seen: Seen, i: usize, step: u8, end: u64, k: usize) -> 
         return false;
     }
     let starts = seen.starts;
-    start_of(starts, i * 8 + place_of(window.first)) + (window.limit as u64) < end
+    start_of(starts, i * MOST_STEPS + place_of(window.first)) + (window.limit as u64) < end
 }
 
 // Says whether a step that ends then ends a window late.
 fn window_late(row: Row, seen: Seen, i: usize, step: u8, end: u64) -> bool
-    requires { ⌜ i < 24 ⌝ }
+    requires { ⌜ i < mostRows ⌝ }
     ensures { λ r. ⌜ r ≡ anyTo (lateWindow row seen i step end) (row .windows) ⌝ }
 {
     let windows = row.windows as usize;
@@ -90,7 +97,7 @@ fn row_late(row: Row, step: u8, end: u64) -> bool
 
 // Finds 13 to 17 of a step, counted from 1, of the row at place i.
 fn step_found(row: Row, seen: Seen, i: usize, step: u8, start: u32) -> Checked
-    requires { ⌜ i < 24 ⌝ }
+    requires { ⌜ i < mostRows ⌝ }
     ensures { λ r. ⌜ r ≡ firstMet (stepTests row seen i step start) ⌝ }
 {
     if step < 1 {
@@ -143,7 +150,7 @@ fn found_at(load: Load, seen: Seen, row: u8, step: u8, start: u32) -> Checked
 
 // Keeps a slot that is right.
 fn keep_slot(load: Load, seen: Seen, row: u8, step: u8, start: u32) -> Seen
-    requires { ⌜ (1 ≤ row) × (row ≤ 24) ⌝ }
+    requires { ⌜ (1 ≤ row) × (row ≤ mostRows) ⌝ }
     ensures { λ r. ⌜ r ≡ advanced load seen row step start ⌝ }
 {
     let i = row as usize - 1;
@@ -152,15 +159,15 @@ fn keep_slot(load: Load, seen: Seen, row: u8, step: u8, start: u32) -> Seen
     let mut next = seen.next;
     let mut starts = seen.starts;
     next[i] = step;
-    let place = i * 8 + place_of(step);
-    if place < 192 {
+    let place = i * MOST_STEPS + place_of(step);
+    if place < MOST_SLOTS {
         starts[place] = start;
     }
     Seen {
         found: Checked::Good,
-        end: end,
-        next: next,
-        starts: starts,
+        end,
+        next,
+        starts,
     }
 }
 

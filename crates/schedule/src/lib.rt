@@ -7,6 +7,11 @@ mod write;
 
 pub use check::check_array;
 pub use check::check_schedule;
+use load::MOST_ROWS;
+use load::MOST_STEPS;
 pub use rules::SLOT_PLACES;
 pub use write::write_array;
 pub use write::write_schedule;
+
+// A schedule has at most 192 slots: 24 rows of 8 steps.
+pub(crate) const MOST_SLOTS: usize = MOST_ROWS * MOST_STEPS;

@@ -1,6 +1,8 @@
 // What the check keeps from one slot to the next.
+use crate::MOST_SLOTS;
 use crate::SLOT_PLACES;
 use load::Load;
+use load::MOST_ROWS;
 use load::check_load;
 use load::steps_in;
 use refusals::Checked;
@@ -16,8 +18,8 @@ ghost use Rattle.rules.specs.Slots.{slotPlaces};
 pub struct Seen {
     pub found: Checked,
     pub end: u64,
-    pub next: [u8; 24],
-    pub starts: [u32; 192],
+    pub next: [u8; MOST_ROWS],
+    pub starts: [u32; MOST_SLOTS],
 }
 
 // Compares the number of slots with the load's number of steps.
@@ -47,10 +49,10 @@ pub fn begin(load: Load, n: usize) -> Seen
 {
     let found = found_first(load, n);
     Seen {
-        found: found,
+        found,
         end: 0,
-        next: [0; 24],
-        starts: [0; 192],
+        next: [0; MOST_ROWS],
+        starts: [0; MOST_SLOTS],
     }
 }
 
@@ -83,9 +85,9 @@ pub fn with_found(seen: Seen, found: Checked) -> Seen
     let next = seen.next;
     let starts = seen.starts;
     Seen {
-        found: found,
+        found,
         end: seen.end,
-        next: next,
-        starts: starts,
+        next,
+        starts,
     }
 }

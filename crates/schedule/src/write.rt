@@ -2,6 +2,7 @@
 // unchecked; a function over it is proved by a walk by hand, so each of the three does little: one
 // takes a slot apart, one is the loop, and one lends the front of an array. The file is gathered by
 // value, and written where it fits.
+use crate::MOST_SLOTS;
 use crate::SLOT_PLACES;
 use crate::seen::at_most_places;
 use refusals::Checked;
@@ -23,28 +24,44 @@ ghost use Rattle.schedule.specs.ScheduleFile.{mostSlots};
 ghost use Rattle.schedule.specs.inner.Gathered.{headed, withSlot, gatheredOf};
 ghost use Rattle.schedule.specs.Calls.{WriteSchedule, WriteArray};
 
-// A schedule has at most 192 slots.
-pub const MOST_SLOTS: usize = 192;
+// The marks.
+const HEADER_MARK: [u8; 2] = [0x53, 0x43];
+
+const SLOT_MARK: [u8; 2] = [0x53, 0x4C];
+
+// How many bytes a record has, its mark counted.
+const HEADER_SIZE: usize = 4;
+
+const SLOT_SIZE: usize = 8;
+
+// How many numbers the header's count has room for.
+const COUNTS: usize = 65536;
+
+// How many bytes the longest file has.
+const MOST_BYTES: usize = HEADER_SIZE + SLOT_SIZE * MOST_SLOTS;
+
+// The last place at which a slot's record fits.
+const LAST_PLACE: usize = MOST_BYTES - SLOT_SIZE;
 
 // The bytes of a file that is gathered, and how many of them there are.
 pub struct Gathered {
     pub at: usize,
-    pub bytes: [u8; 1540],
+    pub bytes: [u8; MOST_BYTES],
 }
 
 // Begins a file of n slots with its head.
 pub fn head(n: usize) -> Gathered
     ensures { λ r. ⌜ r ≡ headed n ⌝ }
 {
-    let count = bytes16((n % 65536) as u16);
-    let mut bytes = [0u8; 1540];
-    bytes[0] = 0x53;
-    bytes[1] = 0x43;
+    let count = bytes16((n % COUNTS) as u16);
+    let mut bytes = [0u8; MOST_BYTES];
+    bytes[0] = HEADER_MARK[0];
+    bytes[1] = HEADER_MARK[1];
     bytes[2] = count[0];
     bytes[3] = count[1];
     Gathered {
-        at: 4,
-        bytes: bytes,
+        at: HEADER_SIZE,
+        bytes,
     }
 }
 
@@ -55,8 +72,8 @@ fn with_slot(file: Gathered, row: u8, step: u8, start: u32) -> Gathered
 {
     let number = bytes32(start);
     let record = [
-        0x53,
-        0x4C,
+        SLOT_MARK[0],
+        SLOT_MARK[1],
         row,
         step,
         number[0],
@@ -66,14 +83,11 @@ fn with_slot(file: Gathered, row: u8, step: u8, start: u32) -> Gathered
     ];
     let mut at = file.at;
     let mut bytes = file.bytes;
-    if at <= 1532 {
+    if at <= LAST_PLACE {
         overwrite(&mut bytes, at, &record);
-        at += 8;
+        at += SLOT_SIZE;
     }
-    Gathered {
-        at: at,
-        bytes: bytes,
-    }
+    Gathered { at, bytes }
 }
 
 // Writes the file of n slots; refuses with 3 for more than 192, then 9. A refusal alters no byte,
@@ -85,7 +99,7 @@ pub fn flush(n: usize, file: Gathered, out: &mut [u8]) -> Checked
     if MOST_SLOTS < n {
         return Checked::Refused(Refusal::OutOfRange);
     }
-    let size = 4 + 8 * n;
+    let size = HEADER_SIZE + SLOT_SIZE * n;
     if out.len() < size {
         return Checked::Refused(Refusal::OutputShort);
     }
