@@ -58,7 +58,8 @@ use Rattle.rules.specs.Check.{checkSchedule}
 use Rattle.rules.proofs.Slot as T
 use Rattle.rules.proofs.Slot.Laws as T′
 use Rattle.schedule.proofs.walks.SlotCalls.{word}
-use Rattle.schedule.proofs.walks.LentFront.{Slots, slotVals, listVals, only, sized, room, row, others, front-out}
+use Rattle.schedule.proofs.walks.SlotFields.{slotVals}
+use Rattle.schedule.proofs.walks.LentFront.{Slots, listVals, only, front-length, room, row, others, front-out}
 use Rattle.schedule.proofs.walks.LentFront.{
   front-in,
   cell-out,
@@ -217,7 +218,7 @@ module _ {M : Type 1} (𝓤 : URA M) (H : Heap 𝓤) (A : Atoms 𝓤) (W : Given
         all = isA .1 .0 .1
 
         long : length ys ≡ count
-        long = sized xs n all
+        long = front-length xs n all
 
         wt : Holds (hasTy (tyArray T′.mir 256) (only (listVals xs))) × WT (only (listVals xs))
         wt = array-lawful 𝓤 H A W T.the-row (LL.lawful T.the-type T′.the-laws 𝓤 H A W) 256 .typed xs (listVals xs)

@@ -2,7 +2,7 @@
 -- The slice is looked into for slot i, which is copied into a local; its fields go to the covered check. All but the
 -- slice is plain: what it owns is let go at the entry, and made anew for the call and for the exit.
 use mathlib.Core.Path.{_≡_, refl, sym}
-use Prim.Native.Nat.{ℕ, _<_, _*_, _^_}
+use Prim.Native.Nat.{ℕ, _<_, _^_}
 use native.Mathlib.Omega.{arith}
 use mathlib.Core.List.{List, [], _∷_}
 use lib.ListN.{length, getD}
@@ -44,7 +44,7 @@ use denote.Triple.Walked.{ends-at, walked, walk-meets}
 use denote.Triple.Clauses.{ensured, lasts}
 use denote.Exit.{yes}
 use Rattle.rules.specs.Slots.{noSlot}
-use Rattle.schedule.proofs.walks.SlotFields.{field-of}
+use Rattle.schedule.proofs.walks.SlotFields.{place-fits, slotVals, field-of}
 use Rattle.schedule.specs.inner.SeenFold.{seenOf}
 use Rattle.rules.specs.declared.Slot.{Slot}
 use Rattle.load.specs.declared.Load.{Load}
@@ -73,10 +73,7 @@ stayed = (
   ),
 )
 
--- the machine values of a slot, a load and a state
-abbrev slotVals : Slot → List Val
-slotVals = LL.vals T.the-type T′.the-laws
-
+-- the machine values of a load and a state
 abbrev loadVals : Load → List Val
 loadVals = LL.vals D.the-type D′.the-laws
 
@@ -87,10 +84,6 @@ module _ {M : Type 1} (𝓤 : URA M) (H : Heap 𝓤) (A : Atoms 𝓤) (mem : Mem
   -- the contract that the proof cites
   abbrev Callee : Contract 𝓤
   Callee = tripleOf 𝓤 H A callee.signature (callee.spec 𝓤 H A mem run)
-
--- the place of slot i fits
-place-fits : (i n : ℕ) → i < n → n * 8 < 2 ^ 63 → i * 8 < 2 ^ 64
-place-fits i n l g = omega (arith, l, g)
 
 module _ {M : Type 1} (𝓤 : URA M) (H : Heap 𝓤) (A : Atoms 𝓤) (W : Given 𝓤 H A) (mem : Memory → SProp 𝓤) (run : Routine →
     Fun 𝓤) (κ : Lft) (q : Share) (ld : Load) (x : RefT (List Slot)) (i : ℕ) (st : Seen) (isD : Is D.the-row ld (loadVals

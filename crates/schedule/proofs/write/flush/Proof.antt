@@ -17,14 +17,14 @@ many c = record { finding-is = rw (lt-ltb _ _ (c .if1 .taken)); output-is = refl
 room : (c : tie.Start) → length (c .args .file .bytes) ≡ 1540
 room c = simp length-map at (c .good .1 .0 .1 .1 .1 .0 .1 .0 .1)
 
-sized : (c : tie.Else1)
+file-length : (c : tie.Else1)
     → let args = c .before .before .args in length (take (4 + 8 * args .n) (args .file .bytes)) ≡ 4 + 8 * args .n
-sized c = length-take-le _ _ (omega (arith, room (c .before .before)))
+file-length c = length-take-le _ _ (omega (arith, room (c .before .before)))
 
 short : tie.Need-returns-2
 short c =
     record {
-      finding-is = rw (le-ltb _ _ (c .before .if1 .left), sized (c .before), lt-ltb _ _ (c .if2 .taken));
+      finding-is = rw (le-ltb _ _ (c .before .if1 .left), file-length (c .before), lt-ltb _ _ (c .if2 .taken));
       output-is = refl;
     }
 
@@ -34,12 +34,12 @@ prefix c =
     omega (arith, room start)
 
 lent : tie.Need-slice-aggregate-overwrite
-lent c = sym (sized (c .before .before .before .before))
+lent c = sym (file-length (c .before .before .before .before))
 
 written : tie.Need-returns-3
 written c =
     let asked = c .before .before .before .before .before .before in
-    let e = sized (asked .before) in
+    let e = file-length (asked .before) in
     let args = asked .before .before .before .args in
     record {
       finding-is = rw (le-ltb _ _ (asked .before .if1 .left), e, le-ltb _ _ (asked .if2 .left));

@@ -1,7 +1,7 @@
 -- `write_at` takes slot i apart: a walk of its MIR by hand, for the lent slice of slot records. The slice is looked
 -- into for slot i, which is copied into a local; its fields go to the covered `with_slot`.
 use mathlib.Core.Path.{_≡_, refl, sym}
-use Prim.Native.Nat.{ℕ, _<_, _*_, _^_}
+use Prim.Native.Nat.{ℕ, _<_, _^_}
 use native.Mathlib.Omega.{arith}
 use mathlib.Core.List.{List, [], _∷_}
 use lib.ListN.{length, getD}
@@ -43,7 +43,7 @@ use denote.Triple.Walked.{ends-at, walked, walk-meets}
 use denote.Triple.Clauses.{ensured, lasts}
 use denote.Exit.{yes}
 use Rattle.rules.specs.Slots.{noSlot}
-use Rattle.schedule.proofs.walks.SlotFields.{field-of}
+use Rattle.schedule.proofs.walks.SlotFields.{place-fits, slotVals, field-of}
 use Rattle.schedule.specs.inner.Gathered.{gatheredOf}
 use Rattle.rules.specs.declared.Slot.{Slot}
 use Rattle.schedule.specs.declared.write.Gathered.{Gathered}
@@ -66,10 +66,7 @@ stayed = (
   (stay-none (λ _. usize) yes, (stay-none (λ _. S.the-row) yes, tt)),
 )
 
--- the machine values of a slot, a load and a state
-abbrev slotVals : Slot → List Val
-slotVals = LL.vals T.the-type T′.the-laws
-
+-- the machine values of a file
 abbrev fileVals : Gathered → List Val
 fileVals = LL.vals S.the-type S′.the-laws
 
@@ -77,10 +74,6 @@ module _ {M : Type 1} (𝓤 : URA M) (H : Heap 𝓤) (A : Atoms 𝓤) (mem : Mem
   -- the contract that the proof cites
   abbrev Callee : Contract 𝓤
   Callee = tripleOf 𝓤 H A callee.signature (callee.spec 𝓤 H A mem run)
-
--- the place of slot i fits
-place-fits : (i n : ℕ) → i < n → n * 8 < 2 ^ 63 → i * 8 < 2 ^ 64
-place-fits i n l g = omega (arith, l, g)
 
 module _ {M : Type 1} (𝓤 : URA M) (H : Heap 𝓤) (A : Atoms 𝓤) (W : Given 𝓤 H A) (mem : Memory → SProp 𝓤) (run : Routine →
     Fun 𝓤) (κ : Lft) (q : Share) (x : RefT (List Slot)) (i : ℕ) (st : Gathered) (isX : Is (ShrSlice (named 0) κ
