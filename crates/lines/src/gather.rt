@@ -24,7 +24,7 @@ ghost use Rattle.load.specs.View.{viewOf};
 ghost use Rattle.load.specs.Check.{checkLoad};
 ghost use Rattle.rules.specs.Margins.{marginIn};
 ghost use Rattle.rules.specs.Run.{schedule};
-ghost use Rattle.rules.specs.Slots.{slotAt, slotEnd, lastEnd};
+ghost use Rattle.rules.specs.Slots.{mostSlots, slotAt, slotEnd, lastEnd};
 ghost use Rattle.rules.specs.ScheduleRules.{NamesStep};
 ghost use Rattle.lines.specs.Lines.{
   rowLine,
@@ -35,7 +35,7 @@ ghost use Rattle.lines.specs.Lines.{
   rowLineOf,
 };
 ghost use Rattle.lines.specs.Calls.{firstMost};
-ghost use Rattle.lines.specs.inner.Parts.{Put, Scheduled, mostSlots, rowsEnd};
+ghost use Rattle.lines.specs.inner.Parts.{Put, Scheduled, rowsEnd};
 
 // Gives when a slot ends that names a step of the load.
 fn end_of(load: Load, slot: Slot) -> u32

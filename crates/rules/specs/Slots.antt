@@ -1,17 +1,22 @@
 -- "The slots are lent to the check as a list of slot records": where a slot's row and step stand,
 -- when it ends, and what the slots of a list are for. A slot's numbers count from 1.
-use Prim.Native.Nat.{ℕ, _+_, _-_}
+use Prim.Native.Nat.{ℕ, _+_, _-_, _*_}
 use mathlib.Core.Bool.{Bool, _&&_}
 use mathlib.Core.List.{List, [], _∷_}
 use lib.Dec.{eqb}
 use lib.ListN.{getD}
 use Rattle.counting.specs.Lists.{firstIn}
+use Rattle.load.specs.Load.{mostRows, mostSteps}
 use Rattle.load.specs.View.{View}
 use Rattle.rules.specs.declared.Slot.{Slot}
 
 -- what is read where there is no slot
 abbrev pub noSlot : Slot
 noSlot = record { row = 0; step = 0; start = 0 }
+
+-- a schedule has at most 192 slots: 24 rows of 8 steps
+abbrev pub mostSlots : ℕ
+mostSlots = mostRows * mostSteps
 
 -- an array of slots has 256 places
 abbrev pub slotPlaces : ℕ

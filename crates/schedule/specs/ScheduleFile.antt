@@ -11,10 +11,7 @@ use Rattle.refusals.specs.declared.Refusal.the-variants.{OutOfRange}
 use Rattle.refusals.specs.declared.Checked.{Checked}
 use Rattle.refusals.specs.FirstMet.{firstMet}
 use Rattle.rules.specs.declared.Slot.{Slot}
-
--- a schedule has at most 192 slots: 24 rows of 8 steps
-abbrev pub mostSlots : ℕ
-mostSlots = 192
+use Rattle.rules.specs.Slots.{mostSlots}
 
 -- the record of a slot
 abbrev pub slotRecord : Slot → List ℕ

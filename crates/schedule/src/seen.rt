@@ -1,4 +1,5 @@
-// What the check keeps from one slot to the next.
+// What the check keeps from one slot to the next, how it begins and what it finds in the end; and
+// how counts become places.
 use crate::MOST_SLOTS;
 use crate::SLOT_PLACES;
 use load::Load;

@@ -19,8 +19,7 @@ ghost use lib.ListN.{length, getD, take};
 ghost use Rattle.refusals.specs.declared.Refusal.the-variants.{OutOfRange};
 ghost use Rattle.refusals.specs.FirstMet.{firstMet};
 ghost use Rattle.refusals.specs.Given.{Given};
-ghost use Rattle.rules.specs.Slots.{noSlot};
-ghost use Rattle.schedule.specs.ScheduleFile.{mostSlots};
+ghost use Rattle.rules.specs.Slots.{noSlot, mostSlots};
 ghost use Rattle.schedule.specs.inner.Gathered.{headed, withSlot, gatheredOf};
 ghost use Rattle.schedule.specs.Calls.{WriteSchedule, WriteArray};
 

@@ -21,7 +21,8 @@ use Rattle.load_file.specs.Places.{loadIn}
 use Rattle.load_file.specs.Reading.{fileFault, readLoad}
 use Rattle.load_file.specs.Calls.{WriteLoad}
 use Rattle.rules.specs.declared.Slot.{Slot}
-use Rattle.schedule.specs.ScheduleFile.{mostSlots, slotsFault, scheduleBytes}
+use Rattle.rules.specs.Slots.{mostSlots}
+use Rattle.schedule.specs.ScheduleFile.{slotsFault, scheduleBytes}
 use Rattle.schedule.specs.Calls.{WriteSchedule}
 use Rattle.reading_bench.specs.Calls.{ForC}
 use Rattle.lines.specs.declared.Printed.{Printed}

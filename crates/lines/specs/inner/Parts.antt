@@ -7,16 +7,13 @@ use lib.ListN.{length, take}
 use lib.Seq.{sets}
 use Rattle.refusals.specs.declared.Checked.the-variants.{Good}
 use Rattle.load.specs.declared.Load.{Load}
-use Rattle.load.specs.Load.{mostRows, mostSteps}
+use Rattle.load.specs.Load.{mostRows}
 use Rattle.load.specs.View.{viewOf, stepsInAll}
 use Rattle.load.specs.Check.{checkLoad}
 use Rattle.rules.specs.declared.Slot.{Slot}
+use Rattle.rules.specs.Slots.{mostSlots}
 use Rattle.rules.specs.Run.{schedule}
 use Rattle.lines.specs.Calls.{firstMost, rowMost}
-
--- 24 rows of 8 steps have at most 192 slots
-abbrev pub mostSlots : ℕ
-mostSlots = mostRows * mostSteps
 
 -- the place behind the row lines is no further
 abbrev pub rowsEnd : ℕ

@@ -14,13 +14,13 @@ use Rattle.refusals.specs.declared.Checked.the-variants.{Good, Refused}
 use Rattle.refusals.specs.FirstMet.{andThen, firstFaultTo}
 use Rattle.refusals.proofs.FirstMetLaws.{good-refused, firstFaultTo-zero}
 use Rattle.load.specs.declared.Load.{Load}
-use Rattle.load.specs.Load.{shown}
+use Rattle.load.specs.Load.{mostRows, shown}
 use Rattle.load.specs.View.{View, viewOf}
 use Rattle.load.specs.Acceptable.{Acceptable, Placed}
 use Rattle.load.specs.Check.{checkLoad}
 use Rattle.load.proofs.AcceptableLaws.{check-acceptable, check-placed}
 use Rattle.rules.specs.declared.Slot.{Slot}
-use Rattle.rules.specs.Slots.{slotAt}
+use Rattle.rules.specs.Slots.{mostSlots, slotAt}
 use Rattle.rules.specs.Check.{checkSlots, checkSchedule}
 use Rattle.schedule.specs.declared.seen.Seen.{Seen}
 use Rattle.schedule.specs.inner.Seen.{counted, begun, foundAt}
@@ -87,11 +87,12 @@ module _ (load : Load) (ok : Acceptable (viewOf load)) (placed : Placed load) (s
       record {
         found-is = e ∙ sym (firstFaultTo-zero (testsAt L slots));
         kept = λ _. record {
-          counts = λ i l. getD-replicate 24 i 0 0 l ∙ sym (sumTo-zero (λ h. bit (eqb (slotAt slots h .row) (shown i))));
+          counts = λ i l.
+              getD-replicate mostRows i 0 0 l ∙ sym (sumTo-zero (λ h. bit (eqb (slotAt slots h .row) (shown i))));
           starts = λ h l. absurd (omega arith);
           end = refl;
-          rows-there = length-replicate {A = ℕ} 24 0;
-          starts-there = length-replicate {A = ℕ} 192 0;
+          rows-there = length-replicate {A = ℕ} mostRows 0;
+          starts-there = length-replicate {A = ℕ} mostSlots 0;
         };
       }
 

@@ -19,8 +19,9 @@ use Rattle.refusals.specs.declared.Checked.the-variants.{Refused}
 use Rattle.refusals.specs.FirstMet.{firstMet}
 use Rattle.refusals.specs.Given.{Given, outputAfter}
 use Rattle.rules.specs.declared.Slot.{Slot}
+use Rattle.rules.specs.Slots.{mostSlots}
 use Rattle.schedule.specs.declared.write.Gathered.{Gathered}
-use Rattle.schedule.specs.ScheduleFile.{mostSlots, slotRecord, scheduleBytes}
+use Rattle.schedule.specs.ScheduleFile.{slotRecord, scheduleBytes}
 use Rattle.schedule.specs.inner.Gathered.{headBytes, headed, withSlot, gatheredOf, gathered}
 use Rattle.schedule.specs.Calls.{WriteSchedule}
 
@@ -69,7 +70,7 @@ front-all (slot ∷ rest) bytes l =
 head-length : (n : ℕ) → length (headBytes n) ≡ 4
 head-length n = omega (arith, littleEndian-length 2 (n % 65536))
 
-gathered-bytes : (slots : List Slot) → length slots ≤ 192
+gathered-bytes : (slots : List Slot) → length slots ≤ mostSlots
     → take (4 + 8 * length slots) (gathered slots (headed (length slots)) .bytes) ≡ scheduleBytes slots
 unfolding headed scheduleBytes
 gathered-bytes slots l =

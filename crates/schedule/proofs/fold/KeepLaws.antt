@@ -1,5 +1,5 @@
 -- A slot that is right is kept: the counts, the table of starts and the last end are right again behind it.
-use Prim.Native.Nat.{ℕ, suc, _+_, _*_, _≤_, _<_}
+use Prim.Native.Nat.{ℕ, suc, _≤_, _<_}
 use mathlib.Core.Bool.{cond}
 use mathlib.Core.List.{List}
 use mathlib.Core.Path.{_≡_, refl, ap, _∙_}
@@ -14,17 +14,17 @@ use Rattle.counting.proofs.sums.ChangeLaws.{sumTo-suc}
 use Rattle.refusals.specs.declared.Checked.the-variants.{Good}
 use Rattle.refusals.specs.FirstMet.{firstFaultTo}
 use Rattle.load.specs.declared.Load.{Load}
-use Rattle.load.specs.Load.{shown}
+use Rattle.load.specs.Load.{mostRows, mostSteps, shown}
 use Rattle.load.specs.View.{viewOf}
 use Rattle.load.specs.Acceptable.{Acceptable, Placed}
 use Rattle.rules.specs.declared.Slot.{Slot}
-use Rattle.rules.specs.Slots.{slotAt, rowOf, stepOf}
+use Rattle.rules.specs.Slots.{mostSlots, slotAt, rowOf}
 use Rattle.rules.proofs.slots.SlotLaws.{ofRow}
 use Rattle.rules.proofs.slots.NextLaws.{ofRow-lt}
 use Rattle.schedule.specs.declared.seen.Seen.{Seen}
 use Rattle.schedule.specs.inner.Seen.{startAt, withStart}
 use Rattle.schedule.specs.inner.SeenFold.{advanced}
-use Rattle.schedule.proofs.fold.SeenLaws.{testsAt, SeenTo}
+use Rattle.schedule.proofs.fold.SeenLaws.{testsAt, placeOf, SeenTo}
 use Rattle.schedule.proofs.fold.RightLaws.{Right}
 use Rattle.schedule.proofs.fold.StepLaws.{right}
 
@@ -39,21 +39,21 @@ module _ (load : Load) (ok : Acceptable (viewOf load)) (placed : Placed load) (s
   i = rowOf x
 
   abbrev place : ℕ
-  place = rowOf x * 8 + stepOf x
+  place = placeOf x
 
   i-lt : i < viewOf load .rows
   i-lt = omega (arith, mine .row-from, mine .row-to)
 
-  i-few : i < 24
+  i-few : i < mostRows
   i-few = omega (arith, i-lt, ok .rows-most)
 
-  step-few : x .step ≤ 8
+  step-few : x .step ≤ mostSteps
   step-few = omega (arith, mine .step-to, ok .steps-most i i-lt)
 
-  place-few : place < 192
+  place-few : place < mostSlots
   place-few = omega (arith, i-few, step-few, mine .step-from)
 
-  counts : (r : ℕ) → r < 24 → getD (set (seen .next) i (x .step)) r 0 ≡ ofRow slots (shown r) (suc k)
+  counts : (r : ℕ) → r < mostRows → getD (set (seen .next) i (x .step)) r 0 ≡ ofRow slots (shown r) (suc k)
   counts r l =
       elim (ℕ-discrete r i) [
         | yes e ↦
@@ -81,25 +81,25 @@ module _ (load : Load) (ok : Acceptable (viewOf load)) (placed : Placed load) (s
       ]
 
   starts : (h : ℕ) → h < suc k
-      → startAt (withStart (seen .starts) place (x .start)) (rowOf (slotAt slots h) * 8 + stepOf (slotAt slots h))
+      → startAt (withStart (seen .starts) place (x .start)) (placeOf (slotAt slots h))
       ≡ slotAt slots h .start
   starts h l =
       elim (ℕ-discrete h k) [
         | yes e ↦
-            rw (e, lt-ltb place 192 place-few)
+            rw (e, lt-ltb place mostSlots place-few)
             (getD-set-same (seen .starts) place (x .start) 0 (omega (arith, kept .starts-there, place-few)))
         | no e ↦ earlier (omega arith)
       ]
     where
       earlier : h < k
-          → startAt (withStart (seen .starts) place (x .start)) (rowOf (slotAt slots h) * 8 + stepOf (slotAt slots h))
+          → startAt (withStart (seen .starts) place (x .start)) (placeOf (slotAt slots h))
           ≡ slotAt slots h .start
       earlier q =
           let y = slotAt slots h in
           let its = right load ok placed slots k seen kept clean h q in
           let there : rowOf y < viewOf load .rows = omega (arith, its .row-from, its .row-to) in
-          let few : y .step ≤ 8 = omega (arith, its .step-to, ok .steps-most (rowOf y) there) in
-          let differ : rowOf y * 8 + stepOf y ≡ place → ⊥ =
+          let few : y .step ≤ mostSteps = omega (arith, its .step-to, ok .steps-most (rowOf y) there) in
+          let differ : placeOf y ≡ place → ⊥ =
           λ e. (let row : y .row ≡ x .row =
           omega (arith, its .row-from, mine .row-from, its .step-from, mine .step-from, few, step-few) in
           let step : y .step ≡ x .step = omega (arith, its .step-from, mine .step-from, few, step-few) in
@@ -110,14 +110,14 @@ module _ (load : Load) (ok : Acceptable (viewOf load)) (placed : Placed load) (s
             mine .next,
             ap (λ z. ofRow slots z h) row,
           )) in
-          rw (lt-ltb place 192 place-few) (other differ)
+          rw (lt-ltb place mostSlots place-few) (other differ)
         where
-          other : (rowOf (slotAt slots h) * 8 + stepOf (slotAt slots h) ≡ place → ⊥)
-              → startAt (set (seen .starts) place (x .start)) (rowOf (slotAt slots h) * 8 + stepOf (slotAt slots h))
+          other : (placeOf (slotAt slots h) ≡ place → ⊥)
+              → startAt (set (seen .starts) place (x .start)) (placeOf (slotAt slots h))
               ≡ slotAt slots h .start
           other differ =
-              ap (λ s. cond (ltb (rowOf (slotAt slots h) * 8 + stepOf (slotAt slots h)) 192) s 0)
-              (getD-set-other (seen .starts) place (rowOf (slotAt slots h) * 8 + stepOf (slotAt slots h)) (x .start) 0
+              ap (λ s. cond (ltb (placeOf (slotAt slots h)) mostSlots) s 0)
+              (getD-set-other (seen .starts) place (placeOf (slotAt slots h)) (x .start) 0
               differ)
               ∙ kept .starts h q
 
@@ -130,5 +130,5 @@ module _ (load : Load) (ok : Acceptable (viewOf load)) (placed : Placed load) (s
         end = refl;
         rows-there = length-set (seen .next) i (x .step) ∙ kept .rows-there;
         starts-there =
-            rw (lt-ltb place 192 place-few) (length-set (seen .starts) place (x .start) ∙ kept .starts-there);
+            rw (lt-ltb place mostSlots place-few) (length-set (seen .starts) place (x .start) ∙ kept .starts-there);
       }

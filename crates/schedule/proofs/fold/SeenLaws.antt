@@ -6,8 +6,8 @@ use mathlib.Core.Bool.{Bool, true, false, cond, _||_}
 use mathlib.Core.List.{List}
 use mathlib.Core.Path.{_≡_, refl, ap, sym, _∙_}
 use native.Mathlib.Omega.{arith}
-use lib.ListN.{length, take, getD, length-take}
-use lib.Seq.{getD-take}
+use lib.ListN.{length, take, getD}
+use lib.Seq.{getD-take, length-take-le}
 use borrow.Author.Tests.{ltb-false}
 use Rattle.counting.specs.Sums.{anyTo}
 use Rattle.counting.specs.Lists.{anyIn}
@@ -18,10 +18,10 @@ use Rattle.refusals.specs.declared.Checked.the-variants.{Good}
 use Rattle.refusals.specs.FirstMet.{firstMet, firstFaultTo}
 use Rattle.refusals.proofs.FirstFaultLaws.{firstMet-good}
 use Rattle.load.specs.declared.Load.{Load}
-use Rattle.load.specs.Load.{mostRows, shown}
+use Rattle.load.specs.Load.{mostRows, mostSteps, shown}
 use Rattle.load.specs.View.{View}
 use Rattle.rules.specs.declared.Slot.{Slot}
-use Rattle.rules.specs.Slots.{slotAt, rowOf, stepOf, slotEnd}
+use Rattle.rules.specs.Slots.{mostSlots, slotAt, rowOf, stepOf, slotEnd}
 use Rattle.rules.specs.Check.{slotTests as ruleTests}
 use Rattle.rules.proofs.slots.SlotLaws.{ofRow}
 use Rattle.schedule.specs.declared.seen.Seen.{Seen}
@@ -29,7 +29,7 @@ use Rattle.schedule.specs.inner.Seen.{startAt, foundAt, slotTests}
 
 -- a slot that is right names a row of the 24
 pub foundAt-row : (load : Load) (seen : Seen) (row step start : ℕ) → foundAt load seen row step start ≡ Good
-    → (1 ≤ row) × (row ≤ 24)
+    → (1 ≤ row) × (row ≤ mostRows)
 foundAt-row load seen row step start e =
     let t = firstMet-good (slotTests load seen row step start) e in
     (ltb-false row 1 (t 0), ltb-false mostRows row (t 2))
@@ -58,17 +58,14 @@ pub anyIn-take : {A : Type 0} (p : A → Bool) (z : A) (l : List A) (n : ℕ) �
     → anyTo (λ k. p (getD l k z)) n ≡ anyIn p (take n l)
 anyIn-take p z l n h = go (anyIn p (take n l)) refl
   where
-    sized : length (take n l) ≡ n
-    sized = simp length-take (omega arith)
-
     go : (t : Bool) → anyIn p (take n l) ≡ t → anyTo (λ k. p (getD l k z)) n ≡ t
     go true e =
         let f = anyIn-true p z (take n l) e in
-        let b : f .place < n = omega (arith, f .below, sized) in
+        let b : f .place < n = omega (arith, f .below, length-take-le n l h) in
         true-anyTo (λ k. p (getD l k z)) n (f .place) b (ap p (sym (getD-take n l (f .place) z b)) ∙ f .has)
     go false e =
         false-anyTo (λ k. p (getD l k z)) n
-        (λ k b. ap p (sym (getD-take n l k z b)) ∙ anyIn-false p z (take n l) e k (omega (arith, sized)))
+        (λ k b. ap p (sym (getD-take n l k z b)) ∙ anyIn-false p z (take n l) e k (omega (arith, length-take-le n l h)))
 
 -- the end of the slot before place k, and 0 where there is none
 abbrev pub endBefore : View → List Slot → ℕ → ℕ
@@ -79,14 +76,18 @@ endBefore L slots (suc h) = slotEnd L (slotAt slots h)
 abbrev pub testsAt : View → List Slot → ℕ → Checked
 testsAt L slots k = firstMet (ruleTests L slots k (slotAt slots k))
 
+-- the place of a slot's start in the table
+abbrev pub placeOf : Slot → ℕ
+placeOf slot = rowOf slot * mostSteps + stepOf slot
+
 -- what is kept is what the slots before place k show
 pub record SeenTo (L : View) (slots : List Slot) (k : ℕ) (seen : Seen) : Type 0 where
-  pub counts : (i : ℕ) → i < 24 → getD (seen .next) i 0 ≡ ofRow slots (shown i) k
+  pub counts : (i : ℕ) → i < mostRows → getD (seen .next) i 0 ≡ ofRow slots (shown i) k
   pub starts : (h : ℕ) → h < k
-      → startAt (seen .starts) (rowOf (slotAt slots h) * 8 + stepOf (slotAt slots h)) ≡ slotAt slots h .start
+      → startAt (seen .starts) (placeOf (slotAt slots h)) ≡ slotAt slots h .start
   pub end : seen .end ≡ endBefore L slots k
-  pub rows-there : length (seen .next) ≡ 24
-  pub starts-there : length (seen .starts) ≡ 192
+  pub rows-there : length (seen .next) ≡ mostRows
+  pub starts-there : length (seen .starts) ≡ mostSlots
 
 pub record Before (L : View) (slots : List Slot) (k : ℕ) (seen : Seen) : Type 0 where
   pub found-is : seen .found ≡ firstFaultTo (testsAt L slots) k

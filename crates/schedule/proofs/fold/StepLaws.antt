@@ -23,7 +23,7 @@ use Rattle.refusals.specs.FirstMet.{firstMet, firstFaultTo}
 use Rattle.refusals.proofs.FirstMetLaws.{firstFaultTo-good}
 use Rattle.load.specs.declared.Load.{Load}
 use Rattle.load.specs.declared.Window.{Window}
-use Rattle.load.specs.Load.{lastMoment, rowAt, windowAt, noWindow, shown}
+use Rattle.load.specs.Load.{lastMoment, mostRows, mostSteps, rowAt, windowAt, noWindow, shown}
 use Rattle.load.specs.View.{View, viewOf}
 use Rattle.load.specs.Acceptable.{Acceptable, Placed}
 use Rattle.load.proofs.AcceptableLaws.{window-is}
@@ -36,7 +36,7 @@ use Rattle.rules.proofs.slots.NextLaws.{Ranked, countTo-ranked}
 use Rattle.schedule.specs.declared.seen.Seen.{Seen}
 use Rattle.schedule.specs.inner.Seen.{startAt, started, releasedAt, endAt, lateWindow, stepTests, foundAt}
 use Rattle.schedule.proofs.fold.RightLaws.{Right, tests-right}
-use Rattle.schedule.proofs.fold.SeenLaws.{rest-ext, names-ext, anyIn-take, endBefore, testsAt, SeenTo}
+use Rattle.schedule.proofs.fold.SeenLaws.{rest-ext, names-ext, anyIn-take, endBefore, testsAt, placeOf, SeenTo}
 
 module _ (load : Load) (ok : Acceptable (viewOf load)) (placed : Placed load) (slots : List Slot) (k : ℕ) (seen : Seen)
     (kept : SeenTo (viewOf load) slots k seen)
@@ -106,7 +106,7 @@ module _ (load : Load) (ok : Acceptable (viewOf load)) (placed : Placed load) (s
           (and-right (eqb (slotAt slots (f .place) .row) (shown i)) (eqb (slotAt slots (f .place) .step) (shown j))
           (f .has))
 
-      place : i * 8 + j ≡ rowOf (slotAt slots (f .place)) * 8 + stepOf (slotAt slots (f .place))
+      place : i * mostSteps + j ≡ placeOf (slotAt slots (f .place))
       place = omega (arith, row, step)
 
   module _ (below : k < length slots) where
@@ -221,8 +221,8 @@ module _ (load : Load) (ok : Acceptable (viewOf load)) (placed : Placed load) (s
     pub tests-same : foundAt load seen (x .row) (x .step) (x .start) ≡ testsAt L slots k
     unfolding stepTests ruleTests viewOf
     tests-same =
-        names-ext (ltb (x .row) 1) (ltb (load .rows) (x .row)) (ltb 24 (x .row)) (ltb (x .step) 1)
+        names-ext (ltb (x .row) 1) (ltb (load .rows) (x .row)) (ltb mostRows (x .row)) (ltb (x .step) 1)
         (ltb (rowAt load i .steps) (x .step)) (Refused NoSuchSlot) _ _
-        (λ a b. le-ltb 24 (x .row) (omega (arith, ltb-false (load .rows) (x .row) b, ok .rows-most)))
+        (λ a b. le-ltb mostRows (x .row) (omega (arith, ltb-false (load .rows) (x .row) b, ok .rows-most)))
         (λ a b e g. rest-same (ltb-false (x .row) 1 a) (ltb-false (load .rows) (x .row) b) (ltb-false (x .step) 1 e)
         (ltb-false (rowAt load i .steps) (x .step) g))

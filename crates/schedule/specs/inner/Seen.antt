@@ -19,9 +19,10 @@ use Rattle.refusals.specs.declared.Checked.{Checked}
 use Rattle.refusals.specs.FirstMet.{andThen, firstMet}
 use Rattle.load.specs.declared.Load.{Load}
 use Rattle.load.specs.declared.Row.{Row}
-use Rattle.load.specs.Load.{lastMoment, mostRows, shown, rowAt, stepAt, windowAt}
+use Rattle.load.specs.Load.{lastMoment, mostRows, mostSteps, shown, rowAt, stepAt, windowAt}
 use Rattle.load.specs.View.{viewOf, stepsInAll}
 use Rattle.load.specs.Check.{checkLoad}
+use Rattle.rules.specs.Slots.{mostSlots}
 use Rattle.schedule.specs.declared.seen.Seen.{Seen}
 
 -- 12: as many slots as steps
@@ -35,20 +36,20 @@ begun load n =
       found = andThen (checkLoad load) (counted load n);
       end = 0;
       next = replicate mostRows 0;
-      starts = replicate 192 0;
+      starts = replicate mostSlots 0;
     }
 
 -- the start at a place of the table, and past its last place 0
 abbrev pub startAt : List ℕ → ℕ → ℕ
-startAt starts place = cond (ltb place 192) (getD starts place 0) 0
+startAt starts place = cond (ltb place mostSlots) (getD starts place 0) 0
 
 -- the table with a start at a place, which past its last place is as it was
 abbrev pub withStart : List ℕ → ℕ → ℕ → List ℕ
-withStart starts place start = cond (ltb place 192) (set starts place start) starts
+withStart starts place start = cond (ltb place mostSlots) (set starts place start) starts
 
 -- when the slot of the step at place j of row i starts
 abbrev pub started : Seen → ℕ → ℕ → ℕ
-started seen i j = startAt (seen .starts) (i * 8 + j)
+started seen i j = startAt (seen .starts) (i * mostSteps + j)
 
 -- the moment from which a step, counted from 1, of row i may start
 abbrev pub releasedAt : Row → Seen → ℕ → ℕ → ℕ

@@ -7,7 +7,7 @@ use lib.ListN.{set}
 use Rattle.refusals.specs.declared.Checked.{Checked}
 use Rattle.refusals.specs.declared.Checked.the-variants.{Good, Refused}
 use Rattle.load.specs.declared.Load.{Load}
-use Rattle.load.specs.Load.{rowAt}
+use Rattle.load.specs.Load.{mostSteps, rowAt}
 use Rattle.rules.specs.declared.Slot.{Slot}
 use Rattle.schedule.specs.declared.seen.Seen.{Seen}
 use Rattle.schedule.specs.inner.Seen.{withStart, endAt, foundAt}
@@ -19,7 +19,7 @@ advanced load seen row step start =
       found = Good;
       end = endAt (rowAt load (row - 1)) step start;
       next = set (seen .next) (row - 1) step;
-      starts = withStart (seen .starts) ((row - 1) * 8 + (step - 1)) start;
+      starts = withStart (seen .starts) ((row - 1) * mostSteps + (step - 1)) start;
     }
 
 -- what was found is kept

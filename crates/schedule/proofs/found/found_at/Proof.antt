@@ -4,7 +4,7 @@ use mathlib.Core.Path.{_≡_}
 use native.Mathlib.Omega.{arith}
 use borrow.Author.Needs.{needs}
 use borrow.Author.Tests.{lt-ltb, le-ltb}
-use Rattle.load.specs.Load.{rowAt}
+use Rattle.load.specs.Load.{mostRows, rowAt}
 use Rattle.schedule.proofs.found.found_at.Statement.{statement}
 use Rattle.schedule.proofs.found.found_at.Tie as tie
 
@@ -25,7 +25,7 @@ rest c =
     let at1 = at3 .before .before .before in
     let args = at1 .before .args in
     let its : c .before .row-at .result ≡ rowAt (args .load) (args .row - 1) =
-    rw (lt-ltb (args .row - 1) 24 (omega arith)) at (c .before .row-at .ensures) in
+    rw (lt-ltb (args .row - 1) mostRows (omega arith)) at (c .before .row-at .ensures) in
     rw (le-ltb _ _ (at1 .if1 .left), le-ltb _ _ (at3 .before .if2 .left), le-ltb _ _ (at3 .if3 .left), ← its)
     (c .step-found .ensures)
 

@@ -4,7 +4,7 @@ use mathlib.Core.Path.{_≡_}
 use native.Mathlib.Omega.{arith}
 use borrow.Author.Needs.{needs}
 use borrow.Author.Tests.{lt-ltb, le-ltb}
-use Rattle.load.specs.Load.{rowAt}
+use Rattle.load.specs.Load.{mostRows, rowAt}
 use Rattle.schedule.proofs.found.keep_slot.Statement.{statement}
 use Rattle.schedule.proofs.found.keep_slot.Tie as tie
 
@@ -13,7 +13,7 @@ stored c =
     let ended = c .before .before .before .before in
     let args = ended .before .before .args in
     let its : ended .before .row-at .result ≡ rowAt (args .load) (args .row - 1) =
-    rw (lt-ltb (args .row - 1) 24 (omega arith)) at (ended .before .row-at .ensures) in
+    rw (lt-ltb (args .row - 1) mostRows (omega arith)) at (ended .before .row-at .ensures) in
     let t = rw (c .before .place-of .ensures .0) at (c .if1 .taken) in
     rw (c .before .place-of .ensures .0, ended .end-of .ensures, its, lt-ltb _ _ t)
 
@@ -22,7 +22,7 @@ past c =
     let ended = c .before .before .before .before in
     let args = ended .before .before .args in
     let its : ended .before .row-at .result ≡ rowAt (args .load) (args .row - 1) =
-    rw (lt-ltb (args .row - 1) 24 (omega arith)) at (ended .before .row-at .ensures) in
+    rw (lt-ltb (args .row - 1) mostRows (omega arith)) at (ended .before .row-at .ensures) in
     let t = rw (c .before .place-of .ensures .0) at (c .if1 .left) in
     rw (ended .end-of .ensures, its, le-ltb _ _ t)
 

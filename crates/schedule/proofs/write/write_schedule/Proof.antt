@@ -60,10 +60,9 @@ use Rattle.refusals.specs.Given.{Given as GivenBytes}
 use Rattle.refusals.proofs.Checked as R
 use Rattle.refusals.proofs.Checked.Laws as R′
 use Rattle.rules.specs.declared.Slot.{Slot}
-use Rattle.rules.specs.Slots.{noSlot}
+use Rattle.rules.specs.Slots.{noSlot, mostSlots}
 use Rattle.rules.proofs.Slot as T
 use Rattle.schedule.specs.declared.write.Gathered.{Gathered}
-use Rattle.schedule.specs.ScheduleFile.{mostSlots}
 use Rattle.schedule.specs.inner.Gathered.{headed, gatheredOf, gathered}
 use Rattle.schedule.specs.Calls.{WriteSchedule}
 use Rattle.schedule.proofs.walks.FoldLaws.{gathered-turn, gathered-end}
