@@ -1,6 +1,6 @@
 -- What the parts of the code give, for private functions alone: nothing here needs to be believed.
 pub mod Updates
-pub mod Alike
+pub mod Looks
 pub mod Boards
 pub mod Stacks
 pub mod Choices

@@ -9,7 +9,7 @@ ghost use Prim.Native.Nat.{_≤_};
 ghost use Rattle.load.specs.Load.{mostSteps, latestPhase, lastMoment};
 ghost use Rattle.rules.specs.State.{openWindow};
 ghost use Rattle.rules.specs.Ready.{release};
-ghost use Rattle.bench.specs.inner.Alike.{Fitting, viewAlike, stateAlike, lookOf, Modest};
+ghost use Rattle.bench.specs.inner.Looks.{Fitting, viewAlike, stateAlike, lookOf, Modest};
 
 // Gives the window that is open once so many steps are finished, and a window of zeros where none.
 pub fn open_window(row: Row, finished: u8) -> Window

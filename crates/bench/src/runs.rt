@@ -25,7 +25,7 @@ ghost use Rattle.refusals.specs.declared.Checked.the-variants.{Good, Refused};
 ghost use Rattle.load.specs.Check.{checkLoad};
 ghost use Rattle.load.specs.View.{viewOf};
 ghost use Rattle.rules.specs.Run.{schedule};
-ghost use Rattle.bench.specs.inner.Alike.{Fitting, Modest};
+ghost use Rattle.bench.specs.inner.Looks.{Fitting, Modest};
 ghost use Rattle.bench.specs.inner.Choices.{BoardFits, candidateIn};
 ghost use Rattle.bench.specs.Runs.{ranWith};
 ghost use Rattle.bench.specs.inner.Running.{lookAfter};

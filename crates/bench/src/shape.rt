@@ -16,7 +16,7 @@ ghost use Rattle.load.specs.Check.{checkLoad};
 ghost use Rattle.load.specs.View.{viewOf};
 ghost use Rattle.rules.specs.State.{rowShaped, rowUnused, shaped};
 ghost use Rattle.bench.specs.Held.{stateOf};
-ghost use Rattle.bench.specs.inner.Alike.{Fitting, viewAlike, stateAlike};
+ghost use Rattle.bench.specs.inner.Looks.{Fitting, viewAlike, stateAlike};
 
 // Gives the latest end of a row: the clock, and 0 if nothing is finished.
 fn latest_end(clock: u32, finished: u8) -> u32

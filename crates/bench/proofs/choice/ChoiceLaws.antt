@@ -35,7 +35,7 @@ use Rattle.rules.proofs.plan.StackLaws.{
 use Rattle.bench.specs.declared.Bench.{Bench}
 use Rattle.bench.specs.declared.Board.{Board}
 use Rattle.bench.specs.Held.{stateOf}
-use Rattle.bench.specs.inner.Alike.{further}
+use Rattle.bench.specs.inner.Looks.{further}
 use Rattle.bench.specs.inner.Boards.{lookIn, Wide, Shows}
 use Rattle.bench.specs.inner.Stacks.{planBy}
 use Rattle.bench.specs.inner.Choices.{belowIn, candidateIn, openingIn, heldAfter, passesIn, ChosenIn}

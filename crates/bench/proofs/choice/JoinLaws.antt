@@ -19,7 +19,7 @@ use Rattle.bench.specs.declared.Bench.{Bench}
 use Rattle.bench.specs.declared.Look.{Look}
 use Rattle.bench.specs.declared.Board.{Board}
 use Rattle.bench.specs.Held.{stateOf}
-use Rattle.bench.specs.inner.Alike.{further, lookOf}
+use Rattle.bench.specs.inner.Looks.{further, lookOf}
 use Rattle.bench.specs.inner.Boards.{lookIn, Shows}
 use Rattle.bench.specs.inner.Stacks.{inTimeBy, stackBy, number, test, planBy}
 use Rattle.bench.proofs.choice.StackLaws.{inTimeBy-none, inTimeBy-next}

@@ -28,7 +28,7 @@ use Rattle.bench.specs.declared.Bench.{Bench}
 use Rattle.bench.specs.declared.Look.{Look}
 use Rattle.bench.specs.declared.Board.{Board}
 use Rattle.bench.specs.Held.{stateOf}
-use Rattle.bench.specs.inner.Alike.{Modest}
+use Rattle.bench.specs.inner.Looks.{Modest}
 use Rattle.bench.specs.inner.Boards.{lookIn, boardWith}
 use Rattle.bench.specs.inner.Choices.{ChosenIn}
 use Rattle.bench.specs.inner.Moves.{finishedIn}

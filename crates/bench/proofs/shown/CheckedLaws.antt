@@ -17,7 +17,7 @@ use Rattle.load.specs.View.{View, viewOf}
 use Rattle.load.specs.Acceptable.{Acceptable}
 use Rattle.load.proofs.AcceptableLaws.{check-acceptable, check-placed}
 use Rattle.rules.specs.State.{State, isOpen, endFits, openingFits, rowShaped, rowUnused, shaped}
-use Rattle.bench.specs.inner.Alike.{Fitting}
+use Rattle.bench.specs.inner.Looks.{Fitting}
 
 module _ (load : Load) (ok : checkLoad load ≡ Good) where
   pub checked-rows : load .rows ≤ mostRows

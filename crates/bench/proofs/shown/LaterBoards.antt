@@ -22,7 +22,7 @@ use Rattle.bench.specs.declared.Look.{Look}
 use Rattle.bench.specs.declared.Board.{Board}
 use Rattle.bench.specs.Held.{stateOf, benchOf}
 use Rattle.bench.specs.inner.Updates.{benchStarted}
-use Rattle.bench.specs.inner.Alike.{viewAlike, stateAlike, lookOf, Modest}
+use Rattle.bench.specs.inner.Looks.{viewAlike, stateAlike, lookOf, Modest}
 use Rattle.bench.specs.inner.Boards.{lookIn, boardWith, Shows}
 use Rattle.bench.specs.inner.Choices.{openingIn}
 use Rattle.bench.specs.inner.Running.{lookAfter}

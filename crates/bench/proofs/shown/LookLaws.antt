@@ -22,7 +22,7 @@ use Rattle.rules.specs.Plan.{due, windowLeft}
 use Rattle.bench.specs.declared.Bench.{Bench}
 use Rattle.bench.specs.declared.Look.{Look}
 use Rattle.bench.specs.Held.{stateOf}
-use Rattle.bench.specs.inner.Alike.{viewAlike, stateAlike, further, lookOf}
+use Rattle.bench.specs.inner.Looks.{viewAlike, stateAlike, further, lookOf}
 
 pub isOpen-last : (L : View) (s : State) (i : ℕ) → isOpen L s i ≡ ltb (s .finished i) (openWindow L s i .last)
 unfolding opensAt openAt

@@ -1,5 +1,5 @@
 -- The board: what is looked up of every row of a load, one list a number, so that the search and
--- the plan read plain lists. To be read after Alike.
+-- the plan read plain lists. To be read after Looks.
 use Prim.Native.Nat.{ℕ, _<_}
 use mathlib.Core.Bool.{false}
 use mathlib.Core.Path.{_≡_}
@@ -10,7 +10,7 @@ use Rattle.bench.specs.declared.Bench.{Bench}
 use Rattle.bench.specs.declared.Look.{Look}
 use Rattle.bench.specs.declared.Board.{Board}
 use Rattle.bench.specs.Held.{stateOf}
-use Rattle.bench.specs.inner.Alike.{lookOf, Modest}
+use Rattle.bench.specs.inner.Looks.{lookOf, Modest}
 
 -- what a board has of row i
 abbrev pub lookIn : Board → ℕ → Look

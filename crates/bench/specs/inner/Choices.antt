@@ -10,7 +10,7 @@ use Rattle.counting.specs.Sums.{allTo}
 use Rattle.load.specs.Load.{mostRows, lastMoment}
 use Rattle.bench.specs.declared.Look.{Look}
 use Rattle.bench.specs.declared.Board.{Board}
-use Rattle.bench.specs.inner.Alike.{Modest}
+use Rattle.bench.specs.inner.Looks.{Modest}
 use Rattle.bench.specs.inner.Boards.{lookIn, Wide}
 use Rattle.bench.specs.inner.Stacks.{planBy}
 

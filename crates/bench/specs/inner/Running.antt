@@ -10,7 +10,7 @@ use Rattle.load.specs.declared.Row.{Row}
 use Rattle.load.specs.Load.{lastMoment}
 use Rattle.bench.specs.declared.Look.{Look}
 use Rattle.bench.specs.declared.Board.{Board}
-use Rattle.bench.specs.inner.Alike.{viewAlike, stateAlike, lookOf}
+use Rattle.bench.specs.inner.Looks.{viewAlike, stateAlike, lookOf}
 use Rattle.bench.specs.inner.Boards.{lookIn}
 use Rattle.bench.specs.inner.Choices.{openingIn, candidateIn}
 

@@ -9,7 +9,7 @@ use Rattle.load.specs.declared.Load.{Load}
 use Rattle.load.specs.Load.{mostSteps, rowAt}
 use Rattle.load.specs.View.{viewOf}
 use Rattle.bench.specs.Held.{stateOf}
-use Rattle.bench.specs.inner.Alike.{lookOf, Modest}
+use Rattle.bench.specs.inner.Looks.{lookOf, Modest}
 use Rattle.bench.specs.inner.Boards.{lookIn, Wide}
 use Rattle.bench.proofs.shown.CheckedLaws.{checked-rows, checked-fitting, shaped-clock, shaped-row}
 use Rattle.bench.proofs.shown.LookLaws.{look-of-row}

@@ -6,7 +6,7 @@ use borrow.Author.Needs.{needs}
 use Rattle.load.specs.declared.Row.{Row}
 use Rattle.load.specs.Load.{stepAt}
 use Rattle.rules.specs.Ready.{release}
-use Rattle.bench.specs.inner.Alike.{viewAlike}
+use Rattle.bench.specs.inner.Looks.{viewAlike}
 use Rattle.bench.proofs.lookups.release_of.Statement.{statement}
 use Rattle.bench.proofs.lookups.release_of.Tie as tie
 
