@@ -27,7 +27,7 @@ impl Board {
         self.opening[i] = look.opening;
         self.cost[i] = look.cost;
         self.release[i] = look.release;
-        self.held[i] = look.held;
+        self.opened[i] = look.opened;
         self.left[i] = look.left;
         self.due[i] = look.due;
         self.wait[i] = look.wait;
@@ -48,7 +48,7 @@ fn zero_board() -> Board
         opening: [0; MOST_ROWS],
         cost: [0; MOST_ROWS],
         release: [0; MOST_ROWS],
-        held: [false; MOST_ROWS],
+        opened: [false; MOST_ROWS],
         left: [0; MOST_ROWS],
         due: [0; MOST_ROWS],
         wait: [0; MOST_ROWS],

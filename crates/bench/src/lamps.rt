@@ -7,14 +7,14 @@ ghost use lib.ListN.{getD};
 ghost use Rattle.words.specs.LampWord.{wordOf};
 
 // Gives the word with bit i set where row i has an open window, for the first rows.
-pub fn lamp_word(held: [bool; MOST_ROWS], rows: usize) -> u32
+pub fn lamp_word(opened: [bool; MOST_ROWS], rows: usize) -> u32
     requires { ⌜ rows ≤ 24 ⌝ }
-    ensures { λ r. ⌜ r ≡ wordOf (λ i. getD held i false) rows ⌝ }
+    ensures { λ r. ⌜ r ≡ wordOf (λ i. getD opened i false) rows ⌝ }
 {
     let mut word: u32 = 0;
     let mut place: u32 = 1;
     for i in 0..rows {
-        if held[i] {
+        if opened[i] {
             word += place;
         }
         place *= 2;

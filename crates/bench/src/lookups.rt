@@ -62,7 +62,7 @@ pub fn look_of(row: Row, finished: u8, end: u32, opening: u32) -> Look
         opening,
         cost: step.cost as u32,
         release: release_of(row, finished, end),
-        held: finished < window.last,
+        opened: finished < window.last,
         left: chain_between(row, finished, window.last),
         due: opening + window.limit as u32,
         wait: step.wait as u32,

@@ -57,11 +57,11 @@ fn refused(bench: Bench, refusal: Refusal) -> Moved
 }
 
 // Hands a bench back with the lamps of the rows that have an open window, and their count.
-fn handed(bench: Bench, outcome: Outcome, held: [bool; MOST_ROWS], rows: usize) -> Moved
+fn handed(bench: Bench, outcome: Outcome, opened: [bool; MOST_ROWS], rows: usize) -> Moved
     requires { ⌜ rows ≤ 24 ⌝ }
-    ensures { λ r. ⌜ r ≡ handedWith bench outcome held rows ⌝ }
+    ensures { λ r. ⌜ r ≡ handedWith bench outcome opened rows ⌝ }
 {
-    let lamps = lamp_word(held, rows);
+    let lamps = lamp_word(opened, rows);
     Moved {
         bench,
         outcome,
@@ -73,10 +73,10 @@ fn handed(bench: Bench, outcome: Outcome, held: [bool; MOST_ROWS], rows: usize) 
 // Done changes nothing.
 fn done(bench: Bench, board: Board, rows: usize) -> Moved
     requires { ⌜ rows ≤ 24 ⌝ }
-    ensures { λ r. ⌜ r ≡ handedWith bench Outcome.Done (board .held) rows ⌝ }
+    ensures { λ r. ⌜ r ≡ handedWith bench Outcome.Done (board .opened) rows ⌝ }
 {
-    let held = board.held;
-    handed(bench, Outcome::Done, held, rows)
+    let opened = board.opened;
+    handed(bench, Outcome::Done, opened, rows)
 }
 
 // Starts a row's next step: rows and steps are shown counted from 1.
@@ -87,16 +87,16 @@ fn started(bench: Bench, board: Board, rows: usize, i: usize) -> Moved
     ensures { λ r. ⌜ r ≡ startedIn bench board rows i ⌝ }
 {
     let clock = bench.clock;
-    let opening = opening_after(board.stays[i], board.held[i], board.opening[i], clock);
-    let mut held = board.held;
-    held[i] = board.stays[i];
+    let opening = opening_after(board.stays[i], board.opened[i], board.opening[i], clock);
+    let mut opened = board.opened;
+    opened[i] = board.stays[i];
     let slot = Slot {
         row: i as u8 + 1,
         step: board.finished[i] + 1,
         start: clock,
     };
     let next = bench.start(i, board.cost[i], opening);
-    handed(next, Outcome::Start(slot), held, rows)
+    handed(next, Outcome::Start(slot), opened, rows)
 }
 
 // Starts the first candidate that passes, or moves the clock one tick.
@@ -109,8 +109,8 @@ fn start_or_idle(bench: Bench, board: Board, rows: usize) -> Moved
     if i < rows {
         return started(bench, board, rows, i);
     }
-    let held = board.held;
-    handed(bench.idle(), Outcome::Idle, held, rows)
+    let opened = board.opened;
+    handed(bench.idle(), Outcome::Idle, opened, rows)
 }
 
 // Makes one move of a bench that has the shape of its load, which was checked: Done where all steps

@@ -12,10 +12,10 @@ ghost use Rattle.bench.specs.inner.Choices.{BoardFits};
 ghost use Rattle.bench.specs.inner.Running.{QuietTo, crowdedIn};
 
 // Gives what is left of a row's open window where it is due before a moment, else 0.
-fn work_of(held: bool, due: u32, left: u32, moment: u32) -> u32
-    ensures { λ r. ⌜ r ≡ cond (held && ltb due moment) left 0 ⌝ }
+fn work_of(opened: bool, due: u32, left: u32, moment: u32) -> u32
+    ensures { λ r. ⌜ r ≡ cond (opened && ltb due moment) left 0 ⌝ }
 {
-    if !held {
+    if !opened {
         return 0;
     }
     if due < moment { left } else { 0 }
@@ -28,7 +28,7 @@ fn is_crowded(board: Board, clock: u32, rows: usize, i: usize) -> bool
     requires { ⌜ i < rows ⌝ }
     ensures { λ r. ⌜ r ≡ crowdedIn board clock rows i ⌝ }
 {
-    if board.held[i] {
+    if board.opened[i] {
         return false;
     }
     if !board.stays[i] {
@@ -38,7 +38,7 @@ fn is_crowded(board: Board, clock: u32, rows: usize, i: usize) -> bool
     let moment = clock + limit;
     let mut work: u32 = 0;
     for k in 0..rows {
-        work += work_of(board.held[k], board.due[k], board.left[k], moment);
+        work += work_of(board.opened[k], board.due[k], board.left[k], moment);
     }
     limit < board.cost[i] + board.rest[i] + work
 }
@@ -50,11 +50,12 @@ fn sooner_release(
     crowded: bool,
     finished: u8,
     steps: u8,
-    held: bool,
+    opened: bool,
     release: u32,
     lowest: u8,
 ) -> u32
-    ensures { λ r. ⌜ r ≡ cond (not crowded && ltb finished steps && (held || leb finished lowest))
+    ensures { λ r. ⌜ r ≡ cond
+        (not crowded && ltb finished steps && (opened || leb finished lowest))
         (min next release) next ⌝ }
 {
     if crowded {
@@ -63,7 +64,7 @@ fn sooner_release(
     if steps <= finished {
         return next;
     }
-    if !is_allowed(held, finished, lowest) {
+    if !is_allowed(opened, finished, lowest) {
         return next;
     }
     if release < next { release } else { next }
@@ -88,7 +89,7 @@ pub fn next_moment(board: Board, clock: u32, rows: usize) -> u32
             crowded,
             board.finished[k],
             board.steps[k],
-            board.held[k],
+            board.opened[k],
             board.release[k],
             lowest,
         );

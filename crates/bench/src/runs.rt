@@ -40,7 +40,7 @@ fn look_after(row: Row, board: Board, clock: u32, rows: usize, i: usize) -> Look
     ensures { λ r. ⌜ Modest r ⌝ }
 {
     let end = clock + board.cost[i];
-    let opening = opening_after(board.stays[i], board.held[i], board.opening[i], clock);
+    let opening = opening_after(board.stays[i], board.opened[i], board.opening[i], clock);
     look_of(row, board.finished[i] + 1, end, opening)
 }
 

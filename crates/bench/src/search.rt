@@ -44,10 +44,10 @@ pub fn lowest_step(board: Board, rows: usize) -> u8
 }
 
 // Says whether a row's next step is allowed: embedded, or not after the lowest unfinished one.
-pub fn is_allowed(held: bool, finished: u8, lowest: u8) -> bool
-    ensures { λ r. ⌜ r ≡ (held || leb finished lowest) ⌝ }
+pub fn is_allowed(opened: bool, finished: u8, lowest: u8) -> bool
+    ensures { λ r. ⌜ r ≡ (opened || leb finished lowest) ⌝ }
 {
-    if held {
+    if opened {
         return true;
     }
     finished <= lowest
@@ -58,14 +58,14 @@ fn is_candidate(
     finished: u8,
     steps: u8,
     release: u32,
-    held: bool,
+    opened: bool,
     cost: u32,
     clock: u32,
     lowest: u8,
 ) -> bool
     requires { ⌜ (clock ≤ lastMoment) × (cost ≤ 65535) ⌝ }
     ensures { λ r. ⌜ r ≡ (ltb finished steps && leb release clock
-        && (held || leb finished lowest) && leb (clock + cost) lastMoment) ⌝ }
+        && (opened || leb finished lowest) && leb (clock + cost) lastMoment) ⌝ }
 {
     if steps <= finished {
         return false;
@@ -73,7 +73,7 @@ fn is_candidate(
     if clock < release {
         return false;
     }
-    if !is_allowed(held, finished, lowest) {
+    if !is_allowed(opened, finished, lowest) {
         return false;
     }
     clock + cost <= LAST_MOMENT
@@ -81,13 +81,13 @@ fn is_candidate(
 
 // Gives a row's opening once its next step is over: kept while its window stays open, the clock
 // where the step opens one, else 0.
-pub fn opening_after(stays: bool, held: bool, opening: u32, clock: u32) -> u32
-    ensures { λ r. ⌜ r ≡ openingBy stays held opening clock ⌝ }
+pub fn opening_after(stays: bool, opened: bool, opening: u32, clock: u32) -> u32
+    ensures { λ r. ⌜ r ≡ openingBy stays opened opening clock ⌝ }
 {
     if !stays {
         return 0;
     }
-    if held { opening } else { clock }
+    if opened { opening } else { clock }
 }
 
 // Says whether a candidate passes the stacking plan, as things stand at its end.
@@ -97,8 +97,8 @@ fn passes(board: Board, clock: u32, rows: usize, i: usize) -> bool
     ensures { λ r. ⌜ r ≡ passesIn board clock rows i ⌝ }
 {
     let end = clock + board.cost[i];
-    let opening = opening_after(board.stays[i], board.held[i], board.opening[i], clock);
-    let mut waiting = board.held;
+    let opening = opening_after(board.stays[i], board.opened[i], board.opening[i], clock);
+    let mut waiting = board.opened;
     waiting[i] = board.stays[i];
     let mut release = board.release;
     release[i] = end + board.wait[i];
@@ -124,7 +124,7 @@ pub fn search(board: Board, clock: u32, rows: usize) -> usize
                     step,
                     board.steps[i],
                     board.release[i],
-                    board.held[i],
+                    board.opened[i],
                     board.cost[i],
                     clock,
                     lowest,

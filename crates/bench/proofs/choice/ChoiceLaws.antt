@@ -38,7 +38,7 @@ use Rattle.bench.specs.Held.{stateOf}
 use Rattle.bench.specs.inner.Looks.{further}
 use Rattle.bench.specs.inner.Boards.{lookIn, Wide, Shows}
 use Rattle.bench.specs.inner.Stacks.{planBy}
-use Rattle.bench.specs.inner.Choices.{belowIn, candidateIn, openingIn, heldAfter, passesIn, ChosenIn}
+use Rattle.bench.specs.inner.Choices.{belowIn, candidateIn, openingIn, openAfter, passesIn, ChosenIn}
 use Rattle.bench.proofs.choice.JoinLaws.{
   planBy-is,
   rows-are,
@@ -47,7 +47,7 @@ use Rattle.bench.proofs.choice.JoinLaws.{
   opening-same,
   cost-same,
   release-same,
-  held-same,
+  opened-same,
   left-same,
   due-now,
   wait-same,
@@ -92,7 +92,7 @@ module _ (load : Load) (bench : Bench) (board : Board) (shows : Shows load bench
         finished-same load bench board shows i l,
         steps-same load bench board shows i l,
         release-same load bench board shows i l,
-        held-same load bench board shows i l,
+        opened-same load bench board shows i l,
         cost-same load bench board shows i l,
         below,
         open-is i,
@@ -120,7 +120,7 @@ module _ (load : Load) (bench : Bench) (board : Board) (shows : Shows load bench
     opening-after =
         rw (
           stays-same load bench board shows i l,
-          held-same load bench board shows i l,
+          opened-same load bench board shows i l,
           opening-same load bench board shows i l,
         )
 
@@ -133,19 +133,19 @@ module _ (load : Load) (bench : Bench) (board : Board) (shows : Shows load bench
     pub passes-same : rows ≤ 24 → passesIn board (bench .clock) rows i ≡ passes L s i
     unfolding passesIn passes
     passes-same most =
-        ap (λ t. planBy (record { waiting = heldAfter board i; time = t })
+        ap (λ t. planBy (record { waiting = openAfter board i; time = t })
         (set (board .release) i (t + lookIn board i .wait))
         (set (board .left) i (lookIn board i .rest))
         (set (board .due) i (opening + lookIn board i .limit))
         rows) end-is
         ∙ planBy-is L after rows (rows-are load bench board shows)
-        (heldAfter board i)
+        (openAfter board i)
         (set (board .release) i (after .clock + lookIn board i .wait))
         (set (board .left) i (lookIn board i .rest))
         (set (board .due) i (opening + lookIn board i .limit))
-        (stored (board .held) i (lookIn board i .stays) false (isOpen L after) rows
-        (omega (arith, wide .held-length)) stays-after
-        (λ k b ne. held-same load bench board shows k b ∙ sym (isOpen-other L s i cost k ne)))
+        (stored (board .opened) i (lookIn board i .stays) false (isOpen L after) rows
+        (omega (arith, wide .opened-length)) stays-after
+        (λ k b ne. opened-same load bench board shows k b ∙ sym (isOpen-other L s i cost k ne)))
         (stored (board .release) i (after .clock + lookIn board i .wait) 0 (released L after) rows
         (omega (arith, wide .release-length))
         (ap₂ _+_ (started-clock L s i cost) (wait-same load bench board shows i l) ∙ sym (released-same L s i cost))

@@ -89,9 +89,9 @@ module _ (load : Load) (bench : Bench) (board : Board) (shows : Shows load bench
     unfolding lookOf
     release-same = looked (λ look. look .release)
 
-    pub held-same : lookIn board k .held ≡ isOpen L s k
+    pub opened-same : lookIn board k .opened ≡ isOpen L s k
     unfolding lookOf
-    held-same = looked (λ look. look .held)
+    opened-same = looked (λ look. look .opened)
 
     pub left-same : lookIn board k .left ≡ windowLeft L s k
     unfolding lookOf

@@ -44,10 +44,10 @@ use Rattle.bench.specs.Held.{stateOf, benchOf, handedOn, refusedWith, ne
 use Rattle.bench.specs.inner.Updates.{benchStarted, benchTicked}
 use Rattle.bench.specs.inner.Boards.{lookIn, Shows}
 use Rattle.bench.specs.inner.Stacks.{test}
-use Rattle.bench.specs.inner.Choices.{openingIn, heldAfter}
+use Rattle.bench.specs.inner.Choices.{openingIn, openAfter}
 use Rattle.bench.specs.inner.Moves.{finishedIn, handedWith, startedIn, Stepped}
 use Rattle.bench.proofs.shown.HeldLaws.{Sized, benchOf-stateOf, benchTicked-is, benchStarted-is}
-use Rattle.bench.proofs.choice.JoinLaws.{rows-are, finished-same, steps-same, cost-same, held-same}
+use Rattle.bench.proofs.choice.JoinLaws.{rows-are, finished-same, steps-same, cost-same, opened-same}
 use Rattle.bench.proofs.choice.ChoiceLaws.{stored, stays-after, opening-after, chosen-row, chosen-nothing}
 
 -- a load that is accepted, and one that is refused
@@ -62,21 +62,21 @@ unfolding nextMove
 nextMove-refused load bench refusal e = rw (e, nextMove)
 
 -- the lamps of a state, where a list of tests agrees with its open windows
-module _ (L : View) (s : State) (rows : ℕ) (rows-are′ : L .rows ≡ rows) (held : List Bool)
-    (opens : (k : ℕ) → k < rows → test held k ≡ isOpen L s k) where
-  word-is : lampWord L s ≡ wordOf (test held) rows
+module _ (L : View) (s : State) (rows : ℕ) (rows-are′ : L .rows ≡ rows) (lit : List Bool)
+    (opens : (k : ℕ) → k < rows → test lit k ≡ isOpen L s k) where
+  word-is : lampWord L s ≡ wordOf (test lit) rows
   unfolding lampWord
   word-is =
       ap (wordOf (isOpen L s)) rows-are′
       ∙ sym
-      (sumTo-ext (λ i. bit (test held i) * 2 ^ i) (λ i. bit (isOpen L s i) * 2 ^ i) rows
+      (sumTo-ext (λ i. bit (test lit i) * 2 ^ i) (λ i. bit (isOpen L s i) * 2 ^ i) rows
       (λ i l. ap (λ b. bit b * 2 ^ i) (opens i l)))
 
-  count-is : lampCount L s ≡ countTo (test held) rows
+  count-is : lampCount L s ≡ countTo (test lit) rows
   unfolding lampCount
   count-is =
       ap (countTo (isOpen L s)) rows-are′
-      ∙ sym (sumTo-ext (λ i. bit (test held i)) (λ i. bit (isOpen L s i)) rows (λ i l. ap bit (opens i l)))
+      ∙ sym (sumTo-ext (λ i. bit (test lit i)) (λ i. bit (isOpen L s i)) rows (λ i l. ap bit (opens i l)))
 
 -- the refusals of a move, 10 and 11
 move-unshaped : (L : View) (s : State) → shaped L s ≡ false → move L s ≡ refusedMove s StateShape
@@ -121,25 +121,25 @@ module _ (load : Load) (bench : Bench) (board : Board) (shows : Shows load bench
       ∙ ap (allTo (λ i. leb (L .steps i) (s .finished i))) (sym (rows-are load bench board shows))
 
   pub done-move : shaped L s ≡ true → allFinished L s ≡ true
-      → handedOn bench (move L s) ≡ handedWith bench Done (board .held) (load .rows)
+      → handedOn bench (move L s) ≡ handedWith bench Done (board .opened) (load .rows)
   done-move e d =
       ap (handedOn bench) (move-done L s e d)
       ∙ parts Done (benchOf s) bench _ _ _ _ (benchOf-stateOf bench size)
-      (word-is L s (load .rows) (rows-are load bench board shows) (board .held) (held-same load bench board shows))
-      (count-is L s (load .rows) (rows-are load bench board shows) (board .held) (held-same load bench board shows))
+      (word-is L s (load .rows) (rows-are load bench board shows) (board .opened) (opened-same load bench board shows))
+      (count-is L s (load .rows) (rows-are load bench board shows) (board .opened) (opened-same load bench board shows))
 
-  open-ticked : (k : ℕ) → k < load .rows → test (board .held) k ≡ isOpen L (ticked s) k
+  open-ticked : (k : ℕ) → k < load .rows → test (board .opened) k ≡ isOpen L (ticked s) k
   unfolding ticked
-  open-ticked = held-same load bench board shows
+  open-ticked = opened-same load bench board shows
 
   module _ (e : shaped L s ≡ true) (d : allFinished L s ≡ false) (h : bench .clock < lastMoment) where
     idle-move : chosen L s ≡ none
-        → handedOn bench (move L s) ≡ handedWith (benchTicked bench) Idle (board .held) (load .rows)
+        → handedOn bench (move L s) ≡ handedWith (benchTicked bench) Idle (board .opened) (load .rows)
     idle-move q =
         ap (handedOn bench) (move-goes L s e d h ∙ ap (startOrIdle L s) q)
         ∙ parts Idle (benchOf (ticked s)) (benchTicked bench) _ _ _ _ (sym (benchTicked-is bench size))
-        (word-is L (ticked s) (load .rows) (rows-are load bench board shows) (board .held) open-ticked)
-        (count-is L (ticked s) (load .rows) (rows-are load bench board shows) (board .held) open-ticked)
+        (word-is L (ticked s) (load .rows) (rows-are load bench board shows) (board .opened) open-ticked)
+        (count-is L (ticked s) (load .rows) (rows-are load bench board shows) (board .opened) open-ticked)
 
     start-move : (i : ℕ) → i < load .rows → chosen L s ≡ at i
         → handedOn bench (move L s) ≡ startedIn bench board (load .rows) i
@@ -161,7 +161,7 @@ module _ (load : Load) (bench : Bench) (board : Board) (shows : Shows load bench
         opening = openingIn board (bench .clock) i
 
         lit : List Bool
-        lit = heldAfter board i
+        lit = openAfter board i
 
         bench-is : benchOf after ≡ benchStarted bench i (lookIn board i .cost) opening
         bench-is =
@@ -172,9 +172,9 @@ module _ (load : Load) (bench : Bench) (board : Board) (shows : Shows load bench
 
         open-after : (k : ℕ) → k < load .rows → test lit k ≡ isOpen L after k
         open-after =
-            stored (board .held) i (lookIn board i .stays) false (isOpen L after) (load .rows)
-            (omega (arith, shows .wide .held-length)) (stays-after load bench board shows i l)
-            (λ k b ne. held-same load bench board shows k b
+            stored (board .opened) i (lookIn board i .stays) false (isOpen L after) (load .rows)
+            (omega (arith, shows .wide .opened-length)) (stays-after load bench board shows i l)
+            (λ k b ne. opened-same load bench board shows k b
             ∙ sym (isOpen-other L s i (L .cost i (s .finished i)) k ne))
 
     pub stepped-move : (moved : Moved) → Stepped bench board (load .rows) moved → moved ≡ handedOn bench (move L s)

@@ -15,11 +15,11 @@ use Rattle.bench.specs.inner.Boards.{lookIn}
 use Rattle.bench.specs.inner.Stacks.{number, PlanFits}
 use Rattle.bench.specs.inner.Choices.{openingBy, BoardFits}
 
-pub openingBy-le : (stays held : Bool) (opening clock : ℕ) → opening ≤ lastMoment → clock ≤ lastMoment
-    → openingBy stays held opening clock ≤ lastMoment
+pub openingBy-le : (stays opened : Bool) (opening clock : ℕ) → opening ≤ lastMoment → clock ≤ lastMoment
+    → openingBy stays opened opening clock ≤ lastMoment
 openingBy-le true true opening clock h g = h
 openingBy-le true false opening clock h g = g
-openingBy-le false held opening clock h g = omega arith
+openingBy-le false opened opening clock h g = omega arith
 
 -- numbers that are small stay so where a small one is stored
 set-most : (l : List ℕ) (i v most rows : ℕ) → i < length l → v ≤ most → ((k : ℕ) → k < rows → number l k ≤ most)
@@ -35,7 +35,7 @@ module _ (board : Board) (clock rows i opening : ℕ) (fits : BoardFits board cl
   abbrev look : Look
   look = lookIn board i
 
-  pub plan-fits : PlanFits (record { waiting = set (board .held) i (look .stays); time = clock + look .cost })
+  pub plan-fits : PlanFits (record { waiting = set (board .opened) i (look .stays); time = clock + look .cost })
       (set (board .release) i (clock + look .cost + look .wait))
       (set (board .left) i (look .rest))
       (set (board .due) i (opening + look .limit))
@@ -47,7 +47,7 @@ module _ (board : Board) (clock rows i opening : ℕ) (fits : BoardFits board cl
       let now = fits .clock-most in
       record {
         rows-most = most;
-        waiting-length = length-set (board .held) i (look .stays) ∙ wide .held-length;
+        waiting-length = length-set (board .opened) i (look .stays) ∙ wide .opened-length;
         time-most = omega (arith, here .cost-most);
         release-most =
             set-most (board .release) i (clock + look .cost + look .wait) 100000000 rows

@@ -61,7 +61,7 @@ module _ (look : Look) (clock : ℕ) (below : Bool) (e : candidateBy look clock 
   ready = leb (look .release) clock
 
   allowed : Bool
-  allowed = look .held || below
+  allowed = look .opened || below
 
   ends : Bool
   ends = leb (clock + look .cost) lastMoment
@@ -78,7 +78,7 @@ module _ (look : Look) (clock : ℕ) (below : Bool) (e : candidateBy look clock 
       leb-true (look .release) clock
       (and-right more ready (and-left (more && ready) allowed (and-left (more && ready && allowed) ends e)))
 
-  pub candidate-allowed : (look .held || below) ≡ true
+  pub candidate-allowed : (look .opened || below) ≡ true
   unfolding more ready allowed ends
   candidate-allowed = and-right (more && ready) allowed (and-left (more && ready && allowed) ends e)
 
@@ -169,7 +169,7 @@ module _ (board : Board) (clock rows : ℕ) where
       → candidateIn board clock rows i
       ≡ (ltb step (lookIn board i .steps)
       && leb (lookIn board i .release) clock
-      && (lookIn board i .held || leb step lowest)
+      && (lookIn board i .opened || leb step lowest)
       && leb (clock + lookIn board i .cost) lastMoment)
   candidate-is i step lowest e h =
       ap (λ f. candidateBy (record {
@@ -178,7 +178,7 @@ module _ (board : Board) (clock rows : ℕ) where
         opening = lookIn board i .opening;
         cost = lookIn board i .cost;
         release = lookIn board i .release;
-        held = lookIn board i .held;
+        opened = lookIn board i .opened;
         left = lookIn board i .left;
         due = lookIn board i .due;
         wait = lookIn board i .wait;

@@ -30,7 +30,7 @@ use Rattle.bench.specs.declared.Look.{Look}
 use Rattle.bench.specs.declared.Board.{Board}
 use Rattle.bench.specs.inner.Boards.{lookIn, Wide}
 use Rattle.bench.specs.inner.Stacks.{inTimeBy, number, test}
-use Rattle.bench.specs.inner.Choices.{heldAfter, openingIn, passesIn}
+use Rattle.bench.specs.inner.Choices.{openAfter, openingIn, passesIn}
 use Rattle.bench.specs.inner.Running.{isSooner, workBefore, crowdedIn}
 use Rattle.bench.proofs.choice.StackLaws.{inTimeBy-next}
 
@@ -101,20 +101,20 @@ module _ (board : Board) (clock rows i : ℕ) (wide : Wide board) (most : rows �
   abbrev moment : ℕ
   moment = clock + look .limit
 
-  shut : look .held ≡ false
-  shut = not-true (look .held) (and-left (not (look .held)) (look .stays) (and-left _ _ crowded))
+  shut : look .opened ≡ false
+  shut = not-true (look .opened) (and-left (not (look .opened)) (look .stays) (and-left _ _ crowded))
 
   stays : look .stays ≡ true
-  stays = and-right (not (look .held)) (look .stays) (and-left _ _ crowded)
+  stays = and-right (not (look .opened)) (look .stays) (and-left _ _ crowded)
 
   little : look .limit < look .cost + look .rest + workBefore board moment rows
-  little = ltb-true (look .limit) _ (and-right (not (look .held) && look .stays) _ crowded)
+  little = ltb-true (look .limit) _ (and-right (not (look .opened) && look .stays) _ crowded)
 
   -- a window that is due before is another row's
   other : (k : ℕ) → isSooner board moment k ≡ true → (k ≡ i → ⊥)
   other k e q =
-      true-false (lookIn board k .held) (and-left (lookIn board k .held) _ e)
-      (ap (λ x. lookIn board x .held) q ∙ shut)
+      true-false (lookIn board k .opened) (and-left (lookIn board k .opened) _ e)
+      (ap (λ x. lookIn board x .opened) q ∙ shut)
 
   -- at any later moment
   module _ (t : ℕ) (h : clock ≤ t) where
@@ -140,31 +140,31 @@ module _ (board : Board) (clock rows i : ℕ) (wide : Wide board) (most : rows �
           arith,
           due-here,
           getD-set-other (board .due) i k (openingIn board t i + look .limit) 0 (other k e),
-          ltb-true (lookIn board k .due) moment (and-right (lookIn board k .held) _ e),
+          ltb-true (lookIn board k .due) moment (and-right (lookIn board k .opened) _ e),
         )
 
     abbrev list : List ℕ
-    list = sorted (byKey due) (numbersWhere (test (heldAfter board i)) rows)
+    list = sorted (byKey due) (numbersWhere (test (openAfter board i)) rows)
 
     there : 1 ≤ totalIn (λ a. bit (eqb a i)) list
     there =
-        let held : test (heldAfter board i) i ≡ true =
-        getD-set-same (board .held) i (look .stays) false (omega (arith, wide .held-length)) ∙ stays in
-        rw (sorted-numbers-once (byKey due) (test (heldAfter board i)) rows i, lt-ltb i rows l, held) (omega arith)
+        let stands : test (openAfter board i) i ≡ true =
+        getD-set-same (board .opened) i (look .stays) false (omega (arith, wide .opened-length)) ∙ stays in
+        rw (sorted-numbers-once (byKey due) (test (openAfter board i)) rows i, lt-ltb i rows l, stands) (omega arith)
 
-    each : (k : ℕ) → cond (test (heldAfter board i) k) (cond (isSooner board moment k) (left k) 0) 0
+    each : (k : ℕ) → cond (test (openAfter board i) k) (cond (isSooner board moment k) (left k) 0) 0
         ≡ cond (isSooner board moment k) (lookIn board k .left) 0
     each k = go (isSooner board moment k) refl
       where
         go : (b : Bool) → isSooner board moment k ≡ b
-            → cond (test (heldAfter board i) k) (cond b (left k) 0) 0 ≡ cond b (lookIn board k .left) 0
+            → cond (test (openAfter board i) k) (cond b (left k) 0) 0 ≡ cond b (lookIn board k .left) 0
         go true e =
             rw (
-              getD-set-other (board .held) i k (look .stays) false (other k e),
-              and-left (lookIn board k .held) _ e,
+              getD-set-other (board .opened) i k (look .stays) false (other k e),
+              and-left (lookIn board k .opened) _ e,
               getD-set-other (board .left) i k (look .rest) 0 (other k e),
             )
-        go false e = none (test (heldAfter board i) k)
+        go false e = none (test (openAfter board i) k)
           where
             none : (b : Bool) → _≡_ {A = ℕ} (cond b 0 0) 0
             none true = refl
@@ -173,8 +173,8 @@ module _ (board : Board) (clock rows i : ℕ) (wide : Wide board) (most : rows �
     summed : totalIn (work release left due i (isSooner board moment) before) list ≡ workBefore board moment rows
     summed =
         totalIn-sorted (byKey due) (work release left due i (isSooner board moment) before)
-        (numbersWhere (test (heldAfter board i)) rows)
-        ∙ totalIn-numbersWhere (work release left due i (isSooner board moment) before) (test (heldAfter board i)) rows
+        (numbersWhere (test (openAfter board i)) rows)
+        ∙ totalIn-numbersWhere (work release left due i (isSooner board moment) before) (test (openAfter board i)) rows
         ∙ sumTo-ext _ _ rows (λ k b. each k)
 
     -- the plan refuses it
@@ -192,7 +192,7 @@ module _ (board : Board) (clock rows i : ℕ) (wide : Wide board) (most : rows �
               summed,
               getD-set-same (board .left) i (look .rest) 0 (omega (arith, wide .left-length)),
               behind release left due i (isSooner board moment) before (t + look .cost) list
-                  (sorted-in-order (byKey due) (byKey-order due) (numbersWhere (test (heldAfter board i)) rows))
+                  (sorted-in-order (byKey due) (byKey-order due) (numbersWhere (test (openAfter board i)) rows))
                   there e,
             ))
         go false e = refl

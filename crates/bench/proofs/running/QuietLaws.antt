@@ -19,7 +19,7 @@ abbrev pub awaits : Board → ℕ → ℕ → ℕ → ℕ → Bool
 awaits board clock rows lowest j =
     not (crowdedIn board clock rows j)
     && ltb (lookIn board j .finished) (lookIn board j .steps)
-    && (lookIn board j .held || leb (lookIn board j .finished) lowest)
+    && (lookIn board j .opened || leb (lookIn board j .finished) lowest)
 
 -- a moment is not after the release of such a step
 abbrev pub Awaits : Board → ℕ → ℕ → ℕ → ℕ → ℕ → Type 0
@@ -58,7 +58,7 @@ module _ (board : Board) (clock rows lowest next : ℕ) (fits : BoardFits board 
           rw (
             q,
             lt-ltb (look .finished) (look .steps) (candidate-more look t below e),
-            sym (ap (λ x. look .held || x) low) ∙ candidate-allowed look t below e,
+            sym (ap (λ x. look .opened || x) low) ∙ candidate-allowed look t below e,
           )
 
       go : (c : Bool) → crowdedIn board clock rows k ≡ c → c ≡ true

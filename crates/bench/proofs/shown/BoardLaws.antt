@@ -21,7 +21,7 @@ module _ (board : Board) (i : ℕ) (look : Look) where
         getD-set-other (board .opening) i k (look .opening) 0 ne,
         getD-set-other (board .cost) i k (look .cost) 0 ne,
         getD-set-other (board .release) i k (look .release) 0 ne,
-        getD-set-other (board .held) i k (look .held) false ne,
+        getD-set-other (board .opened) i k (look .opened) false ne,
         getD-set-other (board .left) i k (look .left) 0 ne,
         getD-set-other (board .due) i k (look .due) 0 ne,
         getD-set-other (board .wait) i k (look .wait) 0 ne,
@@ -40,7 +40,7 @@ module _ (board : Board) (i : ℕ) (look : Look) where
           getD-set-same (board .opening) i (look .opening) 0 (omega (arith, wide .opening-length)),
           getD-set-same (board .cost) i (look .cost) 0 (omega (arith, wide .cost-length)),
           getD-set-same (board .release) i (look .release) 0 (omega (arith, wide .release-length)),
-          getD-set-same (board .held) i (look .held) false (omega (arith, wide .held-length)),
+          getD-set-same (board .opened) i (look .opened) false (omega (arith, wide .opened-length)),
           getD-set-same (board .left) i (look .left) 0 (omega (arith, wide .left-length)),
           getD-set-same (board .due) i (look .due) 0 (omega (arith, wide .due-length)),
           getD-set-same (board .wait) i (look .wait) 0 (omega (arith, wide .wait-length)),
@@ -58,7 +58,7 @@ module _ (board : Board) (i : ℕ) (look : Look) where
           opening-length = length-set (board .opening) i (look .opening) ∙ wide .opening-length;
           cost-length = length-set (board .cost) i (look .cost) ∙ wide .cost-length;
           release-length = length-set (board .release) i (look .release) ∙ wide .release-length;
-          held-length = length-set (board .held) i (look .held) ∙ wide .held-length;
+          opened-length = length-set (board .opened) i (look .opened) ∙ wide .opened-length;
           left-length = length-set (board .left) i (look .left) ∙ wide .left-length;
           due-length = length-set (board .due) i (look .due) ∙ wide .due-length;
           wait-length = length-set (board .wait) i (look .wait) ∙ wide .wait-length;

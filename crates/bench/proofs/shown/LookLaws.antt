@@ -51,7 +51,7 @@ module _ (row : Row) (f end opening : ℕ) (step : Step) (window later : Window)
         opening = opening;
         cost = step .cost;
         release = moment;
-        held = ltb f (window .last);
+        opened = ltb f (window .last);
         left = left;
         due = opening + window .limit;
         wait = step .wait;

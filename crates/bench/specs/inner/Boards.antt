@@ -21,7 +21,7 @@ lookIn board i =
       opening = getD (board .opening) i 0;
       cost = getD (board .cost) i 0;
       release = getD (board .release) i 0;
-      held = getD (board .held) i false;
+      opened = getD (board .opened) i false;
       left = getD (board .left) i 0;
       due = getD (board .due) i 0;
       wait = getD (board .wait) i 0;
@@ -39,7 +39,7 @@ boardWith board i look =
       opening = set (board .opening) i (look .opening);
       cost = set (board .cost) i (look .cost);
       release = set (board .release) i (look .release);
-      held = set (board .held) i (look .held);
+      opened = set (board .opened) i (look .opened);
       left = set (board .left) i (look .left);
       due = set (board .due) i (look .due);
       wait = set (board .wait) i (look .wait);
@@ -55,7 +55,7 @@ pub record Wide (board : Board) : Type 0 where
   pub opening-length : length (board .opening) ≡ 24
   pub cost-length : length (board .cost) ≡ 24
   pub release-length : length (board .release) ≡ 24
-  pub held-length : length (board .held) ≡ 24
+  pub opened-length : length (board .opened) ≡ 24
   pub left-length : length (board .left) ≡ 24
   pub due-length : length (board .due) ≡ 24
   pub wait-length : length (board .wait) ≡ 24

@@ -24,7 +24,7 @@ abbrev pub candidateBy : Look → ℕ → Bool → Bool
 candidateBy look clock below =
     ltb (look .finished) (look .steps)
     && leb (look .release) clock
-    && (look .held || below)
+    && (look .opened || below)
     && leb (clock + look .cost) lastMoment
 
 -- row i's next step is a candidate
@@ -34,21 +34,21 @@ candidateIn board clock rows i =
 
 -- a row's opening once its next step, started at a moment, is over
 abbrev pub openingBy : Bool → Bool → ℕ → ℕ → ℕ
-openingBy stays held opening clock = cond stays (cond held opening clock) 0
+openingBy stays opened opening clock = cond stays (cond opened opening clock) 0
 
 -- row i's opening once its next step, started at a moment, is over
 abbrev pub openingIn : Board → ℕ → ℕ → ℕ
 openingIn board clock i =
-    openingBy (lookIn board i .stays) (lookIn board i .held) (lookIn board i .opening) clock
+    openingBy (lookIn board i .stays) (lookIn board i .opened) (lookIn board i .opening) clock
 
 -- the open windows once row i's next step is over
-abbrev pub heldAfter : Board → ℕ → List Bool
-heldAfter board i = set (board .held) i (lookIn board i .stays)
+abbrev pub openAfter : Board → ℕ → List Bool
+openAfter board i = set (board .opened) i (lookIn board i .stays)
 
 -- the plan at the end of row i's next step passes: the row is seen as it will be then
 unfoldable pub passesIn : Board → ℕ → ℕ → ℕ → Bool
 passesIn board clock rows i =
-    planBy (record { waiting = heldAfter board i; time = clock + lookIn board i .cost })
+    planBy (record { waiting = openAfter board i; time = clock + lookIn board i .cost })
     (set (board .release) i (clock + lookIn board i .cost + lookIn board i .wait))
     (set (board .left) i (lookIn board i .rest))
     (set (board .due) i (openingIn board clock i + lookIn board i .limit))

@@ -17,7 +17,7 @@ use Rattle.bench.specs.declared.Moved.{Moved}
 use Rattle.bench.specs.inner.Updates.{benchStarted, benchTicked}
 use Rattle.bench.specs.inner.Boards.{lookIn}
 use Rattle.bench.specs.inner.Stacks.{test}
-use Rattle.bench.specs.inner.Choices.{openingIn, heldAfter, ChosenIn}
+use Rattle.bench.specs.inner.Choices.{openingIn, openAfter, ChosenIn}
 
 -- all steps are finished
 abbrev pub finishedIn : Board → ℕ → Bool
@@ -25,12 +25,12 @@ finishedIn board rows = allTo (λ i. leb (lookIn board i .steps) (lookIn board i
 
 -- a bench handed back with its lamps
 abbrev pub handedWith : Bench → Outcome → List Bool → ℕ → Moved
-handedWith bench outcome held rows =
+handedWith bench outcome lit rows =
     record {
       bench = bench;
       outcome = outcome;
-      lamps = wordOf (test held) rows;
-      count = countTo (test held) rows;
+      lamps = wordOf (test lit) rows;
+      count = countTo (test lit) rows;
     }
 
 -- row i's next step as a slot: rows and steps counted from 1
@@ -44,7 +44,7 @@ startedIn bench board rows i =
     handedWith
     (benchStarted bench i (lookIn board i .cost) (openingIn board (bench .clock) i))
     (Start (slotIn bench board i))
-    (heldAfter board i)
+    (openAfter board i)
     rows
 
 -- row r was chosen, and its next step is started; where it is no row, the clock moves one tick
@@ -52,4 +52,4 @@ pub record Stepped (bench : Bench) (board : Board) (rows : ℕ) (moved : Moved) 
   pub row : ℕ
   pub chosen : ChosenIn board (bench .clock) rows row
   pub starts : row < rows → moved ≡ startedIn bench board rows row
-  pub idles : rows ≤ row → moved ≡ handedWith (benchTicked bench) Idle (board .held) rows
+  pub idles : rows ≤ row → moved ≡ handedWith (benchTicked bench) Idle (board .opened) rows

@@ -24,7 +24,7 @@ lookAfter row board clock i =
 
 -- row k's open window is due before a moment
 abbrev pub isSooner : Board → ℕ → ℕ → Bool
-isSooner board moment k = lookIn board k .held && ltb (lookIn board k .due) moment
+isSooner board moment k = lookIn board k .opened && ltb (lookIn board k .due) moment
 
 -- what is left of the open windows that are due before a moment
 abbrev pub workBefore : Board → ℕ → ℕ → ℕ
@@ -34,7 +34,7 @@ workBefore board moment rows =
 -- row i's next step opens a window, and those that are due before it leave too little of its limit
 abbrev pub crowdedIn : Board → ℕ → ℕ → ℕ → Bool
 crowdedIn board clock rows i =
-    not (lookIn board i .held)
+    not (lookIn board i .opened)
     && lookIn board i .stays
     && ltb (lookIn board i .limit)
     (lookIn board i .cost + lookIn board i .rest

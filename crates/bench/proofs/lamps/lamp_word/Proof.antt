@@ -16,11 +16,11 @@ use Rattle.bench.proofs.lamps.lamp_word.Statement.{statement}
 use Rattle.bench.proofs.lamps.lamp_word.Tie as tie
 
 abbrev Inv-loop : tie.InvT-loop
-Inv-loop rows held word₀ place₀ i₀ word place i =
-    (i ≤ rows) × (place ≡ 2 ^ i) × (word ≡ wordOf (λ k. getD held k false) i)
+Inv-loop rows opened word₀ place₀ i₀ word place i =
+    (i ≤ rows) × (place ≡ 2 ^ i) × (word ≡ wordOf (λ k. getD opened k false) i)
 
 abbrev μ-loop : tie.MeasureT-loop
-μ-loop rows held word₀ place₀ i₀ word place i = rows - i
+μ-loop rows opened word₀ place₀ i₀ word place i = rows - i
 
 loop-holds : tie.Need-loop-holds Inv-loop μ-loop
 loop-holds c = (search needs, refl, sym (sumTo-zero _))

@@ -19,7 +19,7 @@ returns c =
     let start = c .before in
     ap₂ (λ (word count : ℕ). handedOf (start .args .bench) (start .args .outcome) word count)
     (c .lamp-word .ensures)
-    (ap ones (c .lamp-word .ensures) ∙ wordOf-ones (test (start .args .held)) (start .args .rows))
+    (ap ones (c .lamp-word .ensures) ∙ wordOf-ones (test (start .args .opened)) (start .args .rows))
 
 pub handed-spec : {M : Type 1} → statement M
 handed-spec = tie.close (tie.spec (λ c κs. search needs) returns)

@@ -4,15 +4,15 @@ use Rattle.bench.proofs.quiet.work_of.Statement.{statement}
 use Rattle.bench.proofs.quiet.work_of.Tie as tie
 
 shut : tie.Need-returns
-shut c = rw (not-true (c .before .args .held) (c .if1 .taken))
+shut c = rw (not-true (c .before .args .opened) (c .if1 .taken))
 
 sooner : tie.Need-returns-2
 sooner c =
-    rw (not-false (c .before .before .args .held) (c .before .if1 .left), lt-ltb _ _ (c .if2 .taken))
+    rw (not-false (c .before .before .args .opened) (c .before .if1 .left), lt-ltb _ _ (c .if2 .taken))
 
 later : tie.Need-returns-3
 later c =
-    rw (not-false (c .before .before .args .held) (c .before .if1 .left), le-ltb _ _ (c .if2 .left))
+    rw (not-false (c .before .before .args .opened) (c .before .if1 .left), le-ltb _ _ (c .if2 .left))
 
 pub work-of-spec : {M : Type 1} → statement M
 work-of-spec = tie.close (tie.spec shut sooner later)

@@ -11,11 +11,11 @@ use borrow.Author.Needs.{needs}
 use Rattle.bench.proofs.runs.look_after.Statement.{statement}
 use Rattle.bench.proofs.runs.look_after.Tie as tie
 
-opening-le : (stays held : Bool) (opening clock : ℕ) → opening ≤ lastMoment → clock ≤ lastMoment
-    → openingBy stays held opening clock ≤ lastMoment
+opening-le : (stays opened : Bool) (opening clock : ℕ) → opening ≤ lastMoment → clock ≤ lastMoment
+    → openingBy stays opened opening clock ≤ lastMoment
 opening-le true true opening clock a b = a
 opening-le true false opening clock a b = b
-opening-le false held opening clock a b = omega arith
+opening-le false opened opening clock a b = omega arith
 
 -- the step is there
 more : (c : tie.Start) → lookIn (c .args .t2) (c .args .i) .finished < 8
@@ -45,7 +45,7 @@ look-of-requires c κs =
         omega (arith, more start),
         ends start,
         rw (c .before .opening-after .ensures)
-            (opening-le (look .stays) (look .held) (look .opening) (start .args .clock)
+            (opening-le (look .stays) (look .opened) (look .opening) (start .args .clock)
             (start .pre .1 .0 .modest (start .args .i) l .opening-most) (start .pre .1 .0 .clock-most)),
       ),
     )

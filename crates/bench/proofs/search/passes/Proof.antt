@@ -28,7 +28,7 @@ add-due c =
     let look = lookIn (start .args .t1) (start .args .i) in
     let clock = start .args .clock in
     let small =
-    openingBy-le (look .stays) (look .held) (look .opening) clock (here .opening-most) (start .pre .0 .clock-most) in
+    openingBy-le (look .stays) (look .opened) (look .opening) clock (here .opening-most) (start .pre .0 .clock-most) in
     omega (arith, here .limit-most, opened .opening-after .ensures, small)
 
 plan-passes-requires : tie.Need-plan-passes-requires
@@ -39,7 +39,7 @@ plan-passes-requires c κs =
     let look = lookIn (start .args .t1) (start .args .i) in
     let clock = start .args .clock in
     let small =
-    openingBy-le (look .stays) (look .held) (look .opening) clock (here .opening-most) (start .pre .0 .clock-most) in
+    openingBy-le (look .stays) (look .opened) (look .opening) clock (here .opening-most) (start .pre .0 .clock-most) in
     plan-fits (start .args .t1) _ _ _ (opened .opening-after .result) (start .pre .0) (start .pre .1)
     (rw (opened .opening-after .ensures) small)
 
