@@ -15,7 +15,7 @@ use Rattle.load.specs.Load.{rowAt, stepAt}
 use Rattle.load.specs.View.{viewOf, embedded, rowWindows, embeddedAmong}
 use Rattle.rules.specs.Cut.{kept}
 use Rattle.rules.proofs.cut.CutBound.{keptCosts, keptWaits}
-use Rattle.bound.specs.inner.Parts.{keptFrom, keptOf, waitIn}
+use Rattle.bound.specs.inner.CutTerms.{keptFrom, keptOf, waitIn}
 
 -- a search over places stops at j
 pub record Stops (row : Row) (first j : ℕ) : Type 0 where

@@ -11,7 +11,7 @@ use lib.ListN.{length, set, List·getD-eq-default}
 use lib.Seq.{set-out, getD-set-same, getD-set-other}
 use Rattle.counting.proofs.tests.TestLaws.{and-right}
 use Rattle.counting.proofs.sorting.PairLaws.{pairsSmallest, pairsSmallest-ext}
-use Rattle.bound.specs.inner.Parts.{at, isMarked, isOther, Costed}
+use Rattle.bound.specs.inner.Marks.{at, isMarked, isOther, Costed}
 
 module _ (marks : List Bool) (i : ℕ) where
   unmarked : isMarked (set marks i false) i ≡ false

@@ -17,7 +17,7 @@ use Rattle.counting.proofs.sorting.PairLaws.{pairsSmallest, pairsSmallest-is, p
 use Rattle.load.specs.View.{View, isFree, embedded}
 use Rattle.load.specs.Acceptable.{Acceptable}
 use Rattle.rules.specs.Bound.{waitLeft, largestW, isPartner, partners, pairCosts, smallestCosts}
-use Rattle.bound.specs.inner.Parts.{at, isMarked, isOther, Costed}
+use Rattle.bound.specs.inner.Marks.{at, isMarked, isOther, Costed}
 
 pub smallestCosts-is : (L : View) (j i : ℕ)
     → smallestCosts L j i ≡ pairsSmallest (λ k. L .cost k j) (λ k. L .cost k (suc j)) (isPartner L j i) (L .rows)

@@ -14,7 +14,7 @@ ghost use Rattle.load.specs.Acceptable.{Acceptable};
 ghost use Rattle.rules.specs.Cut.{cut};
 ghost use Rattle.rules.specs.Bound.{bound};
 ghost use Rattle.rules.proofs.bound.BoundLaws.{largestBound};
-ghost use Rattle.bound.specs.inner.Parts.{waitsBelow};
+ghost use Rattle.bound.specs.inner.CutTerms.{waitsBelow};
 
 // Gives for each place the sum of the largest W's of the places below it.
 fn waits_below(load: Load) -> [u32; MOST_STEPS]

@@ -12,7 +12,7 @@ ghost use Rattle.load.specs.View.{viewOf};
 ghost use Rattle.load.specs.Acceptable.{Acceptable};
 ghost use Rattle.rules.specs.Bound.{largestPhase};
 ghost use Rattle.rules.proofs.cut.CutBound.{keptCosts, keptWaits};
-ghost use Rattle.bound.specs.inner.Parts.{keptOf, waitIn};
+ghost use Rattle.bound.specs.inner.CutTerms.{keptOf, waitIn};
 
 // Gives the smaller of two numbers.
 fn smaller(a: usize, b: usize) -> usize

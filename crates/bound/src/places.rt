@@ -10,7 +10,7 @@ ghost use mathlib.Core.Path.{_≡_};
 ghost use Prim.Native.Nat.{_+_, _≤_, _<_};
 ghost use Rattle.counting.specs.Lists.{filled};
 ghost use Rattle.load.specs.Load.{mostRows, rowAt, stepAt};
-ghost use Rattle.bound.specs.inner.Parts.{freeIn, freesAt};
+ghost use Rattle.bound.specs.inner.Marks.{freeIn, freesAt};
 
 // Says whether a row has a step at a place and that step is free.
 fn free_in(row: Row, j: usize) -> bool

@@ -15,7 +15,7 @@ ghost use Rattle.counting.proofs.sorting.PairLaws.{
   Splits,
 };
 ghost use Rattle.load.specs.Load.{mostRows, largestCost};
-ghost use Rattle.bound.specs.inner.Parts.{at, isMarked, Costed};
+ghost use Rattle.bound.specs.inner.Marks.{at, isMarked, Costed};
 
 // Gives how many of the first n rows are marked.
 fn count_marked(n: usize, marks: &[bool; MOST_ROWS]) -> u32

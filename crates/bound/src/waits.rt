@@ -16,7 +16,7 @@ ghost use Rattle.load.specs.Load.{mostRows};
 ghost use Rattle.load.specs.View.{viewOf};
 ghost use Rattle.load.specs.Acceptable.{Acceptable};
 ghost use Rattle.rules.specs.Bound.{smallestCosts, largestW};
-ghost use Rattle.bound.specs.inner.Parts.{at, isMarked, isOther, Costed, freesAt};
+ghost use Rattle.bound.specs.inner.Marks.{at, isMarked, isOther, Costed, freesAt};
 
 // Gives the larger of two numbers.
 fn larger(a: u16, b: u16) -> u16

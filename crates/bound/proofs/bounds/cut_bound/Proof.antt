@@ -8,7 +8,7 @@ use Rattle.counting.proofs.lists.ListLaws.{getD-listTo}
 use Rattle.load.specs.View.{viewOf}
 use Rattle.rules.specs.Cut.{cut}
 use Rattle.rules.specs.Bound.{bound}
-use Rattle.bound.specs.inner.Parts.{waitsBelow}
+use Rattle.bound.specs.inner.CutTerms.{waitsBelow}
 use Rattle.bound.proofs.AcceptedLaws.{cut-bound-is, cut-bound-le}
 use Rattle.bound.proofs.bounds.cut_bound.Statement.{statement}
 use Rattle.bound.proofs.bounds.cut_bound.Tie as tie

@@ -8,7 +8,7 @@ use Rattle.counting.proofs.lists.ListLaws.{filled-none, filled-stored, filled-a
 use Rattle.load.specs.View.{View, viewOf}
 use Rattle.rules.specs.Cut.{cut}
 use Rattle.rules.specs.Bound.{bound}
-use Rattle.bound.specs.inner.Parts.{waitsBelow}
+use Rattle.bound.specs.inner.CutTerms.{waitsBelow}
 use Rattle.bound.proofs.bounds.cut_bounds.Statement.{statement}
 use Rattle.bound.proofs.bounds.cut_bounds.Tie as tie
 

@@ -10,7 +10,7 @@ use Rattle.counting.proofs.sums.SumLaws.{sumTo-next}
 use Rattle.counting.proofs.lists.ListLaws.{filled-stored, filled-all}
 use Rattle.load.specs.View.{View, viewOf}
 use Rattle.rules.specs.Bound.{largestW, smallestCosts}
-use Rattle.bound.specs.inner.Parts.{waitsBelow}
+use Rattle.bound.specs.inner.CutTerms.{waitsBelow}
 use Rattle.bound.proofs.bounds.waits_below.Statement.{statement}
 use Rattle.bound.proofs.bounds.waits_below.Tie as tie
 

@@ -7,7 +7,7 @@ use native.Mathlib.Omega.{arith}
 use borrow.Author.Needs.{needs}
 use borrow.Author.Tests.{not-true, not-false}
 use Rattle.load.specs.View.{rowWindows, embeddedAmong}
-use Rattle.bound.specs.inner.Parts.{keptFrom}
+use Rattle.bound.specs.inner.CutTerms.{keptFrom}
 use Rattle.bound.proofs.KeptLaws.{keptFrom-is}
 use Rattle.bound.proofs.cut.kept_of.Statement.{statement}
 use Rattle.bound.proofs.cut.kept_of.Tie as tie

@@ -6,7 +6,7 @@ use native.Mathlib.Omega.{arith}
 use borrow.Author.Needs.{needs}
 use Rattle.counting.specs.Sums.{sumTo}
 use Rattle.load.specs.Load.{stepAt}
-use Rattle.bound.specs.inner.Parts.{waitIn}
+use Rattle.bound.specs.inner.CutTerms.{waitIn}
 use Rattle.bound.proofs.KeptLaws.{keptOf-le, le-keptOf}
 use Rattle.bound.proofs.cut.row_ticks.Statement.{statement}
 use Rattle.bound.proofs.cut.row_ticks.Tie as tie

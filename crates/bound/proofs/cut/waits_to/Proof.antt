@@ -5,7 +5,7 @@ use native.Mathlib.Omega.{arith}
 use borrow.Author.Needs.{needs}
 use Rattle.counting.specs.Sums.{sumTo}
 use Rattle.counting.proofs.sums.SumLaws.{sumTo-zero, sumTo-next}
-use Rattle.bound.specs.inner.Parts.{waitIn}
+use Rattle.bound.specs.inner.CutTerms.{waitIn}
 use Rattle.bound.proofs.cut.waits_to.Statement.{statement}
 use Rattle.bound.proofs.cut.waits_to.Tie as tie
 

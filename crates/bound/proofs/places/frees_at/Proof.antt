@@ -8,7 +8,7 @@ use Rattle.counting.specs.Lists.{filled}
 use Rattle.counting.proofs.lists.ListLaws.{filled-none, filled-stored}
 use Rattle.load.specs.declared.Load.{Load}
 use Rattle.load.specs.Load.{rowAt}
-use Rattle.bound.specs.inner.Parts.{freeIn}
+use Rattle.bound.specs.inner.Marks.{freeIn}
 use Rattle.bound.proofs.places.frees_at.Statement.{statement}
 use Rattle.bound.proofs.places.frees_at.Tie as tie
 

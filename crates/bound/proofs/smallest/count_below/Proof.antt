@@ -4,7 +4,7 @@ use mathlib.Core.Path.{_≡_, sym, _∙_, ap}
 use native.Mathlib.Omega.{arith}
 use borrow.Author.Needs.{needs}
 use Rattle.counting.proofs.sorting.PairLaws.{pairsBelow, pairsBelow-none, pairsBelow-next}
-use Rattle.bound.specs.inner.Parts.{at, isMarked}
+use Rattle.bound.specs.inner.Marks.{at, isMarked}
 use Rattle.bound.proofs.smallest.count_below.Statement.{statement}
 use Rattle.bound.proofs.smallest.count_below.Tie as tie
 

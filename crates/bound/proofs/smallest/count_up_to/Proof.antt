@@ -9,7 +9,7 @@ use lib.Dec.{leb}
 use mir.Val.{boolByte}
 use Rattle.counting.specs.Sums.{bit}
 use Rattle.counting.proofs.sorting.PairLaws.{pairsUpTo, pairTotal-zero, pairTotal-next}
-use Rattle.bound.specs.inner.Parts.{at, isMarked}
+use Rattle.bound.specs.inner.Marks.{at, isMarked}
 use Rattle.bound.proofs.FlagLaws.{boolByte-bit, bit-le}
 use Rattle.bound.proofs.smallest.count_up_to.Statement.{statement}
 use Rattle.bound.proofs.smallest.count_up_to.Tie as tie

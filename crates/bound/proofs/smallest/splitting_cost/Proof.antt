@@ -11,7 +11,7 @@ use Rattle.counting.proofs.sorting.PairLaws.{
   pairsBelow-next,
   countTo-pairsUpTo-le,
 }
-use Rattle.bound.specs.inner.Parts.{at, isMarked}
+use Rattle.bound.specs.inner.Marks.{at, isMarked}
 use Rattle.bound.proofs.smallest.splitting_cost.Statement.{statement}
 use Rattle.bound.proofs.smallest.splitting_cost.Tie as tie
 

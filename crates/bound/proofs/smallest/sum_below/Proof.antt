@@ -5,7 +5,7 @@ use mathlib.Core.Logic.{⊎-elim}
 use native.Mathlib.Omega.{arith}
 use borrow.Author.Needs.{needs}
 use Rattle.counting.proofs.sorting.PairLaws.{pairsSumBelow, pairTotal-zero, pairTotal-next}
-use Rattle.bound.specs.inner.Parts.{at, isMarked}
+use Rattle.bound.specs.inner.Marks.{at, isMarked}
 use Rattle.bound.proofs.smallest.sum_below.Statement.{statement}
 use Rattle.bound.proofs.smallest.sum_below.Tie as tie
 

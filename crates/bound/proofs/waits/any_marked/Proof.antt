@@ -6,7 +6,7 @@ use native.Mathlib.Omega.{arith}
 use borrow.Author.Needs.{needs}
 use Rattle.counting.specs.Sums.{anyTo}
 use Rattle.counting.proofs.tests.TestLaws.{or-neither, anyTo-zero, anyTo-next, true-anyTo}
-use Rattle.bound.specs.inner.Parts.{isMarked}
+use Rattle.bound.specs.inner.Marks.{isMarked}
 use Rattle.bound.proofs.waits.any_marked.Statement.{statement}
 use Rattle.bound.proofs.waits.any_marked.Tie as tie
 

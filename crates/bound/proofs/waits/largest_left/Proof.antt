@@ -9,7 +9,7 @@ use borrow.Author.Needs.{needs}
 use Rattle.counting.specs.Sums.{maxTo}
 use Rattle.counting.proofs.sums.SumLaws.{maxTo-zero, maxTo-next}
 use Rattle.counting.proofs.sorting.PairLaws.{pairsSmallest}
-use Rattle.bound.specs.inner.Parts.{at, isMarked, isOther}
+use Rattle.bound.specs.inner.Marks.{at, isMarked, isOther}
 use Rattle.bound.proofs.waits.largest_left.Statement.{statement}
 use Rattle.bound.proofs.waits.largest_left.Tie as tie
 

@@ -7,7 +7,7 @@ use borrow.Author.Needs.{needs}
 use Rattle.counting.specs.Lists.{filled}
 use Rattle.load.specs.Load.{rowAt, stepAt}
 use Rattle.load.specs.View.{viewOf, embedded}
-use Rattle.bound.specs.inner.Parts.{freeIn, freesAt}
+use Rattle.bound.specs.inner.Marks.{freeIn, freesAt}
 use Rattle.bound.proofs.AcceptedLaws.{accepted-few}
 use Rattle.bound.proofs.PlaceLaws.{AtPlace, place-costed, largestW-read}
 use Rattle.bound.proofs.waits.largest_of.Statement.{statement}

@@ -4,7 +4,7 @@ use mathlib.Core.Path.{sym, _∙_, ap}
 use native.Mathlib.Numerals.{add-one}
 use borrow.Author.Needs.{needs}
 use Rattle.load.specs.View.{viewOf, embedded}
-use Rattle.bound.specs.inner.Parts.{freesAt}
+use Rattle.bound.specs.inner.Marks.{freesAt}
 use Rattle.bound.proofs.AcceptedLaws.{accepted-few}
 use Rattle.bound.proofs.PlaceLaws.{largestW-none}
 use Rattle.bound.proofs.waits.largest_w.Statement.{statement}

@@ -4,7 +4,7 @@ use mathlib.Core.Path.{_≡_, _∙_, ap}
 use native.Mathlib.Omega.{arith}
 use borrow.Author.Needs.{needs}
 use Rattle.counting.proofs.sorting.PairLaws.{pairsSmallest}
-use Rattle.bound.specs.inner.Parts.{at, isOther}
+use Rattle.bound.specs.inner.Marks.{at, isOther}
 use Rattle.bound.proofs.MarkLaws.{Costed-others, pairsSmallest-others}
 use Rattle.bound.proofs.waits.wait_left.Statement.{statement}
 use Rattle.bound.proofs.waits.wait_left.Tie as tie

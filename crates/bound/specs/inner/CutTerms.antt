@@ -1,0 +1,28 @@
+-- The terms of the bound of a load that is cut, as the code adds them up: the steps that a row
+-- keeps, its embedded waits, and the largest W's. The promises do not cite this page: laws join it
+-- to document 01's definitions.
+use Prim.Native.Nat.{ℕ, suc, _+_, _-_, min}
+use mathlib.Core.Bool.{cond, not}
+use Rattle.counting.specs.Sums.{sumTo}
+use Rattle.counting.specs.Searches.{firstTo}
+use Rattle.load.specs.declared.Row.{Row}
+use Rattle.load.specs.Load.{stepAt}
+use Rattle.load.specs.View.{View, rowWindows, embeddedAmong}
+use Rattle.rules.specs.Bound.{largestW, smallestCosts}
+
+-- how many steps a row keeps that keeps its first ones for certain
+unfoldable pub keptFrom : Row → ℕ → ℕ
+keptFrom row first =
+    first + firstTo (λ d. not (embeddedAmong (first + d) (rowWindows row))) (row .steps - first)
+
+-- how many steps a row keeps when the load is cut at m
+abbrev pub keptOf : Row → ℕ → ℕ
+keptOf row m = keptFrom row (min m (row .steps))
+
+-- the wait after step j of a row, where it is embedded
+abbrev pub waitIn : Row → ℕ → ℕ
+waitIn row j = cond (embeddedAmong (suc j) (rowWindows row)) (stepAt row j .wait) 0
+
+-- the largest W's of the first k places, added
+abbrev pub waitsBelow : View → ℕ → ℕ
+waitsBelow L k = sumTo (largestW smallestCosts L) k

@@ -1,0 +1,38 @@
+-- The rows marked at a place: those that have a free step there, and those whose costs there are
+-- taken. The promises do not cite this page: laws join it to document 01's definitions.
+use Prim.Native.Nat.{ℕ, _≤_, _<_}
+use mathlib.Core.Bool.{Bool, true, false, _&&_, not}
+use mathlib.Core.List.{List}
+use mathlib.Core.Path.{_≡_}
+use lib.Dec.{eqb, ltb}
+use lib.ListN.{getD}
+use Rattle.counting.specs.Lists.{filled}
+use Rattle.load.specs.declared.Row.{Row}
+use Rattle.load.specs.declared.Load.{Load}
+use Rattle.load.specs.Load.{mostRows, largestCost, rowAt}
+use Rattle.load.specs.View.{rowWindows, embeddedAmong}
+
+-- a row's number at a place
+abbrev pub at : List ℕ → ℕ → ℕ
+at numbers k = getD numbers k 0
+
+-- whether a row is marked
+abbrev pub isMarked : List Bool → ℕ → Bool
+isMarked marks k = getD marks k false
+
+-- whether a row other than i is marked
+abbrev pub isOther : List Bool → ℕ → ℕ → Bool
+isOther marks i k = not (eqb k i) && isMarked marks k
+
+-- at most 24 rows, of which each that is marked has a cost within its range
+pub record Costed (n : ℕ) (costs : List ℕ) (marks : List Bool) : Type 0 where
+  pub few : n ≤ mostRows
+  pub small : (k : ℕ) → k < n → isMarked marks k ≡ true → at costs k ≤ largestCost
+
+-- a row has a step at place j, and it is free
+abbrev pub freeIn : Row → ℕ → Bool
+freeIn row j = ltb j (row .steps) && not (embeddedAmong j (rowWindows row))
+
+-- the rows of a load that have a free step at place j
+abbrev pub freesAt : Load → ℕ → List Bool
+freesAt load j = filled (λ i. freeIn (rowAt load i) j) (load .rows) mostRows false
