@@ -19,6 +19,7 @@ use rules::Slot;
 ghost use mathlib.Core.Path.{_≡_};
 ghost use mathlib.Core.Bool.{true};
 ghost use Prim.Native.Nat.{ℕ, _≤_, _<_};
+ghost use Rattle.counting.specs.Lists.{memberAt};
 ghost use Rattle.refusals.specs.declared.Checked.the-variants.{Good};
 ghost use Rattle.load.specs.Check.{checkLoad};
 ghost use Rattle.load.specs.View.{viewOf};
@@ -26,7 +27,6 @@ ghost use Rattle.rules.specs.State.{shaped};
 ghost use Rattle.rules.specs.Move.{move};
 ghost use Rattle.bench.specs.Held.{stateOf, handedOn, refusedWith};
 ghost use Rattle.bench.specs.inner.Boards.{lookIn};
-ghost use Rattle.bench.specs.inner.Stacks.{number};
 ghost use Rattle.bench.specs.inner.Choices.{BoardFits};
 ghost use Rattle.bench.specs.inner.Moves.{finishedIn, handedWith, startedIn, Stepped};
 ghost use Rattle.bench.specs.Calls.{NextMove};
@@ -83,7 +83,7 @@ fn done(bench: Bench, board: Board, rows: usize) -> Moved
 fn started(bench: Bench, board: Board, rows: usize, i: usize) -> Moved
     requires { ⌜ BoardFits board (bench .clock) rows ⌝ }
     requires { ⌜ (i < rows) × (lookIn board i .finished < 8)
-        × (number (bench .finished) i ≡ lookIn board i .finished) ⌝ }
+        × (memberAt (bench .finished) i ≡ lookIn board i .finished) ⌝ }
     ensures { λ r. ⌜ r ≡ startedIn bench board rows i ⌝ }
 {
     let clock = bench.clock;
@@ -102,7 +102,7 @@ fn started(bench: Bench, board: Board, rows: usize, i: usize) -> Moved
 // Starts the first candidate that passes, or moves the clock one tick.
 fn start_or_idle(bench: Bench, board: Board, rows: usize) -> Moved
     requires { ⌜ BoardFits board (bench .clock) rows ⌝ }
-    requires { ⌜ ((i : ℕ) → i < rows → number (bench .finished) i ≡ lookIn board i .finished) ⌝ }
+    requires { ⌜ ((i : ℕ) → i < rows → memberAt (bench .finished) i ≡ lookIn board i .finished) ⌝ }
     ensures { λ r. ⌜ Stepped bench board rows r ⌝ }
 {
     let i = search(board, bench.clock, rows);

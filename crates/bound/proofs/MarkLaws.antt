@@ -9,9 +9,10 @@ use borrow.Author.Tests.{eq-eqb, ne-eqb}
 use lib.Dec.{eqb}
 use lib.ListN.{length, set, List·getD-eq-default}
 use lib.Seq.{set-out, getD-set-same, getD-set-other}
+use Rattle.counting.specs.Lists.{memberAt, isMarked}
 use Rattle.counting.proofs.tests.TestLaws.{and-right}
 use Rattle.counting.proofs.sorting.PairLaws.{pairsSmallest, pairsSmallest-ext}
-use Rattle.bound.specs.inner.Marks.{at, isMarked, isOther, Costed}
+use Rattle.bound.specs.inner.Marks.{isOther, Costed}
 
 module _ (marks : List Bool) (i : ℕ) where
   unmarked : isMarked (set marks i false) i ≡ false
@@ -42,8 +43,9 @@ module _ (marks : List Bool) (i : ℕ) where
       }
 
   pub pairsSmallest-others : (here next : List ℕ) (n : ℕ)
-      → pairsSmallest (at here) (at next) (isMarked (set marks i false)) n
-      ≡ pairsSmallest (at here) (at next) (isOther marks i) n
+      → pairsSmallest (memberAt here) (memberAt next) (isMarked (set marks i false)) n
+      ≡ pairsSmallest (memberAt here) (memberAt next) (isOther marks i) n
   pairsSmallest-others here next n =
-      pairsSmallest-ext (at here) (at here) (at next) (at next) (isMarked (set marks i false)) (isOther marks i) n
+      pairsSmallest-ext (memberAt here) (memberAt here) (memberAt next) (memberAt next)
+      (isMarked (set marks i false)) (isOther marks i) n
       (λ k l. refl) (λ k l. refl) (λ k l. isOther-is k)

@@ -8,7 +8,7 @@ use borrow.Author.Tests.{ltb-true}
 use lib.Dec.{eqb, ltb}
 use lib.ListN.{getD}
 use Rattle.counting.specs.Sums.{anyTo, maxTo}
-use Rattle.counting.specs.Lists.{filled}
+use Rattle.counting.specs.Lists.{filled, memberAt, isMarked}
 use Rattle.counting.proofs.sums.SumLaws.{maxTo-ext}
 use Rattle.counting.proofs.sums.MaxLaws.{maxTo-none}
 use Rattle.counting.proofs.tests.TestLaws.{and-left, anyTo-false}
@@ -17,7 +17,7 @@ use Rattle.counting.proofs.sorting.PairLaws.{pairsSmallest, pairsSmallest-is, p
 use Rattle.load.specs.View.{View, isFree, embedded}
 use Rattle.load.specs.Acceptable.{Acceptable}
 use Rattle.rules.specs.Bound.{waitLeft, largestW, isPartner, partners, pairCosts, smallestCosts}
-use Rattle.bound.specs.inner.Marks.{at, isMarked, isOther, Costed}
+use Rattle.bound.specs.inner.Marks.{isOther, Costed}
 
 pub smallestCosts-is : (L : View) (j i : ℕ)
     → smallestCosts L j i ≡ pairsSmallest (λ k. L .cost k j) (λ k. L .cost k (suc j)) (isPartner L j i) (L .rows)
@@ -51,9 +51,10 @@ module _ (L : View) (j : ℕ) (here next : List ℕ) (pairs : List Bool) (waits 
             rw (read _ _ 24 0 here (h .here-is) k l) (ok .cost-most k j l there);
       }
 
-  smallest-read : (i : ℕ) → pairsSmallest (at here) (at next) (isOther pairs i) (L .rows) ≡ smallestCosts L j i
+  smallest-read : (i : ℕ)
+      → pairsSmallest (memberAt here) (memberAt next) (isOther pairs i) (L .rows) ≡ smallestCosts L j i
   smallest-read i =
-      pairsSmallest-ext (at here) (λ k. L .cost k j) (at next) (λ k. L .cost k (suc j)) (isOther pairs i)
+      pairsSmallest-ext (memberAt here) (λ k. L .cost k j) (memberAt next) (λ k. L .cost k (suc j)) (isOther pairs i)
       (isPartner L j i) (L .rows) (read _ _ 24 0 here (h .here-is)) (read _ _ 24 0 next (h .next-is))
       (λ k l.
       ap (λ b. not (eqb k i) && b) (read _ _ 24 false pairs (h .pairs-is) k l)
@@ -61,13 +62,15 @@ module _ (L : View) (j : ℕ) (here next : List ℕ) (pairs : List Bool) (waits 
       ∙ sym (smallestCosts-is L j i)
 
   pub largestW-read : maxTo
-      (λ i. cond (isMarked frees i) (at waits i - pairsSmallest (at here) (at next) (isOther pairs i) (L .rows)) 0)
+      (λ i. cond (isMarked frees i)
+      (memberAt waits i - pairsSmallest (memberAt here) (memberAt next) (isOther pairs i) (L .rows)) 0)
       (L .rows)
       ≡ largestW smallestCosts L j
   unfolding largestW
   largestW-read =
       maxTo-ext
-      (λ i. cond (isMarked frees i) (at waits i - pairsSmallest (at here) (at next) (isOther pairs i) (L .rows)) 0)
+      (λ i. cond (isMarked frees i)
+      (memberAt waits i - pairsSmallest (memberAt here) (memberAt next) (isOther pairs i) (L .rows)) 0)
       (waitLeft smallestCosts L j) (L .rows)
       (λ i l.
       ap₂ (λ b w. cond b w 0) (read _ _ 24 false frees (h .frees-is) i l)

@@ -7,6 +7,7 @@ ghost use mathlib.Core.Bool.{cond};
 ghost use Prim.Native.Nat.{_*_, _≤_};
 ghost use lib.Dec.{ltb};
 ghost use Rattle.counting.specs.Sums.{countTo};
+ghost use Rattle.counting.specs.Lists.{memberAt, isMarked};
 ghost use Rattle.counting.proofs.sorting.PairLaws.{
   pairsSmallest,
   pairsUpTo,
@@ -15,7 +16,7 @@ ghost use Rattle.counting.proofs.sorting.PairLaws.{
   Splits,
 };
 ghost use Rattle.load.specs.Load.{mostRows, largestCost};
-ghost use Rattle.bound.specs.inner.Marks.{at, isMarked, Costed};
+ghost use Rattle.bound.specs.inner.Marks.{Costed};
 
 // Gives how many of the first n rows are marked.
 fn count_marked(n: usize, marks: &[bool; MOST_ROWS]) -> u32
@@ -39,7 +40,8 @@ fn count_up_to(
 ) -> u32
     requires { ⌜ n ≤ mostRows ⌝ }
     ensures { λ r. ⌜ r ≡ pairsUpTo
-        (at (now (here .entry))) (at (now (next .entry))) (isMarked (now (marks .entry))) n t ⌝ }
+        (memberAt (now (here .entry))) (memberAt (now (next .entry)))
+        (isMarked (now (marks .entry))) n t ⌝ }
 {
     let mut count: u32 = 0;
     for k in 0..n {
@@ -60,7 +62,8 @@ fn count_below(
 ) -> u32
     requires { ⌜ n ≤ mostRows ⌝ }
     ensures { λ r. ⌜ r ≡ pairsBelow
-        (at (now (here .entry))) (at (now (next .entry))) (isMarked (now (marks .entry))) n t ⌝ }
+        (memberAt (now (here .entry))) (memberAt (now (next .entry)))
+        (isMarked (now (marks .entry))) n t ⌝ }
 {
     if t == 0 {
         return 0;
@@ -85,7 +88,8 @@ fn sum_below(
 ) -> u32
     requires { ⌜ n ≤ mostRows ⌝ }
     ensures { λ r. ⌜ (r ≡ pairsSumBelow
-        (at (now (here .entry))) (at (now (next .entry))) (isMarked (now (marks .entry))) n t)
+        (memberAt (now (here .entry))) (memberAt (now (next .entry)))
+        (isMarked (now (marks .entry))) n t)
         × (r ≤ 131070 * n) ⌝ }
 {
     let mut sum: u32 = 0;
@@ -109,7 +113,8 @@ fn splitting_cost(
     requires { ⌜ Costed n (now here) (now marks)
         × (r ≡ countTo (isMarked (now marks)) n) ⌝ }
     ensures { λ t. ⌜ Splits
-        (at (now (here .entry))) (at (now (next .entry))) (isMarked (now (marks .entry))) n t
+        (memberAt (now (here .entry))) (memberAt (now (next .entry)))
+        (isMarked (now (marks .entry))) n t
         × (t ≤ largestCost) ⌝ }
 {
     let mut low: u16 = 0;
@@ -134,7 +139,8 @@ pub fn smallest_sum(
 ) -> u32
     requires { ⌜ Costed n (now here) (now marks) ⌝ }
     ensures { λ r. ⌜ r ≡ pairsSmallest
-        (at (now (here .entry))) (at (now (next .entry))) (isMarked (now (marks .entry))) n ⌝ }
+        (memberAt (now (here .entry))) (memberAt (now (next .entry)))
+        (isMarked (now (marks .entry))) n ⌝ }
 {
     let r = count_marked(n, marks);
     let t = splitting_cost(n, here, next, marks, r);

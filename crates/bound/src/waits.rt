@@ -11,12 +11,13 @@ ghost use mathlib.Core.Bool.{cond};
 ghost use mathlib.Core.Path.{_≡_};
 ghost use Prim.Native.Nat.{_+_, _-_, _≤_, _<_, max};
 ghost use Rattle.counting.specs.Sums.{anyTo, maxTo};
+ghost use Rattle.counting.specs.Lists.{memberAt, isMarked};
 ghost use Rattle.counting.proofs.sorting.PairLaws.{pairsSmallest};
 ghost use Rattle.load.specs.Load.{mostRows};
 ghost use Rattle.load.specs.View.{viewOf};
 ghost use Rattle.load.specs.Acceptable.{Acceptable};
 ghost use Rattle.rules.specs.Bound.{smallestCosts, largestW};
-ghost use Rattle.bound.specs.inner.Marks.{at, isMarked, isOther, Costed, freesAt};
+ghost use Rattle.bound.specs.inner.Marks.{isOther, Costed, freesAt};
 
 // Gives the larger of two numbers.
 fn larger(a: u16, b: u16) -> u16
@@ -37,7 +38,7 @@ fn wait_left(
 ) -> u16
     requires { ⌜ Costed n (now here) pairs × (i < n) ⌝ }
     ensures { λ r. ⌜ r ≡ wait - pairsSmallest
-        (at (now (here .entry))) (at (now (next .entry))) (isOther pairs i) n ⌝ }
+        (memberAt (now (here .entry))) (memberAt (now (next .entry))) (isOther pairs i) n ⌝ }
 {
     let mut others = pairs;
     others[i] = false;
@@ -60,8 +61,8 @@ fn largest_left(
 ) -> u16
     requires { ⌜ Costed n (now here) pairs ⌝ }
     ensures { λ r. ⌜ r ≡ maxTo (λ i. cond (isMarked (now (frees .entry)) i)
-        (at (now (waits .entry)) i - pairsSmallest
-        (at (now (here .entry))) (at (now (next .entry))) (isOther pairs i) n) 0) n ⌝ }
+        (memberAt (now (waits .entry)) i - pairsSmallest
+        (memberAt (now (here .entry))) (memberAt (now (next .entry))) (isOther pairs i) n) 0) n ⌝ }
 {
     let mut most: u16 = 0;
     for i in 0..n {

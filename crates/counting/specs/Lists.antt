@@ -1,8 +1,9 @@
--- Lists made from the numbers 0 .. n - 1, and sums, tests and choices over a list.
+-- Lists made from the numbers 0 .. n - 1, sums, tests and choices over a list, and what stands at a
+-- place of one.
 use Prim.Native.Nat.{ℕ, zero, suc, _+_, _-_}
 use mathlib.Core.Bool.{Bool, false, cond, _||_}
 use mathlib.Core.List.{List, [], _∷_, _++_}
-use lib.ListN.{replicate}
+use lib.ListN.{getD, replicate}
 use lib.Dec.{eqb}
 
 module _ {A : Type 0} where
@@ -43,6 +44,14 @@ module _ {A : Type 0} where
 unfoldable pub sumIn : List ℕ → ℕ
 sumIn [] = 0
 sumIn (a ∷ rest) = a + sumIn rest
+
+-- the member at a place of a list of numbers, and 0 past its end
+abbrev pub memberAt : List ℕ → ℕ → ℕ
+memberAt numbers i = getD numbers i 0
+
+-- whether a list marks a place; past its end none is marked
+abbrev pub isMarked : List Bool → ℕ → Bool
+isMarked marks i = getD marks i false
 
 -- the numbers below n that have p, rising
 abbrev pub numbersWhere : (ℕ → Bool) → ℕ → List ℕ

@@ -2,7 +2,7 @@
 -- list of bytes.
 use Prim.Native.Nat.{ℕ, zero, suc, _+_, _*_, _/_, _%_, _<_}
 use mathlib.Core.List.{List, [], _∷_}
-use lib.ListN.{getD}
+use Rattle.counting.specs.Lists.{memberAt}
 
 -- the width lowest bytes of a number, lowest first
 unfoldable pub littleEndian : ℕ → ℕ → List ℕ
@@ -11,7 +11,7 @@ littleEndian (suc width) n = n % 256 ∷ littleEndian width (n / 256)
 
 -- the byte at a place, and 0 past the end
 abbrev pub byteAt : List ℕ → ℕ → ℕ
-byteAt bs at = getD bs at 0
+byteAt bs at = memberAt bs at
 
 -- the number of width bytes from a place on
 unfoldable pub numberAt : ℕ → List ℕ → ℕ → ℕ

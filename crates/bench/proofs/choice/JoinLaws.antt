@@ -4,6 +4,7 @@ use Prim.Native.Nat.{ℕ, _<_}
 use mathlib.Core.Bool.{Bool}
 use mathlib.Core.List.{List, [], _∷_}
 use mathlib.Core.Path.{_≡_, refl, ap, sym, _∙_}
+use Rattle.counting.specs.Lists.{memberAt, isMarked}
 use Rattle.counting.proofs.sorting.SortLaws.{Every}
 use Rattle.counting.proofs.sorting.KeyLaws.{sorted-same}
 use Rattle.load.specs.declared.Load.{Load}
@@ -21,33 +22,33 @@ use Rattle.bench.specs.declared.Board.{Board}
 use Rattle.bench.specs.Held.{stateOf}
 use Rattle.bench.specs.inner.Looks.{further, lookOf}
 use Rattle.bench.specs.inner.Boards.{lookIn, Shows}
-use Rattle.bench.specs.inner.Stacks.{inTimeBy, stackBy, number, test, planBy}
+use Rattle.bench.specs.inner.Stacks.{inTimeBy, stackBy, planBy}
 use Rattle.bench.proofs.choice.StackLaws.{inTimeBy-none, inTimeBy-next}
 
 -- the plan over lists that agree with a state is the plan of that state
 module _ (L : View) (s : State) (rows : ℕ) (rows-are : L .rows ≡ rows)
     (waiting : List Bool) (release left due′ : List ℕ)
-    (opens : (k : ℕ) → k < rows → test waiting k ≡ isOpen L s k)
-    (releases : (k : ℕ) → k < rows → number release k ≡ released L s k)
-    (lefts : (k : ℕ) → k < rows → number left k ≡ windowLeft L s k)
-    (dues : (k : ℕ) → k < rows → number due′ k ≡ due L s k) where
+    (opens : (k : ℕ) → k < rows → isMarked waiting k ≡ isOpen L s k)
+    (releases : (k : ℕ) → k < rows → memberAt release k ≡ released L s k)
+    (lefts : (k : ℕ) → k < rows → memberAt left k ≡ windowLeft L s k)
+    (dues : (k : ℕ) → k < rows → memberAt due′ k ≡ due L s k) where
   along : (t : ℕ) (list : List ℕ) → Every (λ k. k < rows) list
-      → inTimeBy (number release) (number left) (number due′) t list ≡ inTime L s t list
-  along t [] e = inTimeBy-none (number release) (number left) (number due′) t ∙ sym (inTime-none L s t)
+      → inTimeBy (memberAt release) (memberAt left) (memberAt due′) t list ≡ inTime L s t list
+  along t [] e = inTimeBy-none (memberAt release) (memberAt left) (memberAt due′) t ∙ sym (inTime-none L s t)
   along t (i ∷ rest) e =
-      inTimeBy-next (number release) (number left) (number due′) t i rest
+      inTimeBy-next (memberAt release) (memberAt left) (memberAt due′) t i rest
       ∙ rw (releases i (e .0), lefts i (e .0), dues i (e .0), along (finish L s t i) rest (e .1))
       (sym (inTime-next L s t i rest))
 
   pub planBy-is : (t : ℕ) → planBy (record { waiting = waiting; time = t }) release left due′ rows ≡ planPasses L s t
   unfolding stack
   planBy-is t =
-      ap (inTimeBy (number release) (number left) (number due′) t) stacks
+      ap (inTimeBy (memberAt release) (memberAt left) (memberAt due′) t) stacks
       ∙ along t (stack L s) (every-stack L s (λ k. k < rows) (λ i l o. rw (sym rows-are) l))
     where
-      stacks : stackBy (test waiting) (number due′) rows ≡ stack L s
+      stacks : stackBy (isMarked waiting) (memberAt due′) rows ≡ stack L s
       stacks =
-          sorted-same (number due′) (due L s) (test waiting) (isOpen L s) rows opens (λ i l o. dues i l)
+          sorted-same (memberAt due′) (due L s) (isMarked waiting) (isOpen L s) rows opens (λ i l o. dues i l)
           ∙ ap (stackBy (isOpen L s) (due L s)) (sym rows-are)
 
 module _ (load : Load) (bench : Bench) (board : Board) (shows : Shows load bench board) where

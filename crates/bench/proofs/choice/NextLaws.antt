@@ -9,6 +9,7 @@ use native.Mathlib.Omega.{arith}
 use borrow.Author.Tests.{le-leb}
 use lib.Dec.{leb}
 use Rattle.counting.specs.Sums.{allTo, bit, countTo}
+use Rattle.counting.specs.Lists.{isMarked}
 use Rattle.counting.specs.Searches.{at, none}
 use Rattle.counting.proofs.sums.SumLaws.{sumTo-ext}
 use Rattle.counting.proofs.tests.TestLaws.{allTo-ext}
@@ -43,7 +44,6 @@ use Rattle.bench.specs.declared.Moved.{Moved}
 use Rattle.bench.specs.Held.{stateOf, benchOf, handedOn, refusedWith, nextMove}
 use Rattle.bench.specs.inner.Updates.{benchStarted, benchTicked}
 use Rattle.bench.specs.inner.Boards.{lookIn, Shows}
-use Rattle.bench.specs.inner.Stacks.{test}
 use Rattle.bench.specs.inner.Choices.{openingIn, openAfter}
 use Rattle.bench.specs.inner.Moves.{finishedIn, handedWith, startedIn, Stepped}
 use Rattle.bench.proofs.shown.HeldLaws.{Sized, benchOf-stateOf, benchTicked-is, benchStarted-is}
@@ -63,20 +63,20 @@ nextMove-refused load bench refusal e = rw (e, nextMove)
 
 -- the lamps of a state, where a list of tests agrees with its open windows
 module _ (L : View) (s : State) (rows : ℕ) (rows-are′ : L .rows ≡ rows) (lit : List Bool)
-    (opens : (k : ℕ) → k < rows → test lit k ≡ isOpen L s k) where
-  word-is : lampWord L s ≡ wordOf (test lit) rows
+    (opens : (k : ℕ) → k < rows → isMarked lit k ≡ isOpen L s k) where
+  word-is : lampWord L s ≡ wordOf (isMarked lit) rows
   unfolding lampWord
   word-is =
       ap (wordOf (isOpen L s)) rows-are′
       ∙ sym
-      (sumTo-ext (λ i. bit (test lit i) * 2 ^ i) (λ i. bit (isOpen L s i) * 2 ^ i) rows
+      (sumTo-ext (λ i. bit (isMarked lit i) * 2 ^ i) (λ i. bit (isOpen L s i) * 2 ^ i) rows
       (λ i l. ap (λ b. bit b * 2 ^ i) (opens i l)))
 
-  count-is : lampCount L s ≡ countTo (test lit) rows
+  count-is : lampCount L s ≡ countTo (isMarked lit) rows
   unfolding lampCount
   count-is =
       ap (countTo (isOpen L s)) rows-are′
-      ∙ sym (sumTo-ext (λ i. bit (test lit i)) (λ i. bit (isOpen L s i)) rows (λ i l. ap bit (opens i l)))
+      ∙ sym (sumTo-ext (λ i. bit (isMarked lit i)) (λ i. bit (isOpen L s i)) rows (λ i l. ap bit (opens i l)))
 
 -- the refusals of a move, 10 and 11
 move-unshaped : (L : View) (s : State) → shaped L s ≡ false → move L s ≡ refusedMove s StateShape
@@ -128,7 +128,7 @@ module _ (load : Load) (bench : Bench) (board : Board) (shows : Shows load bench
       (word-is L s (load .rows) (rows-are load bench board shows) (board .opened) (opened-same load bench board shows))
       (count-is L s (load .rows) (rows-are load bench board shows) (board .opened) (opened-same load bench board shows))
 
-  open-ticked : (k : ℕ) → k < load .rows → test (board .opened) k ≡ isOpen L (ticked s) k
+  open-ticked : (k : ℕ) → k < load .rows → isMarked (board .opened) k ≡ isOpen L (ticked s) k
   unfolding ticked
   open-ticked = opened-same load bench board shows
 
@@ -170,7 +170,7 @@ module _ (load : Load) (bench : Bench) (board : Board) (shows : Shows load bench
             (ap₂ (benchStarted bench i) (cost-same load bench board shows i l)
             (opening-after load bench board shows i l))
 
-        open-after : (k : ℕ) → k < load .rows → test lit k ≡ isOpen L after k
+        open-after : (k : ℕ) → k < load .rows → isMarked lit k ≡ isOpen L after k
         open-after =
             stored (board .opened) i (lookIn board i .stays) false (isOpen L after) (load .rows)
             (omega (arith, shows .wide .opened-length)) (stays-after load bench board shows i l)

@@ -8,11 +8,12 @@ use native.Mathlib.Decide.{ℕ-discrete}
 use native.Mathlib.Omega.{arith}
 use lib.ListN.{length, set, length-set}
 use lib.Seq.{getD-set-same, getD-set-other}
+use Rattle.counting.specs.Lists.{memberAt}
 use Rattle.load.specs.Load.{lastMoment}
 use Rattle.bench.specs.declared.Look.{Look}
 use Rattle.bench.specs.declared.Board.{Board}
 use Rattle.bench.specs.inner.Boards.{lookIn}
-use Rattle.bench.specs.inner.Stacks.{number, PlanFits}
+use Rattle.bench.specs.inner.Stacks.{PlanFits}
 use Rattle.bench.specs.inner.Choices.{openingBy, BoardFits}
 
 pub openingBy-le : (stays opened : Bool) (opening clock : ℕ) → opening ≤ lastMoment → clock ≤ lastMoment
@@ -22,8 +23,8 @@ openingBy-le true false opening clock h g = g
 openingBy-le false opened opening clock h g = omega arith
 
 -- numbers that are small stay so where a small one is stored
-set-most : (l : List ℕ) (i v most rows : ℕ) → i < length l → v ≤ most → ((k : ℕ) → k < rows → number l k ≤ most)
-    → (k : ℕ) → k < rows → number (set l i v) k ≤ most
+set-most : (l : List ℕ) (i v most rows : ℕ) → i < length l → v ≤ most → ((k : ℕ) → k < rows → memberAt l k ≤ most)
+    → (k : ℕ) → k < rows → memberAt (set l i v) k ≤ most
 set-most l i v most rows inside small h k b =
     elim (ℕ-discrete k i) [
       | yes q ↦ rw q (omega (arith, getD-set-same l i v 0 inside))

@@ -12,7 +12,7 @@ use lib.Dec.{eqb, leb}
 use lib.ListN.{set}
 use lib.Seq.{getD-set-same, getD-set-other}
 use Rattle.counting.specs.Sums.{bit}
-use Rattle.counting.specs.Lists.{numbersWhere}
+use Rattle.counting.specs.Lists.{numbersWhere, memberAt, isMarked}
 use Rattle.counting.specs.Sorting.{sorted, byKey}
 use Rattle.counting.proofs.sums.SumLaws.{sumTo-ext}
 use Rattle.counting.proofs.tests.TestLaws.{and-left, and-right, true-false}
@@ -29,7 +29,7 @@ use Rattle.counting.proofs.lists.NumbersLaws.{totalIn-numbersWhere, sorted-numb
 use Rattle.bench.specs.declared.Look.{Look}
 use Rattle.bench.specs.declared.Board.{Board}
 use Rattle.bench.specs.inner.Boards.{lookIn, Wide}
-use Rattle.bench.specs.inner.Stacks.{inTimeBy, number, test}
+use Rattle.bench.specs.inner.Stacks.{inTimeBy}
 use Rattle.bench.specs.inner.Choices.{openAfter, openingIn, passesIn}
 use Rattle.bench.specs.inner.Running.{isSooner, workBefore, crowdedIn}
 use Rattle.bench.proofs.choice.StackLaws.{inTimeBy-next}
@@ -119,13 +119,13 @@ module _ (board : Board) (clock rows i : ℕ) (wide : Wide board) (most : rows �
   -- at any later moment
   module _ (t : ℕ) (h : clock ≤ t) where
     abbrev due : ℕ → ℕ
-    due = number (set (board .due) i (openingIn board t i + look .limit))
+    due = memberAt (set (board .due) i (openingIn board t i + look .limit))
 
     abbrev left : ℕ → ℕ
-    left = number (set (board .left) i (look .rest))
+    left = memberAt (set (board .left) i (look .rest))
 
     abbrev release : ℕ → ℕ
-    release = number (set (board .release) i (t + look .cost + look .wait))
+    release = memberAt (set (board .release) i (t + look .cost + look .wait))
 
     opening-is : openingIn board t i ≡ t
     opening-is = rw (stays, shut)
@@ -144,27 +144,28 @@ module _ (board : Board) (clock rows i : ℕ) (wide : Wide board) (most : rows �
         )
 
     abbrev list : List ℕ
-    list = sorted (byKey due) (numbersWhere (test (openAfter board i)) rows)
+    list = sorted (byKey due) (numbersWhere (isMarked (openAfter board i)) rows)
 
     there : 1 ≤ totalIn (λ a. bit (eqb a i)) list
     there =
-        let stands : test (openAfter board i) i ≡ true =
+        let stands : isMarked (openAfter board i) i ≡ true =
         getD-set-same (board .opened) i (look .stays) false (omega (arith, wide .opened-length)) ∙ stays in
-        rw (sorted-numbers-once (byKey due) (test (openAfter board i)) rows i, lt-ltb i rows l, stands) (omega arith)
+        rw (sorted-numbers-once (byKey due) (isMarked (openAfter board i)) rows i, lt-ltb i rows l, stands)
+        (omega arith)
 
-    each : (k : ℕ) → cond (test (openAfter board i) k) (cond (isSooner board moment k) (left k) 0) 0
+    each : (k : ℕ) → cond (isMarked (openAfter board i) k) (cond (isSooner board moment k) (left k) 0) 0
         ≡ cond (isSooner board moment k) (lookIn board k .left) 0
     each k = go (isSooner board moment k) refl
       where
         go : (b : Bool) → isSooner board moment k ≡ b
-            → cond (test (openAfter board i) k) (cond b (left k) 0) 0 ≡ cond b (lookIn board k .left) 0
+            → cond (isMarked (openAfter board i) k) (cond b (left k) 0) 0 ≡ cond b (lookIn board k .left) 0
         go true e =
             rw (
               getD-set-other (board .opened) i k (look .stays) false (other k e),
               and-left (lookIn board k .opened) _ e,
               getD-set-other (board .left) i k (look .rest) 0 (other k e),
             )
-        go false e = none (test (openAfter board i) k)
+        go false e = none (isMarked (openAfter board i) k)
           where
             none : (b : Bool) → _≡_ {A = ℕ} (cond b 0 0) 0
             none true = refl
@@ -173,8 +174,9 @@ module _ (board : Board) (clock rows i : ℕ) (wide : Wide board) (most : rows �
     summed : totalIn (work release left due i (isSooner board moment) before) list ≡ workBefore board moment rows
     summed =
         totalIn-sorted (byKey due) (work release left due i (isSooner board moment) before)
-        (numbersWhere (test (openAfter board i)) rows)
-        ∙ totalIn-numbersWhere (work release left due i (isSooner board moment) before) (test (openAfter board i)) rows
+        (numbersWhere (isMarked (openAfter board i)) rows)
+        ∙ totalIn-numbersWhere (work release left due i (isSooner board moment) before)
+        (isMarked (openAfter board i)) rows
         ∙ sumTo-ext _ _ rows (λ k b. each k)
 
     -- the plan refuses it
@@ -192,7 +194,7 @@ module _ (board : Board) (clock rows i : ℕ) (wide : Wide board) (most : rows �
               summed,
               getD-set-same (board .left) i (look .rest) 0 (omega (arith, wide .left-length)),
               behind release left due i (isSooner board moment) before (t + look .cost) list
-                  (sorted-in-order (byKey due) (byKey-order due) (numbersWhere (test (openAfter board i)) rows))
+                  (sorted-in-order (byKey due) (byKey-order due) (numbersWhere (isMarked (openAfter board i)) rows))
                   there e,
             ))
         go false e = refl

@@ -6,6 +6,7 @@ use mathlib.Core.List.{List}
 use mathlib.Core.Path.{_≡_}
 use lib.Dec.{leb}
 use Rattle.counting.specs.Sums.{allTo, countTo}
+use Rattle.counting.specs.Lists.{isMarked}
 use Rattle.words.specs.LampWord.{wordOf}
 use Rattle.load.specs.Load.{shown}
 use Rattle.rules.specs.declared.Outcome.{Outcome}
@@ -16,7 +17,6 @@ use Rattle.bench.specs.declared.Board.{Board}
 use Rattle.bench.specs.declared.Moved.{Moved}
 use Rattle.bench.specs.inner.Updates.{benchStarted, benchTicked}
 use Rattle.bench.specs.inner.Boards.{lookIn}
-use Rattle.bench.specs.inner.Stacks.{test}
 use Rattle.bench.specs.inner.Choices.{openingIn, openAfter, ChosenIn}
 
 -- all steps are finished
@@ -29,8 +29,8 @@ handedWith bench outcome lit rows =
     record {
       bench = bench;
       outcome = outcome;
-      lamps = wordOf (test lit) rows;
-      count = countTo (test lit) rows;
+      lamps = wordOf (isMarked lit) rows;
+      count = countTo (isMarked lit) rows;
     }
 
 -- row i's next step as a slot: rows and steps counted from 1

@@ -5,20 +5,11 @@ use mathlib.Core.Bool.{Bool, true, false, _&&_, not}
 use mathlib.Core.List.{List}
 use mathlib.Core.Path.{_≡_}
 use lib.Dec.{eqb, ltb}
-use lib.ListN.{getD}
-use Rattle.counting.specs.Lists.{filled}
+use Rattle.counting.specs.Lists.{filled, memberAt, isMarked}
 use Rattle.load.specs.declared.Row.{Row}
 use Rattle.load.specs.declared.Load.{Load}
 use Rattle.load.specs.Load.{mostRows, largestCost, rowAt}
 use Rattle.load.specs.View.{rowWindows, embeddedAmong}
-
--- a row's number at a place
-abbrev pub at : List ℕ → ℕ → ℕ
-at numbers k = getD numbers k 0
-
--- whether a row is marked
-abbrev pub isMarked : List Bool → ℕ → Bool
-isMarked marks k = getD marks k false
 
 -- whether a row other than i is marked
 abbrev pub isOther : List Bool → ℕ → ℕ → Bool
@@ -27,7 +18,7 @@ isOther marks i k = not (eqb k i) && isMarked marks k
 -- at most 24 rows, of which each that is marked has a cost within its range
 pub record Costed (n : ℕ) (costs : List ℕ) (marks : List Bool) : Type 0 where
   pub few : n ≤ mostRows
-  pub small : (k : ℕ) → k < n → isMarked marks k ≡ true → at costs k ≤ largestCost
+  pub small : (k : ℕ) → k < n → isMarked marks k ≡ true → memberAt costs k ≤ largestCost
 
 -- a row has a step at place j, and it is free
 abbrev pub freeIn : Row → ℕ → Bool

@@ -3,15 +3,16 @@ use Prim.Native.Nat.{ℕ, _+_, _-_}
 use mathlib.Core.Path.{_≡_, sym, _∙_, ap}
 use native.Mathlib.Omega.{arith}
 use borrow.Author.Needs.{needs}
+use Rattle.counting.specs.Lists.{memberAt, isMarked}
 use Rattle.counting.proofs.sorting.PairLaws.{pairsBelow, pairsBelow-none, pairsBelow-next}
-use Rattle.bound.specs.inner.Marks.{at, isMarked}
 use Rattle.bound.proofs.smallest.count_below.Statement.{statement}
 use Rattle.bound.proofs.smallest.count_below.Tie as tie
 
 -- how many are below a number
 abbrev below : tie.Start → ℕ → ℕ
 below c t =
-    pairsBelow (at (c .args .here .now)) (at (c .args .next .now)) (isMarked (c .args .marks .now)) (c .args .n) t
+    pairsBelow (memberAt (c .args .here .now)) (memberAt (c .args .next .now)) (isMarked (c .args .marks .now))
+    (c .args .n) t
 
 none : tie.Need-returns
 none c = sym (ap (below (c .before)) (c .if1 .taken) ∙ pairsBelow-none _ _ _ _)

@@ -5,8 +5,8 @@ use mathlib.Core.Path.{_≡_, sym, _∙_, ap}
 use native.Mathlib.Omega.{arith}
 use borrow.Author.Needs.{needs}
 use Rattle.counting.specs.Sums.{countTo}
+use Rattle.counting.specs.Lists.{isMarked}
 use Rattle.counting.proofs.sums.SumLaws.{sumTo-zero, sumTo-next}
-use Rattle.bound.specs.inner.Marks.{isMarked}
 use Rattle.bound.proofs.FlagLaws.{boolByte-bit, bit-le}
 use Rattle.bound.proofs.smallest.count_marked.Statement.{statement}
 use Rattle.bound.proofs.smallest.count_marked.Tie as tie

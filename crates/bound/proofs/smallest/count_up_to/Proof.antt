@@ -8,15 +8,15 @@ use borrow.Author.Needs.{needs}
 use lib.Dec.{leb}
 use mir.Val.{boolByte}
 use Rattle.counting.specs.Sums.{bit}
+use Rattle.counting.specs.Lists.{memberAt, isMarked}
 use Rattle.counting.proofs.sorting.PairLaws.{pairsUpTo, pairTotal-zero, pairTotal-next}
-use Rattle.bound.specs.inner.Marks.{at, isMarked}
 use Rattle.bound.proofs.FlagLaws.{boolByte-bit, bit-le}
 use Rattle.bound.proofs.smallest.count_up_to.Statement.{statement}
 use Rattle.bound.proofs.smallest.count_up_to.Tie as tie
 
 abbrev Inv-loop : tie.InvT-loop
 Inv-loop n here next marks t count₀ k₀ count k =
-    (k ≤ n) × (count ≡ pairsUpTo (at here) (at next) (isMarked marks) k t) × (count ≤ 2 * k)
+    (k ≤ n) × (count ≡ pairsUpTo (memberAt here) (memberAt next) (isMarked marks) k t) × (count ≤ 2 * k)
 
 abbrev μ-loop : tie.MeasureT-loop
 μ-loop n here next marks t count₀ k₀ count k = n - k
@@ -27,10 +27,10 @@ two-le a b = omega (arith, boolByte-bit a, boolByte-bit b, bit-le a, bit-le b)
 
 -- the two tests of a turn
 abbrev here-test : tie.In-loop Inv-loop μ-loop → Bool
-here-test c = leb (at (c .before .before .args .here .now) (c .before .loop .k)) (c .before .before .args .t)
+here-test c = leb (memberAt (c .before .before .args .here .now) (c .before .loop .k)) (c .before .before .args .t)
 
 abbrev next-test : tie.In-loop Inv-loop μ-loop → Bool
-next-test c = leb (at (c .before .before .args .next .now) (c .before .loop .k)) (c .before .before .args .t)
+next-test c = leb (memberAt (c .before .before .args .next .now) (c .before .loop .k)) (c .before .before .args .t)
 
 add-count : tie.Need-add-count Inv-loop μ-loop
 add-count c = let turn = c .before .before .before .before in omega (arith, two-le (here-test turn) (next-test turn))
@@ -71,7 +71,8 @@ returns c =
     let args = c .before .before .args in
     let e : c .before .loop .k ≡ args .n = omega arith in
     c .before .loop .inv .1
-    ∙ ap (λ k. pairsUpTo (at (args .here .now)) (at (args .next .now)) (isMarked (args .marks .now)) k (args .t)) e
+    ∙ ap (λ k. pairsUpTo (memberAt (args .here .now)) (memberAt (args .next .now)) (isMarked (args .marks .now)) k
+    (args .t)) e
 
 pub count-up-to-spec : {M : Type 1} → statement M
 count-up-to-spec =

@@ -4,6 +4,7 @@ use Prim.Native.Nat.{ℕ, _+_, _-_, _/_, _≤_}
 use mathlib.Core.Path.{_≡_}
 use native.Mathlib.Omega.{arith}
 use borrow.Author.Needs.{needs}
+use Rattle.counting.specs.Lists.{memberAt, isMarked}
 use Rattle.counting.proofs.sorting.PairLaws.{
   pairsBelow,
   pairsUpTo,
@@ -11,7 +12,6 @@ use Rattle.counting.proofs.sorting.PairLaws.{
   pairsBelow-next,
   countTo-pairsUpTo-le,
 }
-use Rattle.bound.specs.inner.Marks.{at, isMarked}
 use Rattle.bound.proofs.smallest.splitting_cost.Statement.{statement}
 use Rattle.bound.proofs.smallest.splitting_cost.Tie as tie
 
@@ -19,8 +19,8 @@ abbrev Inv-loop : tie.InvT-loop
 Inv-loop n here next marks r low₀ high₀ low high =
     (low ≤ high)
     × (high ≤ 600)
-    × (pairsBelow (at here) (at next) (isMarked marks) n low ≤ r)
-    × (r ≤ pairsUpTo (at here) (at next) (isMarked marks) n high)
+    × (pairsBelow (memberAt here) (memberAt next) (isMarked marks) n low ≤ r)
+    × (r ≤ pairsUpTo (memberAt here) (memberAt next) (isMarked marks) n high)
 
 abbrev μ-loop : tie.MeasureT-loop
 μ-loop n here next marks r low₀ high₀ low high = high - low
@@ -28,14 +28,16 @@ abbrev μ-loop : tie.MeasureT-loop
 -- how many costs are below a number
 abbrev below : tie.Start Inv-loop μ-loop → ℕ → ℕ
 below c t =
-    pairsBelow (at (c .args .here .now)) (at (c .args .next .now)) (isMarked (c .args .marks .now)) (c .args .n) t
+    pairsBelow (memberAt (c .args .here .now)) (memberAt (c .args .next .now)) (isMarked (c .args .marks .now))
+    (c .args .n) t
 
 none-below : (c : tie.Start Inv-loop μ-loop) → below c 0 ≡ 0
 none-below c = pairsBelow-none _ _ _ _
 
 below-next : (c : tie.Start Inv-loop μ-loop) (t : ℕ)
     → below c (t + 1)
-    ≡ pairsUpTo (at (c .args .here .now)) (at (c .args .next .now)) (isMarked (c .args .marks .now)) (c .args .n) t
+    ≡ pairsUpTo (memberAt (c .args .here .now)) (memberAt (c .args .next .now)) (isMarked (c .args .marks .now))
+    (c .args .n) t
 below-next c t = pairsBelow-next _ _ _ _ _
 
 loop-holds : tie.Need-loop-holds Inv-loop μ-loop

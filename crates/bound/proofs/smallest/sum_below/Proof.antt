@@ -4,14 +4,14 @@ use mathlib.Core.Path.{_≡_, sym, _∙_, ap}
 use mathlib.Core.Logic.{⊎-elim}
 use native.Mathlib.Omega.{arith}
 use borrow.Author.Needs.{needs}
+use Rattle.counting.specs.Lists.{memberAt, isMarked}
 use Rattle.counting.proofs.sorting.PairLaws.{pairsSumBelow, pairTotal-zero, pairTotal-next}
-use Rattle.bound.specs.inner.Marks.{at, isMarked}
 use Rattle.bound.proofs.smallest.sum_below.Statement.{statement}
 use Rattle.bound.proofs.smallest.sum_below.Tie as tie
 
 abbrev Inv-loop : tie.InvT-loop
 Inv-loop n here next marks t sum₀ k₀ sum k =
-    (k ≤ n) × (sum ≡ pairsSumBelow (at here) (at next) (isMarked marks) k t) × (sum ≤ 131070 * k)
+    (k ≤ n) × (sum ≡ pairsSumBelow (memberAt here) (memberAt next) (isMarked marks) k t) × (sum ≤ 131070 * k)
 
 abbrev μ-loop : tie.MeasureT-loop
 μ-loop n here next marks t sum₀ k₀ sum k = n - k
@@ -28,7 +28,8 @@ returns : tie.Need-returns Inv-loop μ-loop
 returns c =
     let a = c .before .before .args in
     let e : c .before .loop .k ≡ a .n = omega arith in
-    let sums : ℕ → ℕ = λ k. pairsSumBelow (at (a .here .now)) (at (a .next .now)) (isMarked (a .marks .now)) k (a .t) in
+    let sums : ℕ → ℕ = λ k.
+    pairsSumBelow (memberAt (a .here .now)) (memberAt (a .next .now)) (isMarked (a .marks .now)) k (a .t) in
     (c .before .loop .inv .1 ∙ ap sums e, omega arith)
 
 pub sum-below-spec : {M : Type 1} → statement M

@@ -5,8 +5,8 @@ use mathlib.Core.Path.{_≡_, sym, _∙_, ap}
 use native.Mathlib.Omega.{arith}
 use borrow.Author.Needs.{needs}
 use Rattle.counting.specs.Sums.{anyTo}
+use Rattle.counting.specs.Lists.{isMarked}
 use Rattle.counting.proofs.tests.TestLaws.{or-neither, anyTo-zero, anyTo-next, true-anyTo}
-use Rattle.bound.specs.inner.Marks.{isMarked}
 use Rattle.bound.proofs.waits.any_marked.Statement.{statement}
 use Rattle.bound.proofs.waits.any_marked.Tie as tie
 

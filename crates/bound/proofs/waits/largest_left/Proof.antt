@@ -7,16 +7,17 @@ use mathlib.Core.Logic.{⊎-elim}
 use native.Mathlib.Omega.{arith}
 use borrow.Author.Needs.{needs}
 use Rattle.counting.specs.Sums.{maxTo}
+use Rattle.counting.specs.Lists.{memberAt, isMarked}
 use Rattle.counting.proofs.sums.SumLaws.{maxTo-zero, maxTo-next}
 use Rattle.counting.proofs.sorting.PairLaws.{pairsSmallest}
-use Rattle.bound.specs.inner.Marks.{at, isMarked, isOther}
+use Rattle.bound.specs.inner.Marks.{isOther}
 use Rattle.bound.proofs.waits.largest_left.Statement.{statement}
 use Rattle.bound.proofs.waits.largest_left.Tie as tie
 
 -- what is left of the wait of row i, where it is free
 abbrev leftAt : ℕ → List ℕ → List ℕ → List Bool → List ℕ → List Bool → ℕ → ℕ
 leftAt n here next pairs waits frees i =
-    cond (isMarked frees i) (at waits i - pairsSmallest (at here) (at next) (isOther pairs i) n) 0
+    cond (isMarked frees i) (memberAt waits i - pairsSmallest (memberAt here) (memberAt next) (isOther pairs i) n) 0
 
 abbrev Inv-loop : tie.InvT-loop
 Inv-loop n here next pairs waits frees most₀ i₀ most i =

@@ -3,8 +3,9 @@ use Prim.Native.Nat.{_-_}
 use mathlib.Core.Path.{_≡_, _∙_, ap}
 use native.Mathlib.Omega.{arith}
 use borrow.Author.Needs.{needs}
+use Rattle.counting.specs.Lists.{memberAt}
 use Rattle.counting.proofs.sorting.PairLaws.{pairsSmallest}
-use Rattle.bound.specs.inner.Marks.{at, isOther}
+use Rattle.bound.specs.inner.Marks.{isOther}
 use Rattle.bound.proofs.MarkLaws.{Costed-others, pairsSmallest-others}
 use Rattle.bound.proofs.waits.wait_left.Statement.{statement}
 use Rattle.bound.proofs.waits.wait_left.Tie as tie
@@ -15,7 +16,8 @@ smallest-sum-requires c κs =
 
 given-is : (c : tie.After-smallest-sum)
     → let a = c .before .before .args in
-    c .smallest-sum .result ≡ pairsSmallest (at (a .here .now)) (at (a .next .now)) (isOther (a .pairs) (a .i)) (a .n)
+    c .smallest-sum .result
+    ≡ pairsSmallest (memberAt (a .here .now)) (memberAt (a .next .now)) (isOther (a .pairs) (a .i)) (a .n)
 given-is c =
     let a = c .before .before .args in
     c .smallest-sum .ensures ∙ pairsSmallest-others (a .pairs) (a .i) (a .here .now) (a .next .now) (a .n)
