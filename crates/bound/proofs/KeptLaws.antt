@@ -1,8 +1,8 @@
 -- What a row keeps is where a search over its places stops: at the first step from the certain ones on that is not
--- embedded, or at the row's end. It is what the row at that place of a load keeps in the cut.
+-- embedded, or at the row's end. What the rows of a load keep in this way is what the cut keeps.
 use Prim.Native.Nat.{ℕ, _+_, _-_, _≤_, _<_, min}
 use mathlib.Core.Bool.{Bool, true, false, cond, not}
-use mathlib.Core.Path.{_≡_, refl, ap, sym, _∙_}
+use mathlib.Core.Path.{_≡_, ap, sym, _∙_}
 use native.Mathlib.Numerals.{add-one}
 use native.Mathlib.Omega.{arith}
 use Rattle.counting.specs.Sums.{sumTo}
@@ -60,11 +60,6 @@ pub waitIn-by : (row : Row) (j : ℕ) (b : Bool) → embeddedAmong (j + 1) (rowW
     → waitIn row j ≡ cond b (stepAt row j .wait) 0
 waitIn-by row j b e =
     ap (λ t. cond t (stepAt row j .wait) 0) (ap (λ k. embeddedAmong k (rowWindows row)) (sym (add-one j)) ∙ e)
-
--- the row at place i of a load
-pub kept-is : (load : Load) (m i : ℕ) → kept (viewOf load) m i ≡ keptOf (rowAt load i) m
-unfolding kept keptFrom viewOf embedded
-kept-is load m i = refl
 
 -- the costs and the embedded waits that a row keeps
 abbrev pub ticksOf : Row → ℕ → ℕ

@@ -1,5 +1,5 @@
--- A board that shows a load and its bench has the candidates of the rules, and its plan of a candidate is the rules'
--- plan at the candidate's end: so what the search chooses is what the rules choose.
+-- The plan over lists that agree with a state is the rules' plan of that state; and what a board that shows a load and
+-- its bench has of a row is, number by number, what the rules say of it.
 use Prim.Native.Nat.{ℕ, _<_}
 use mathlib.Core.Bool.{Bool}
 use mathlib.Core.List.{List, [], _∷_}
@@ -13,9 +13,7 @@ use Rattle.rules.specs.State.{State, isOpen, openWindow}
 use Rattle.rules.specs.Ready.{released}
 use Rattle.rules.specs.Plan.{due, stack, windowLeft, finish, inTime, planPasses}
 use Rattle.rules.proofs.plan.PlanLaws.{inTime-next, inTime-none}
-use Rattle.rules.proofs.plan.StackLaws.{
-  every-stack,
-}
+use Rattle.rules.proofs.plan.StackLaws.{every-stack}
 use Rattle.bench.specs.declared.Bench.{Bench}
 use Rattle.bench.specs.declared.Look.{Look}
 use Rattle.bench.specs.declared.Board.{Board}

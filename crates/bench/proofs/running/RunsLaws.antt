@@ -56,9 +56,6 @@ module _ (load : Load) (accepted : checkLoad load ≡ Good) where
   pub Runs-count : (r : Ran) → Runs load r → r .count ≡ length (schedule (viewOf load))
   Runs-count r e = ap (λ (a : Ran). a .count) e ∙ ap length scheduleOr-good
 
-  pub Runs-answer : (r : Ran) → Runs load r → r .answer ≡ Good
-  Runs-answer r e = ap (λ (a : Ran). a .answer) e ∙ accepted
-
   -- each step is scheduled once, so there are as many slots as steps
   pub schedule-counted : length (schedule (viewOf load)) ≡ stepsInAll (viewOf load)
   schedule-counted =

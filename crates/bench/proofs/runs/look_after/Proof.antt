@@ -1,21 +1,14 @@
 -- `look_after` looks the row up for one step more, the end of that step, and the opening that it leaves.
-use Prim.Native.Nat.{ℕ, _+_, _≤_, _<_}
+use Prim.Native.Nat.{_+_, _≤_, _<_}
 use mathlib.Core.Path.{_∙_}
-use mathlib.Core.Bool.{Bool, true, false}
 use native.Mathlib.Omega.{arith}
 use Rattle.load.specs.Load.{lastMoment}
 use Rattle.bench.specs.inner.Boards.{lookIn}
-use Rattle.bench.specs.inner.Choices.{openingBy}
 use Rattle.bench.proofs.choice.SearchLaws.{candidate-more, candidate-ends}
+use Rattle.bench.proofs.choice.PassLaws.{openingBy-le}
 use borrow.Author.Needs.{needs}
 use Rattle.bench.proofs.runs.look_after.Statement.{statement}
 use Rattle.bench.proofs.runs.look_after.Tie as tie
-
-opening-le : (stays opened : Bool) (opening clock : ℕ) → opening ≤ lastMoment → clock ≤ lastMoment
-    → openingBy stays opened opening clock ≤ lastMoment
-opening-le true true opening clock a b = a
-opening-le true false opening clock a b = b
-opening-le false opened opening clock a b = omega arith
 
 -- the step is there
 more : (c : tie.Start) → lookIn (c .args .t2) (c .args .i) .finished < 8
@@ -45,7 +38,7 @@ look-of-requires c κs =
         omega (arith, more start),
         ends start,
         rw (c .before .opening-after .ensures)
-            (opening-le (look .stays) (look .opened) (look .opening) (start .args .clock)
+            (openingBy-le (look .stays) (look .opened) (look .opening) (start .args .clock)
             (start .pre .1 .0 .modest (start .args .i) l .opening-most) (start .pre .1 .0 .clock-most)),
       ),
     )
