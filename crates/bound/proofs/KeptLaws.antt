@@ -15,7 +15,7 @@ use Rattle.load.specs.Load.{rowAt, stepAt}
 use Rattle.load.specs.View.{viewOf, embedded, rowWindows, embeddedAmong}
 use Rattle.rules.specs.Cut.{kept}
 use Rattle.rules.proofs.cut.CutBound.{keptCosts, keptWaits}
-use Rattle.bound.specs.inner.CutTerms.{keptFrom, keptOf, waitIn}
+use Rattle.bound.specs.inner.CutTerms.{keptFrom, keptOf, waitIn, ticksOf}
 
 -- a search over places stops at j
 pub record Stops (row : Row) (first j : ℕ) : Type 0 where
@@ -60,10 +60,6 @@ pub waitIn-by : (row : Row) (j : ℕ) (b : Bool) → embeddedAmong (j + 1) (rowW
     → waitIn row j ≡ cond b (stepAt row j .wait) 0
 waitIn-by row j b e =
     ap (λ t. cond t (stepAt row j .wait) 0) (ap (λ k. embeddedAmong k (rowWindows row)) (sym (add-one j)) ∙ e)
-
--- the costs and the embedded waits that a row keeps
-abbrev pub ticksOf : Row → ℕ → ℕ
-ticksOf row m = sumTo (λ j. stepAt row j .cost) (keptOf row m) + sumTo (waitIn row) (keptOf row m - 1)
 
 pub keptTicks-is : (load : Load) (m : ℕ)
     → sumTo (λ i. ticksOf (rowAt load i) m) (load .rows) ≡ keptCosts (viewOf load) m + keptWaits (viewOf load) m

@@ -5,14 +5,14 @@ use load::Row;
 use load::embedded_at;
 use load::step_at;
 ghost use mathlib.Core.Path.{_≡_};
-ghost use Prim.Native.Nat.{_+_, _-_, _≤_, min};
+ghost use Prim.Native.Nat.{_+_, _≤_, min};
 ghost use Rattle.counting.specs.Sums.{sumTo};
 ghost use Rattle.load.specs.Load.{mostSteps, stepAt};
 ghost use Rattle.load.specs.View.{viewOf};
 ghost use Rattle.load.specs.Acceptable.{Acceptable};
 ghost use Rattle.rules.specs.Bound.{largestPhase};
 ghost use Rattle.rules.proofs.cut.CutBound.{keptCosts, keptWaits};
-ghost use Rattle.bound.specs.inner.CutTerms.{keptOf, waitIn};
+ghost use Rattle.bound.specs.inner.CutTerms.{keptOf, waitIn, ticksOf};
 
 // Gives the smaller of two numbers.
 fn smaller(a: usize, b: usize) -> usize
@@ -75,8 +75,7 @@ fn waits_to(row: Row, n: usize) -> u32
 // Adds the costs that a row keeps when the load is cut at m, and the embedded waits between them.
 fn row_ticks(row: Row, m: usize) -> u32
     requires { ⌜ (1 ≤ m) × (1 ≤ row .steps) × (row .steps ≤ mostSteps) ⌝ }
-    ensures { λ r. ⌜ (r ≡ sumTo (λ j. stepAt row j .cost) (keptOf row m)
-        + sumTo (waitIn row) (keptOf row m - 1)) × (r ≤ 1048560) ⌝ }
+    ensures { λ r. ⌜ (r ≡ ticksOf row m) × (r ≤ 1048560) ⌝ }
 {
     let kept = kept_of(row, m);
     costs_to(row, kept) + waits_to(row, kept - 1)

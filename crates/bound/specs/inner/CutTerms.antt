@@ -1,6 +1,5 @@
--- The terms of the bound of a load that is cut, as the code adds them up: the steps that a row
--- keeps, its embedded waits, and the largest W's. The promises do not cite this page: laws join it
--- to document 01's definitions.
+-- The terms of the bound of a load that is cut, as the code adds them up: the costs and embedded
+-- waits that a row keeps, and the largest W's.
 use Prim.Native.Nat.{ℕ, suc, _+_, _-_, min}
 use mathlib.Core.Bool.{cond, not}
 use Rattle.counting.specs.Sums.{sumTo}
@@ -22,6 +21,11 @@ keptOf row m = keptFrom row (min m (row .steps))
 -- the wait after step j of a row, where it is embedded
 abbrev pub waitIn : Row → ℕ → ℕ
 waitIn row j = cond (embeddedAmong (suc j) (rowWindows row)) (stepAt row j .wait) 0
+
+-- the costs that a row keeps when the load is cut at m, and the embedded waits between them
+abbrev pub ticksOf : Row → ℕ → ℕ
+ticksOf row m =
+    sumTo (λ j. stepAt row j .cost) (keptOf row m) + sumTo (waitIn row) (keptOf row m - 1)
 
 -- the largest W's of the first k places, added
 abbrev pub waitsBelow : View → ℕ → ℕ

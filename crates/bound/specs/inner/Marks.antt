@@ -1,5 +1,5 @@
 -- The rows marked at a place: those that have a free step there, and those whose costs there are
--- taken. The promises do not cite this page: laws join it to document 01's definitions.
+-- taken.
 use Prim.Native.Nat.{ℕ, _≤_, _<_}
 use mathlib.Core.Bool.{Bool, true, false, _&&_, not}
 use mathlib.Core.List.{List}

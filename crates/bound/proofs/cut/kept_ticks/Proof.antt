@@ -7,8 +7,9 @@ use Rattle.counting.specs.Sums.{sumTo}
 use Rattle.counting.proofs.sums.SumLaws.{sumTo-zero, sumTo-next}
 use Rattle.load.specs.declared.Load.{Load}
 use Rattle.load.specs.Load.{rowAt}
+use Rattle.bound.specs.inner.CutTerms.{ticksOf}
 use Rattle.bound.proofs.AcceptedLaws.{accepted-few, accepted-steps}
-use Rattle.bound.proofs.KeptLaws.{ticksOf, keptTicks-is}
+use Rattle.bound.proofs.KeptLaws.{keptTicks-is}
 use Rattle.bound.proofs.cut.kept_ticks.Statement.{statement}
 use Rattle.bound.proofs.cut.kept_ticks.Tie as tie
 
