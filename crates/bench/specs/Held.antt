@@ -1,7 +1,7 @@
 -- "One move of the bench": "Each move takes the bench state and hands the next one back". The
 -- bridge between a bench held in memory, 24 places to a field, and the state of the rules.
-use lib.ListN.{getD}
-use Rattle.counting.specs.Lists.{listTo}
+use Prim.Native.Nat.{ℕ}
+use Rattle.counting.specs.Lists.{listTo, memberAt}
 use Rattle.refusals.specs.declared.Refusal.{Refusal}
 use Rattle.refusals.specs.declared.Checked.the-variants.{Good, Refused as Faulty}
 use Rattle.load.specs.declared.Load.{Load}
@@ -20,9 +20,9 @@ abbrev pub stateOf : Bench → State
 stateOf bench =
     record {
       clock = bench .clock;
-      finished = λ i. getD (bench .finished) i 0;
-      end = λ i. getD (bench .end) i 0;
-      opening = λ i. getD (bench .opening) i 0;
+      finished = memberAt (bench .finished);
+      end = memberAt (bench .end);
+      opening = memberAt (bench .opening);
     }
 
 -- a state held in memory
@@ -34,6 +34,11 @@ benchOf s =
       end = listTo (s .end) mostRows;
       opening = listTo (s .opening) mostRows;
     }
+
+-- a bench at another moment, and nothing else changed
+abbrev pub benchAt : Bench → ℕ → Bench
+benchAt bench t =
+    record { clock = t; finished = bench .finished; end = bench .end; opening = bench .opening }
 
 -- a refused move hands back the bench it was given, any other the bench of the next state
 abbrev pub benchAfter : Bench → Outcome → State → Bench

@@ -1,15 +1,14 @@
 // The lamp word.
 use load::MOST_ROWS;
 ghost use mathlib.Core.Path.{_≡_};
-ghost use mathlib.Core.Bool.{false};
 ghost use Prim.Native.Nat.{_≤_};
-ghost use lib.ListN.{getD};
+ghost use Rattle.counting.specs.Lists.{isMarked};
 ghost use Rattle.words.specs.LampWord.{wordOf};
 
 // Gives the word with bit i set where row i has an open window, for the first rows.
 pub fn lamp_word(opened: [bool; MOST_ROWS], rows: usize) -> u32
     requires { ⌜ rows ≤ 24 ⌝ }
-    ensures { λ r. ⌜ r ≡ wordOf (λ i. getD opened i false) rows ⌝ }
+    ensures { λ r. ⌜ r ≡ wordOf (isMarked opened) rows ⌝ }
 {
     let mut word: u32 = 0;
     let mut place: u32 = 1;

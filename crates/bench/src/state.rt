@@ -3,9 +3,10 @@ use crate::Bench;
 use load::MOST_ROWS;
 ghost use mathlib.Core.Path.{_≡_};
 ghost use Prim.Native.Nat.{_+_, _≤_, _<_};
-ghost use lib.ListN.{getD};
+ghost use Rattle.counting.specs.Lists.{memberAt};
 ghost use Rattle.load.specs.Load.{lastMoment};
-ghost use Rattle.bench.specs.inner.Updates.{benchStarted, benchTicked};
+ghost use Rattle.bench.specs.Held.{benchAt};
+ghost use Rattle.bench.specs.inner.Moves.{benchStarted};
 ghost use Rattle.bench.specs.Calls.{Fresh};
 
 // Gives the fresh bench, which is all zero.
@@ -25,7 +26,7 @@ impl Bench {
     // row's end move to the end of the step.
     pub(crate) fn start(mut self, i: usize, long: u32, opening: u32) -> Bench
         requires { ⌜ (i < 24) × (self .clock + long ≤ 4294967295)
-            × (getD (self .finished) i 0 < 255) ⌝ }
+            × (memberAt (self .finished) i < 255) ⌝ }
         ensures { λ r. ⌜ r ≡ benchStarted self i long opening ⌝ }
     {
         let end = self.clock + long;
@@ -39,7 +40,7 @@ impl Bench {
     // Moves the clock one tick.
     pub(crate) fn idle(mut self) -> Bench
         requires { ⌜ self .clock ≤ lastMoment ⌝ }
-        ensures { λ r. ⌜ r ≡ benchTicked self ⌝ }
+        ensures { λ r. ⌜ r ≡ benchAt self (self .clock + 1) ⌝ }
     {
         self.clock += 1;
         self

@@ -16,7 +16,7 @@ use Rattle.bound.specs.declared.Margined.{Margined}
 use Rattle.bound.specs.declared.Judged.{Judged}
 use Rattle.bench.specs.declared.Bench.{Bench}
 use Rattle.bench.specs.declared.Moved.{Moved}
-use Rattle.bench.specs.Held.{refusedWith, nextMove}
+use Rattle.bench.specs.Held.{benchAt, refusedWith, nextMove}
 
 -- one that refuses all: every file
 abbrev pub refusesFile : Refusal → List ℕ → Reading
@@ -35,19 +35,10 @@ abbrev pub movesNothing : Outcome → ℕ → ℕ → Load → Bench → Moved
 movesNothing outcome lamps count load bench =
     record { bench = bench; outcome = outcome; lamps = lamps; count = count }
 
--- a bench on which a tick has passed, and nothing else
-abbrev pub aTickOn : Bench → Bench
-aTickOn bench =
-    record {
-      clock = bench .clock + 1;
-      finished = bench .finished;
-      end = bench .end;
-      opening = bench .opening;
-    }
-
 -- one that makes all starts in its first move, whatever that hands back, and then only idles
 abbrev pub onlyIdles : Bench → Moved
-onlyIdles bench = record { bench = aTickOn bench; outcome = Idle; lamps = 0; count = 0 }
+onlyIdles bench =
+    record { bench = benchAt bench (bench .clock + 1); outcome = Idle; lamps = 0; count = 0 }
 
 -- one with invented lamp counts
 abbrev pub inventsCount : ℕ → Load → Bench → Moved

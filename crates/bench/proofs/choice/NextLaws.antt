@@ -1,6 +1,6 @@
 -- What the code hands back, over a board that shows the load and the bench, is the move of the rules in memory: Done, a
 -- refusal, Idle, or the start of the row that is chosen.
-use Prim.Native.Nat.{ℕ, _*_, _^_, _≤_, _<_}
+use Prim.Native.Nat.{ℕ, _+_, _*_, _^_, _≤_, _<_}
 use mathlib.Core.Bool.{Bool, true, false}
 use mathlib.Core.List.{List}
 use mathlib.Core.Path.{_≡_, ap, ap₂, sym, _∙_}
@@ -41,12 +41,11 @@ use Rattle.rules.proofs.plan.StackLaws.{isOpen-other}
 use Rattle.bench.specs.declared.Bench.{Bench}
 use Rattle.bench.specs.declared.Board.{Board}
 use Rattle.bench.specs.declared.Moved.{Moved}
-use Rattle.bench.specs.Held.{stateOf, benchOf, handedOn, refusedWith, nextMove}
-use Rattle.bench.specs.inner.Updates.{benchStarted, benchTicked}
+use Rattle.bench.specs.Held.{stateOf, benchOf, benchAt, handedOn, refusedWith, nextMove}
 use Rattle.bench.specs.inner.Boards.{lookIn, Shows}
 use Rattle.bench.specs.inner.Choices.{openingIn, openAfter}
-use Rattle.bench.specs.inner.Moves.{finishedIn, handedWith, startedIn, Stepped}
-use Rattle.bench.proofs.shown.HeldLaws.{Sized, benchOf-stateOf, benchTicked-is, benchStarted-is}
+use Rattle.bench.specs.inner.Moves.{benchStarted, finishedIn, handedWith, startedIn, Stepped}
+use Rattle.bench.proofs.shown.HeldLaws.{Sized, benchOf-stateOf, ticked-is, benchStarted-is}
 use Rattle.bench.proofs.choice.JoinLaws.{rows-are, finished-same, steps-same, cost-same, opened-same}
 use Rattle.bench.proofs.choice.ChoiceLaws.{stored, stays-after, opening-after, chosen-row, chosen-nothing}
 
@@ -134,10 +133,10 @@ module _ (load : Load) (bench : Bench) (board : Board) (shows : Shows load bench
 
   module _ (e : shaped L s ≡ true) (d : allFinished L s ≡ false) (h : bench .clock < lastMoment) where
     idle-move : chosen L s ≡ none
-        → handedOn bench (move L s) ≡ handedWith (benchTicked bench) Idle (board .opened) (load .rows)
+        → handedOn bench (move L s) ≡ handedWith (benchAt bench (bench .clock + 1)) Idle (board .opened) (load .rows)
     idle-move q =
         ap (handedOn bench) (move-goes L s e d h ∙ ap (startOrIdle L s) q)
-        ∙ parts Idle (benchOf (ticked s)) (benchTicked bench) _ _ _ _ (sym (benchTicked-is bench size))
+        ∙ parts Idle (benchOf (ticked s)) (benchAt bench (bench .clock + 1)) _ _ _ _ (sym (ticked-is bench size))
         (word-is L (ticked s) (load .rows) (rows-are load bench board shows) (board .opened) open-ticked)
         (count-is L (ticked s) (load .rows) (rows-are load bench board shows) (board .opened) open-ticked)
 

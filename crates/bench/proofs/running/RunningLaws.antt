@@ -29,7 +29,7 @@ use Rattle.rules.proofs.invariant.ClockBound.{tightBound-fits}
 use Rattle.rules.proofs.run.StretchLaws.{later, Quiet, starts-done, quiet-accounted, quiet-starts}
 use Rattle.bench.specs.declared.Bench.{Bench}
 use Rattle.bench.specs.declared.Board.{Board}
-use Rattle.bench.specs.Held.{stateOf, benchOf}
+use Rattle.bench.specs.Held.{stateOf, benchOf, benchAt}
 use Rattle.bench.specs.inner.Boards.{Shows}
 use Rattle.bench.specs.inner.Choices.{candidateIn, passesIn, ChosenIn}
 use Rattle.bench.specs.inner.Moves.{finishedIn}
@@ -40,7 +40,7 @@ use Rattle.bench.proofs.choice.ChoiceLaws.{chosen-nothing}
 use Rattle.bench.proofs.choice.NextLaws.{finished-is}
 use Rattle.bench.proofs.running.CrowdLaws.{crowded-refused}
 use Rattle.bench.proofs.running.QuietLaws.{quiet-chosen}
-use Rattle.bench.proofs.shown.LaterBoards.{benchAt, fresh-sized, fresh-state, benchAt-sized, shows-at}
+use Rattle.bench.proofs.shown.LaterBoards.{fresh-sized, fresh-state, benchAt-sized, shows-at}
 
 -- the run at a turn: its bench is in no place of memory
 pub record Running (load : Load) (board : Board) (clock count : ℕ) (slots : List Slot) : Type 0 where

@@ -14,8 +14,8 @@ use Rattle.counting.proofs.sums.ChangeLaws.{changed-same, changed-other}
 use Rattle.load.specs.View.{View}
 use Rattle.rules.specs.Move.{openingAfter, started, ticked}
 use Rattle.bench.specs.declared.Bench.{Bench}
-use Rattle.bench.specs.Held.{stateOf, benchOf}
-use Rattle.bench.specs.inner.Updates.{benchStarted, benchTicked}
+use Rattle.bench.specs.Held.{stateOf, benchOf, benchAt}
+use Rattle.bench.specs.inner.Moves.{benchStarted}
 
 -- 24 places to a field
 pub record Sized (bench : Bench) : Type 0 where
@@ -59,9 +59,9 @@ module _ (bench : Bench) (size : Sized bench) where
         list-is (bench .opening) 24 (size .opening-length),
       )
 
-  pub benchTicked-is : benchTicked bench ≡ benchOf (ticked (stateOf bench))
+  pub ticked-is : benchAt bench (bench .clock + 1) ≡ benchOf (ticked (stateOf bench))
   unfolding benchOf ticked
-  benchTicked-is =
+  ticked-is =
       rw (
         list-is (bench .finished) 24 (size .finished-length),
         list-is (bench .end) 24 (size .end-length),

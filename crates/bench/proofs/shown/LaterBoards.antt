@@ -20,11 +20,11 @@ use Rattle.rules.specs.Move.{openingAfter, started, startedFull}
 use Rattle.bench.specs.declared.Bench.{Bench}
 use Rattle.bench.specs.declared.Look.{Look}
 use Rattle.bench.specs.declared.Board.{Board}
-use Rattle.bench.specs.Held.{stateOf, benchOf}
-use Rattle.bench.specs.inner.Updates.{benchStarted}
+use Rattle.bench.specs.Held.{stateOf, benchOf, benchAt}
 use Rattle.bench.specs.inner.Looks.{viewAlike, stateAlike, lookOf, Modest}
 use Rattle.bench.specs.inner.Boards.{lookIn, boardWith, Shows}
 use Rattle.bench.specs.inner.Choices.{openingIn}
+use Rattle.bench.specs.inner.Moves.{benchStarted}
 use Rattle.bench.specs.inner.Running.{lookAfter}
 use Rattle.bench.proofs.shown.HeldLaws.{Sized}
 use Rattle.bench.proofs.shown.LookLaws.{look-of-row}
@@ -59,11 +59,7 @@ fresh-sized =
       opening-length = listTo-length nothing 24;
     }
 
--- a bench at another moment
-abbrev pub benchAt : Bench → ℕ → Bench
-benchAt bench t =
-    record { clock = t; finished = bench .finished; end = bench .end; opening = bench .opening }
-
+-- a bench at another moment, and one with a step started, are as long
 pub benchAt-sized : (bench : Bench) (t : ℕ) → Sized bench → Sized (benchAt bench t)
 benchAt-sized bench t size =
     record {

@@ -1,9 +1,9 @@
 -- The board: what is looked up of every row of a load, one list a number, so that the search and
 -- the plan read plain lists. To be read after Looks.
 use Prim.Native.Nat.{ℕ, _<_}
-use mathlib.Core.Bool.{false}
 use mathlib.Core.Path.{_≡_}
-use lib.ListN.{length, getD, set}
+use lib.ListN.{length, set}
+use Rattle.counting.specs.Lists.{memberAt, isMarked}
 use Rattle.load.specs.declared.Load.{Load}
 use Rattle.load.specs.View.{viewOf}
 use Rattle.bench.specs.declared.Bench.{Bench}
@@ -16,18 +16,18 @@ use Rattle.bench.specs.inner.Looks.{lookOf, Modest}
 abbrev pub lookIn : Board → ℕ → Look
 lookIn board i =
     record {
-      finished = getD (board .finished) i 0;
-      steps = getD (board .steps) i 0;
-      opening = getD (board .opening) i 0;
-      cost = getD (board .cost) i 0;
-      release = getD (board .release) i 0;
-      opened = getD (board .opened) i false;
-      left = getD (board .left) i 0;
-      due = getD (board .due) i 0;
-      wait = getD (board .wait) i 0;
-      stays = getD (board .stays) i false;
-      rest = getD (board .rest) i 0;
-      limit = getD (board .limit) i 0;
+      finished = memberAt (board .finished) i;
+      steps = memberAt (board .steps) i;
+      opening = memberAt (board .opening) i;
+      cost = memberAt (board .cost) i;
+      release = memberAt (board .release) i;
+      opened = isMarked (board .opened) i;
+      left = memberAt (board .left) i;
+      due = memberAt (board .due) i;
+      wait = memberAt (board .wait) i;
+      stays = isMarked (board .stays) i;
+      rest = memberAt (board .rest) i;
+      limit = memberAt (board .limit) i;
     }
 
 -- a board with another look of row i

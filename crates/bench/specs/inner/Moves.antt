@@ -1,12 +1,13 @@
--- What a move hands back in memory, over a board: with the lamps of the windows that are open after
--- the move. To be read after Choices.
-use Prim.Native.Nat.{ℕ, _≤_, _<_}
+-- What a move hands back in memory, over a board: the bench that it leaves, with the lamps of the
+-- windows that are open after it. To be read after Choices.
+use Prim.Native.Nat.{ℕ, _+_, _≤_, _<_}
 use mathlib.Core.Bool.{Bool}
 use mathlib.Core.List.{List}
 use mathlib.Core.Path.{_≡_}
 use lib.Dec.{leb}
+use lib.ListN.{set}
 use Rattle.counting.specs.Sums.{allTo, countTo}
-use Rattle.counting.specs.Lists.{isMarked}
+use Rattle.counting.specs.Lists.{memberAt, isMarked}
 use Rattle.words.specs.LampWord.{wordOf}
 use Rattle.load.specs.Load.{shown}
 use Rattle.rules.specs.declared.Outcome.{Outcome}
@@ -15,9 +16,19 @@ use Rattle.rules.specs.declared.Slot.{Slot}
 use Rattle.bench.specs.declared.Bench.{Bench}
 use Rattle.bench.specs.declared.Board.{Board}
 use Rattle.bench.specs.declared.Moved.{Moved}
-use Rattle.bench.specs.inner.Updates.{benchStarted, benchTicked}
+use Rattle.bench.specs.Held.{benchAt}
 use Rattle.bench.specs.inner.Boards.{lookIn}
 use Rattle.bench.specs.inner.Choices.{openingIn, openAfter, ChosenIn}
+
+-- a bench once row i has started a step that takes so long, with its opening
+abbrev pub benchStarted : Bench → ℕ → ℕ → ℕ → Bench
+benchStarted bench i long opening =
+    record {
+      clock = bench .clock + long;
+      finished = set (bench .finished) i (memberAt (bench .finished) i + 1);
+      end = set (bench .end) i (bench .clock + long);
+      opening = set (bench .opening) i opening;
+    }
 
 -- all steps are finished
 abbrev pub finishedIn : Board → ℕ → Bool
@@ -52,4 +63,5 @@ pub record Stepped (bench : Bench) (board : Board) (rows : ℕ) (moved : Moved) 
   pub row : ℕ
   pub chosen : ChosenIn board (bench .clock) rows row
   pub starts : row < rows → moved ≡ startedIn bench board rows row
-  pub idles : rows ≤ row → moved ≡ handedWith (benchTicked bench) Idle (board .opened) rows
+  pub idles : rows ≤ row
+      → moved ≡ handedWith (benchAt bench (bench .clock + 1)) Idle (board .opened) rows

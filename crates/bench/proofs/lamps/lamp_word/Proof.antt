@@ -1,14 +1,13 @@
 -- `lamp_word` lights one row a turn: at i it has the word of the first i rows, and 2 ^ i for the next row's bit.
 use Prim.Native.Nat.{_-_, _^_, _≤_}
-use mathlib.Core.Bool.{false}
 use mathlib.Core.Logic.{⊎-elim}
 use mathlib.Core.Path.{_≡_, refl, sym}
 use native.Mathlib.Nat.{pow-suc}
 use native.Mathlib.Numerals.{add-one}
 use native.Mathlib.Omega.{arith}
 use borrow.Author.Needs.{needs}
-use lib.ListN.{getD}
 use lib.Pow.{pow-mono}
+use Rattle.counting.specs.Lists.{isMarked}
 use Rattle.counting.proofs.sums.SumLaws.{sumTo-zero, sumTo-next}
 use Rattle.words.specs.LampWord.{wordOf}
 use Rattle.words.proofs.LampLaws.{wordOf-lt}
@@ -17,7 +16,7 @@ use Rattle.bench.proofs.lamps.lamp_word.Tie as tie
 
 abbrev Inv-loop : tie.InvT-loop
 Inv-loop rows opened word₀ place₀ i₀ word place i =
-    (i ≤ rows) × (place ≡ 2 ^ i) × (word ≡ wordOf (λ k. getD opened k false) i)
+    (i ≤ rows) × (place ≡ 2 ^ i) × (word ≡ wordOf (isMarked opened) i)
 
 abbrev μ-loop : tie.MeasureT-loop
 μ-loop rows opened word₀ place₀ i₀ word place i = rows - i
@@ -30,7 +29,7 @@ add-word c =
     let start = c .before .before .before in
     let i = c .before .before .loop .i in
     let b : 2 ^ i ≤ 2 ^ 24 = pow-mono (let l : i ≤ 24 = omega arith in l) in
-    omega (arith, wordOf-lt (λ k. getD (start .args .t1) k false) i)
+    omega (arith, wordOf-lt (isMarked (start .args .t1)) i)
 
 mul-place : tie.Need-mul-place Inv-loop μ-loop
 mul-place c =
