@@ -2,15 +2,12 @@
 -- plan at the candidate's end: so what the search chooses is what the rules choose.
 use Prim.Native.Nat.{ℕ, suc, _+_, min, _≤_, _<_}
 use mathlib.Core.Bool.{true, false}
-use mathlib.Core.List.{List}
 use mathlib.Core.Path.{_≡_, ap, ap₂, sym, _∙_}
-use native.Mathlib.Decide.{ℕ-discrete}
 use native.Mathlib.Omega.{arith}
 use lib.Dec.{leb}
-use lib.ListN.{length, getD, set}
-use lib.Seq.{getD-set-same, getD-set-other}
+use lib.ListN.{set}
 use Rattle.counting.specs.Sums.{allTo}
-use Rattle.counting.specs.Lists.{numbersWhere}
+use Rattle.counting.specs.Lists.{numbersWhere, isMarked}
 use Rattle.counting.specs.Searches.{at, none, found}
 use Rattle.counting.specs.Sorting.{sorted, byKey}
 use Rattle.counting.proofs.tests.TestLaws.{allTo-ext}
@@ -39,6 +36,7 @@ use Rattle.bench.specs.inner.Looks.{further}
 use Rattle.bench.specs.inner.Boards.{lookIn, Wide, Shows}
 use Rattle.bench.specs.inner.Stacks.{planBy}
 use Rattle.bench.specs.inner.Choices.{belowIn, candidateIn, openingIn, openAfter, passesIn, ChosenIn}
+use Rattle.bench.proofs.shown.StoreLaws.{stored}
 use Rattle.bench.proofs.choice.JoinLaws.{
   planBy-is,
   rows-are,
@@ -55,15 +53,6 @@ use Rattle.bench.proofs.choice.JoinLaws.{
   rest-same,
   limit-same,
 }
-
--- a list with one number stored, place by place
-pub stored : {A : Type 0} (l : List A) (i : ℕ) (v z : A) (f : ℕ → A) (rows : ℕ) → i < length l → v ≡ f i
-    → ((k : ℕ) → k < rows → (k ≡ i → ⊥) → getD l k z ≡ f k) → (k : ℕ) → k < rows → getD (set l i v) k z ≡ f k
-stored l i v z f rows inside here there k b =
-    elim (ℕ-discrete k i) [
-      | yes q ↦ rw q (getD-set-same l i v z inside ∙ here)
-      | no q ↦ getD-set-other l i k v z q ∙ there k b q
-    ]
 
 module _ (load : Load) (bench : Bench) (board : Board) (shows : Shows load bench board) where
   abbrev L : View
@@ -106,7 +95,7 @@ module _ (load : Load) (bench : Bench) (board : Board) (shows : Shows load bench
     abbrev cost : ℕ
     cost = L .cost i (s .finished i)
 
-    pub stays-after : lookIn board i .stays ≡ isOpen L after i
+    stays-after : lookIn board i .stays ≡ isOpen L after i
     stays-after =
         stays-same load bench board shows i l ∙ sym (ap (opensAt L i) (started-finished-same L s i cost))
 
@@ -127,8 +116,12 @@ module _ (load : Load) (bench : Bench) (board : Board) (shows : Shows load bench
     limit-after : lookIn board i .limit ≡ limitAt L i (suc (s .finished i))
     limit-after = limit-same load bench board shows i l
 
-    inside : rows ≤ 24 → i < 24
-    inside h = omega arith
+    -- the open windows then
+    pub open-after : rows ≤ 24 → (k : ℕ) → k < rows → isMarked (openAfter board i) k ≡ isOpen L after k
+    open-after most k b =
+        stored false (λ k a. a ≡ isOpen L after k) (board .opened) i (lookIn board i .stays)
+        (omega (arith, shows .wide .opened-length)) stays-after k
+        (λ ne. opened-same load bench board shows k b ∙ sym (isOpen-other L s i cost k ne))
 
     pub passes-same : rows ≤ 24 → passesIn board (bench .clock) rows i ≡ passes L s i
     unfolding passesIn passes
@@ -143,20 +136,16 @@ module _ (load : Load) (bench : Bench) (board : Board) (shows : Shows load bench
         (set (board .release) i (after .clock + lookIn board i .wait))
         (set (board .left) i (lookIn board i .rest))
         (set (board .due) i (opening + lookIn board i .limit))
-        (stored (board .opened) i (lookIn board i .stays) false (isOpen L after) rows
-        (omega (arith, wide .opened-length)) stays-after
-        (λ k b ne. opened-same load bench board shows k b ∙ sym (isOpen-other L s i cost k ne)))
-        (stored (board .release) i (after .clock + lookIn board i .wait) 0 (released L after) rows
-        (omega (arith, wide .release-length))
-        (ap₂ _+_ (started-clock L s i cost) (wait-same load bench board shows i l) ∙ sym (released-same L s i cost))
-        (λ k b ne. release-same load bench board shows k b ∙ sym (job-other L s i cost k ne .released-same)))
-        (stored (board .left) i (lookIn board i .rest) 0 (windowLeft L after) rows
-        (omega (arith, wide .left-length)) rest-after
-        (λ k b ne. left-same load bench board shows k b ∙ sym (job-other L s i cost k ne .left-same)))
-        (stored (board .due) i (opening + lookIn board i .limit) 0 (due L after) rows
-        (omega (arith, wide .due-length))
-        (ap₂ _+_ opening-after limit-after ∙ sym (due-same L s i cost))
-        (λ k b ne. due-now load bench board shows k b ∙ sym (job-other L s i cost k ne .due-same)))
+        (open-after most)
+        (λ k b. stored 0 (λ k a. a ≡ released L after k) (board .release) i _ (omega (arith, wide .release-length))
+        (ap₂ _+_ (started-clock L s i cost) (wait-same load bench board shows i l) ∙ sym (released-same L s i cost)) k
+        (λ ne. release-same load bench board shows k b ∙ sym (job-other L s i cost k ne .released-same)))
+        (λ k b. stored 0 (λ k a. a ≡ windowLeft L after k) (board .left) i _ (omega (arith, wide .left-length))
+        rest-after k
+        (λ ne. left-same load bench board shows k b ∙ sym (job-other L s i cost k ne .left-same)))
+        (λ k b. stored 0 (λ k a. a ≡ due L after k) (board .due) i _ (omega (arith, wide .due-length))
+        (ap₂ _+_ opening-after limit-after ∙ sym (due-same L s i cost)) k
+        (λ ne. due-now load bench board shows k b ∙ sym (job-other L s i cost k ne .due-same)))
         (after .clock)
       where
         wide : Wide board

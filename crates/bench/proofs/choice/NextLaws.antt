@@ -37,7 +37,6 @@ use Rattle.rules.specs.Move.{
   move,
 }
 use Rattle.rules.proofs.moves.MoveLaws.{move-done, move-goes}
-use Rattle.rules.proofs.plan.StackLaws.{isOpen-other}
 use Rattle.bench.specs.declared.Bench.{Bench}
 use Rattle.bench.specs.declared.Board.{Board}
 use Rattle.bench.specs.declared.Moved.{Moved}
@@ -47,7 +46,7 @@ use Rattle.bench.specs.inner.Choices.{openingIn, openAfter}
 use Rattle.bench.specs.inner.Moves.{benchStarted, finishedIn, handedWith, startedIn, Stepped}
 use Rattle.bench.proofs.shown.HeldLaws.{Sized, benchOf-stateOf, ticked-is, benchStarted-is}
 use Rattle.bench.proofs.choice.JoinLaws.{rows-are, finished-same, steps-same, cost-same, opened-same}
-use Rattle.bench.proofs.choice.ChoiceLaws.{stored, stays-after, opening-after, chosen-row, chosen-nothing}
+use Rattle.bench.proofs.choice.ChoiceLaws.{opening-after, open-after, chosen-row, chosen-nothing}
 
 -- a load that is accepted, and one that is refused
 pub nextMove-good : (load : Load) (bench : Bench) → checkLoad load ≡ Good
@@ -147,8 +146,8 @@ module _ (load : Load) (bench : Bench) (board : Board) (shows : Shows load bench
         ap (handedOn bench) (move-goes L s e d h ∙ ap (startOrIdle L s) q)
         ∙ parts (Start (nextSlot s i)) (benchOf after) (benchStarted bench i (lookIn board i .cost) opening) _ _ _ _
         bench-is
-        (word-is L after (load .rows) (rows-are load bench board shows) lit open-after)
-        (count-is L after (load .rows) (rows-are load bench board shows) lit open-after)
+        (word-is L after (load .rows) (rows-are load bench board shows) lit lit-are)
+        (count-is L after (load .rows) (rows-are load bench board shows) lit lit-are)
         ∙ ap (λ f. handedWith (benchStarted bench i (lookIn board i .cost) opening)
         (Start (record { row = shown i; step = shown f; start = bench .clock })) lit (load .rows))
         (sym (finished-same load bench board shows i l))
@@ -169,12 +168,8 @@ module _ (load : Load) (bench : Bench) (board : Board) (shows : Shows load bench
             (ap₂ (benchStarted bench i) (cost-same load bench board shows i l)
             (opening-after load bench board shows i l))
 
-        open-after : (k : ℕ) → k < load .rows → isMarked lit k ≡ isOpen L after k
-        open-after =
-            stored (board .opened) i (lookIn board i .stays) false (isOpen L after) (load .rows)
-            (omega (arith, shows .wide .opened-length)) (stays-after load bench board shows i l)
-            (λ k b ne. opened-same load bench board shows k b
-            ∙ sym (isOpen-other L s i (L .cost i (s .finished i)) k ne))
+        lit-are : (k : ℕ) → k < load .rows → isMarked lit k ≡ isOpen L after k
+        lit-are = open-after load bench board shows i l most
 
     pub stepped-move : (moved : Moved) → Stepped bench board (load .rows) moved → moved ≡ handedOn bench (move L s)
     stepped-move moved t =

@@ -4,10 +4,8 @@ use Prim.Native.Nat.{ℕ, _+_, _≤_, _<_}
 use mathlib.Core.Bool.{Bool, true, false}
 use mathlib.Core.List.{List}
 use mathlib.Core.Path.{_∙_}
-use native.Mathlib.Decide.{ℕ-discrete}
 use native.Mathlib.Omega.{arith}
 use lib.ListN.{length, set, length-set}
-use lib.Seq.{getD-set-same, getD-set-other}
 use Rattle.counting.specs.Lists.{memberAt}
 use Rattle.load.specs.Load.{lastMoment}
 use Rattle.bench.specs.declared.Look.{Look}
@@ -15,6 +13,7 @@ use Rattle.bench.specs.declared.Board.{Board}
 use Rattle.bench.specs.inner.Boards.{lookIn}
 use Rattle.bench.specs.inner.Stacks.{PlanFits}
 use Rattle.bench.specs.inner.Choices.{openingBy, BoardFits}
+use Rattle.bench.proofs.shown.StoreLaws.{stored}
 
 pub openingBy-le : (stays opened : Bool) (opening clock : ℕ) → opening ≤ lastMoment → clock ≤ lastMoment
     → openingBy stays opened opening clock ≤ lastMoment
@@ -25,11 +24,7 @@ openingBy-le false opened opening clock h g = omega arith
 -- numbers that are small stay so where a small one is stored
 set-most : (l : List ℕ) (i v most rows : ℕ) → i < length l → v ≤ most → ((k : ℕ) → k < rows → memberAt l k ≤ most)
     → (k : ℕ) → k < rows → memberAt (set l i v) k ≤ most
-set-most l i v most rows inside small h k b =
-    elim (ℕ-discrete k i) [
-      | yes q ↦ rw q (omega (arith, getD-set-same l i v 0 inside))
-      | no q ↦ omega (arith, getD-set-other l i k v 0 q, h k b)
-    ]
+set-most l i v most rows inside small h k b = stored 0 (λ k a. a ≤ most) l i v inside small k (λ q. h k b)
 
 module _ (board : Board) (clock rows i opening : ℕ) (fits : BoardFits board clock rows) (l : i < rows)
     (small : opening ≤ lastMoment) where

@@ -35,12 +35,12 @@ use Rattle.bench.specs.inner.Choices.{candidateIn, passesIn, ChosenIn}
 use Rattle.bench.specs.inner.Moves.{finishedIn}
 use Rattle.bench.specs.inner.Running.{QuietTo}
 use Rattle.bench.specs.Runs.{ranWith}
-use Rattle.bench.proofs.shown.HeldLaws.{Sized}
+use Rattle.bench.proofs.shown.HeldLaws.{Sized, benchAt-sized}
 use Rattle.bench.proofs.choice.ChoiceLaws.{chosen-nothing}
 use Rattle.bench.proofs.choice.NextLaws.{finished-is}
 use Rattle.bench.proofs.running.CrowdLaws.{crowded-refused}
 use Rattle.bench.proofs.running.QuietLaws.{quiet-chosen}
-use Rattle.bench.proofs.shown.LaterBoards.{fresh-sized, fresh-state, benchAt-sized, shows-at}
+use Rattle.bench.proofs.shown.LaterBoards.{fresh-sized, fresh-state, shows-at}
 
 -- the run at a turn: its bench is in no place of memory
 pub record Running (load : Load) (board : Board) (clock count : ℕ) (slots : List Slot) : Type 0 where
@@ -119,7 +119,7 @@ module _ (load : Load) (accepted : checkLoad load ≡ Good) (most : load .rows �
         let pause : allFinished L s ≡ false = sym asked ∙ nd in
         record {
           bench = benchAt (r .bench) (r .bench .clock + k);
-          sized = benchAt-sized (r .bench) (r .bench .clock + k) (r .sized);
+          sized = benchAt-sized (r .bench) (r .sized) (r .bench .clock + k);
           clock-is = ap (λ t. t + k) (r .clock-is);
           shows = shows-at load (r .bench) board (r .shows) (r .bench .clock + k);
           kept = quiet-accounted L good s (r .kept) pause k q;

@@ -1,13 +1,13 @@
 -- A run hands back the schedule: the first slots of its array, as many as it counts, are the schedule of the load, at
 -- most 192, and a load that is refused has none.
 use Prim.Native.Nat.{_≤_}
-use mathlib.Core.List.{List, []}
-use mathlib.Core.Path.{_≡_, ap, _∙_}
+use mathlib.Core.List.{[]}
+use mathlib.Core.Path.{_≡_, refl, ap, _∙_}
 use native.Mathlib.Omega.{arith}
 use lib.ListN.{length, take}
-use lib.Seq.{ext-getD, take-at}
+use lib.Seq.{take-at}
 use Rattle.counting.specs.Lists.{listTo}
-use Rattle.counting.proofs.lists.ListLaws.{listTo-length, getD-listTo}
+use Rattle.counting.proofs.lists.ListLaws.{listTo-length}
 use Rattle.counting.proofs.sums.SumLaws.{sumTo-le}
 use Rattle.refusals.specs.declared.Refusal.{Refusal}
 use Rattle.refusals.specs.declared.Checked.the-variants.{Good, Refused}
@@ -16,7 +16,6 @@ use Rattle.load.specs.Load.{mostSteps}
 use Rattle.load.specs.View.{viewOf, stepsInAll}
 use Rattle.load.specs.Check.{checkLoad}
 use Rattle.load.proofs.AcceptableLaws.{check-acceptable}
-use Rattle.rules.specs.declared.Slot.{Slot}
 use Rattle.rules.specs.Slots.{noSlot, slotAt}
 use Rattle.rules.specs.Run.{schedule}
 use Rattle.rules.proofs.invariant.RunnableLaws.{acceptable-runnable}
@@ -24,13 +23,7 @@ use Rattle.rules.proofs.run.RunMade.{schedule-is-whole}
 use Rattle.bench.specs.declared.Ran.{Ran}
 use Rattle.bench.specs.Runs.{scheduleOr}
 use Rattle.bench.specs.Calls.{Runs}
-
--- a list is made of what is read at its places
-slots-are : (slots : List Slot) → listTo (slotAt slots) (length slots) ≡ slots
-slots-are slots =
-    let sized = listTo-length (slotAt slots) (length slots) in
-    ext-getD noSlot (listTo (slotAt slots) (length slots)) slots sized
-    (λ i h. getD-listTo (slotAt slots) (length slots) i noSlot (omega arith))
+use Rattle.bench.proofs.shown.StoreLaws.{listTo-read}
 
 -- the slots that a run counts are those of the list that it was made from
 pub Runs-taken : (load : Load) (r : Ran) → Runs load r → take (r .count) (r .slots) ≡ scheduleOr load
@@ -38,7 +31,7 @@ Runs-taken load r e =
     let slots = scheduleOr load in
     ap (λ (a : Ran). take (a .count) (a .slots)) e
     ∙ take-at (listTo (slotAt slots) (length slots)) _ (length slots) (listTo-length (slotAt slots) (length slots))
-    ∙ slots-are slots
+    ∙ listTo-read noSlot slots (length slots) refl
 
 pub scheduleOr-refused : (load : Load) (refusal : Refusal) → checkLoad load ≡ Refused refusal → scheduleOr load ≡ []
 unfolding scheduleOr

@@ -33,11 +33,12 @@ use Rattle.bench.specs.inner.Boards.{lookIn, boardWith}
 use Rattle.bench.specs.inner.Choices.{ChosenIn}
 use Rattle.bench.specs.inner.Moves.{finishedIn}
 use Rattle.bench.specs.inner.Running.{lookAfter}
+use Rattle.bench.proofs.shown.HeldLaws.{benchStarted-sized}
 use Rattle.bench.proofs.choice.SearchLaws.{candidate-more, candidate-ends}
 use Rattle.bench.proofs.choice.JoinLaws.{finished-same, steps-same, cost-same}
 use Rattle.bench.proofs.choice.ChoiceLaws.{chosen-row}
 use Rattle.bench.proofs.choice.NextLaws.{finished-is}
-use Rattle.bench.proofs.shown.LaterBoards.{benchStarted-sized, benchOver, after-state, shows-started}
+use Rattle.bench.proofs.shown.LaterBoards.{benchOver, after-state, shows-started}
 use Rattle.bench.proofs.running.RunsLaws.{schedule-most}
 use Rattle.bench.proofs.running.RunningLaws.{Running, running-early}
 
@@ -149,7 +150,7 @@ module _ (load : Load) (accepted : checkLoad load ≡ Good) (most : load .rows �
         let state : stateOf over ≡ going = after-state load (r .bench) board (r .shows) (r .sized) i l (omega arith) in
         record {
           bench = over;
-          sized = benchStarted-sized (r .bench) i _ _ (r .sized);
+          sized = benchStarted-sized (r .bench) (r .sized) i _ _;
           clock-is = ap (λ t. t + lookIn board i .cost) (r .clock-is);
           shows =
               shows-started load (r .bench) board (r .shows) (r .sized) i l (omega arith) look

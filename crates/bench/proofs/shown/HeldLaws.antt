@@ -1,21 +1,19 @@
--- A bench in memory and the state that it holds: a bench with 24 places to a field is the bench of its state, and what
--- the code stores at a start and at a tick is the bench of the state that the rules say.
+-- A bench in memory and the state that it holds: a bench with 24 places to a field is the bench of its state; what the
+-- code stores at a start and at a tick is as long, and holds the state that the rules say.
 use Prim.Native.Nat.{ℕ, _+_, _<_}
 use mathlib.Core.List.{List}
-use mathlib.Core.Path.{_≡_, sym, _∙_}
-use native.Mathlib.Decide.{ℕ-discrete}
+use mathlib.Core.Path.{_≡_, ap, sym, _∙_, fun-ext}
 use native.Mathlib.Numerals.{add-one}
 use native.Mathlib.Omega.{arith}
-use lib.ListN.{length, getD, set, length-set}
-use lib.Seq.{ext-getD, getD-set-same, getD-set-other}
-use Rattle.counting.specs.Lists.{listTo, changed}
-use Rattle.counting.proofs.lists.ListLaws.{listTo-length, getD-listTo}
+use lib.ListN.{length, set, length-set}
+use Rattle.counting.specs.Lists.{changed, memberAt}
 use Rattle.counting.proofs.sums.ChangeLaws.{changed-same, changed-other}
 use Rattle.load.specs.View.{View}
 use Rattle.rules.specs.Move.{openingAfter, started, ticked}
 use Rattle.bench.specs.declared.Bench.{Bench}
 use Rattle.bench.specs.Held.{stateOf, benchOf, benchAt}
 use Rattle.bench.specs.inner.Moves.{benchStarted}
+use Rattle.bench.proofs.shown.StoreLaws.{listTo-read, stored}
 
 -- 24 places to a field
 pub record Sized (bench : Bench) : Type 0 where
@@ -23,58 +21,58 @@ pub record Sized (bench : Bench) : Type 0 where
   pub end-length : length (bench .end) ≡ 24
   pub opening-length : length (bench .opening) ≡ 24
 
--- a list is made of what is read at its places
-list-is : (l : List ℕ) (n : ℕ) → length l ≡ n → listTo (λ i. getD l i 0) n ≡ l
-list-is l n e =
-    ext-getD 0 (listTo (λ i. getD l i 0) n) l (listTo-length (λ i. getD l i 0) n ∙ sym e)
-    (λ i h. getD-listTo (λ k. getD l k 0) n i 0 (omega (arith, listTo-length (λ k. getD l k 0) n)))
+pub benchOf-stateOf : (bench : Bench) → Sized bench → benchOf (stateOf bench) ≡ bench
+unfolding benchOf
+benchOf-stateOf bench size =
+    rw (
+      listTo-read 0 (bench .finished) 24 (size .finished-length),
+      listTo-read 0 (bench .end) 24 (size .end-length),
+      listTo-read 0 (bench .opening) 24 (size .opening-length),
+    )
 
--- and a list with one place changed is made of what is read, changed at that place
-changed-is : (l : List ℕ) (n i v : ℕ) → length l ≡ n → i < n → set l i v ≡ listTo (changed (λ k. getD l k 0) i v) n
-changed-is l n i v e h =
-    ext-getD 0 (set l i v) (listTo f n) (length-set l i v ∙ e ∙ sym (listTo-length f n)) at
-  where
-    f : ℕ → ℕ
-    f = changed (λ k. getD l k 0) i v
-
-    at : (k : ℕ) → k < length (set l i v) → getD (set l i v) k 0 ≡ getD (listTo f n) k 0
-    at k lk =
-        let lt : k < n = omega (arith, length-set l i v) in
-        let r = getD-listTo f n k 0 lt in
-        elim (ℕ-discrete k i) [
-          | yes q ↦
-              rw q
-              (getD-set-same l i v 0 (omega arith)
-              ∙ sym (getD-listTo f n i 0 h ∙ changed-same (λ k. getD l k 0) i v))
-          | no q ↦ getD-set-other l i k v 0 q ∙ sym (r ∙ changed-other (λ k. getD l k 0) i v k q)
-        ]
+-- a store in a list is a change of what is read
+set-changed : (l : List ℕ) (i v : ℕ) → i < length l → memberAt (set l i v) ≡ changed (memberAt l) i v
+set-changed l i v h =
+    fun-ext
+    (λ k. stored 0 (λ k a. a ≡ changed (memberAt l) i v k) l i v h (sym (changed-same (memberAt l) i v)) k
+    (λ q. sym (changed-other (memberAt l) i v k q)))
 
 module _ (bench : Bench) (size : Sized bench) where
-  pub benchOf-stateOf : benchOf (stateOf bench) ≡ bench
-  unfolding benchOf
-  benchOf-stateOf =
-      rw (
-        list-is (bench .finished) 24 (size .finished-length),
-        list-is (bench .end) 24 (size .end-length),
-        list-is (bench .opening) 24 (size .opening-length),
-      )
+  pub benchAt-sized : (t : ℕ) → Sized (benchAt bench t)
+  benchAt-sized t =
+      record {
+        finished-length = size .finished-length;
+        end-length = size .end-length;
+        opening-length = size .opening-length;
+      }
+
+  pub benchStarted-sized : (i long opening : ℕ) → Sized (benchStarted bench i long opening)
+  benchStarted-sized i long opening =
+      record {
+        finished-length = length-set (bench .finished) i (memberAt (bench .finished) i + 1) ∙ size .finished-length;
+        end-length = length-set (bench .end) i (bench .clock + long) ∙ size .end-length;
+        opening-length = length-set (bench .opening) i opening ∙ size .opening-length;
+      }
 
   pub ticked-is : benchAt bench (bench .clock + 1) ≡ benchOf (ticked (stateOf bench))
-  unfolding benchOf ticked
-  ticked-is =
-      rw (
-        list-is (bench .finished) 24 (size .finished-length),
-        list-is (bench .end) 24 (size .end-length),
-        list-is (bench .opening) 24 (size .opening-length),
-      )
+  unfolding ticked
+  ticked-is = sym (benchOf-stateOf (benchAt bench (bench .clock + 1)) (benchAt-sized (bench .clock + 1)))
 
-  pub benchStarted-is : (L : View) (i long : ℕ) → i < 24
-      → benchStarted bench i long (openingAfter L (stateOf bench) i) ≡ benchOf (started L (stateOf bench) i long)
-  unfolding benchOf started
-  benchStarted-is L i long h =
-      rw (
-        changed-is (bench .finished) 24 i (getD (bench .finished) i 0 + 1) (size .finished-length) h,
-        changed-is (bench .end) 24 i (bench .clock + long) (size .end-length) h,
-        changed-is (bench .opening) 24 i (openingAfter L (stateOf bench) i) (size .opening-length) h,
-        add-one,
-      )
+  module _ (L : View) (i long : ℕ) (inside : i < 24) where
+    abbrev after : Bench
+    after = benchStarted bench i long (openingAfter L (stateOf bench) i)
+
+    pub benchStarted-state : stateOf after ≡ started L (stateOf bench) i long
+    unfolding started
+    benchStarted-state =
+        rw (
+          set-changed (bench .finished) i (memberAt (bench .finished) i + 1) (omega (arith, size .finished-length)),
+          set-changed (bench .end) i (bench .clock + long) (omega (arith, size .end-length)),
+          set-changed (bench .opening) i (openingAfter L (stateOf bench) i) (omega (arith, size .opening-length)),
+          add-one,
+        )
+
+    pub benchStarted-is : after ≡ benchOf (started L (stateOf bench) i long)
+    benchStarted-is =
+        sym (benchOf-stateOf after (benchStarted-sized i long (openingAfter L (stateOf bench) i)))
+        ∙ ap benchOf benchStarted-state

@@ -1,22 +1,19 @@
 -- A board goes on showing its load: with the clock at another moment as it is, and with row i looked up anew once the
 -- row's next step is over. The bench that it shows is in no place of memory; it holds the state of the rules.
 use Prim.Native.Nat.{ℕ, _+_, _<_}
-use mathlib.Core.List.{List}
 use mathlib.Core.Path.{_≡_, refl, ap, ap₂, sym, _∙_, fun-ext}
 use mathlib.Core.Logic.{_≢_}
 use native.Mathlib.Decide.{ℕ-discrete, decLt}
-use native.Mathlib.Numerals.{add-one}
 use native.Mathlib.Omega.{arith}
-use lib.ListN.{length, getD, set, length-set, List·getD-eq-default}
+use lib.ListN.{getD, List·getD-eq-default}
 use lib.Seq.{getD-set-same, getD-set-other}
-use Rattle.counting.specs.Lists.{listTo, changed}
+use Rattle.counting.specs.Lists.{listTo}
 use Rattle.counting.proofs.lists.ListLaws.{listTo-length, getD-listTo}
-use Rattle.counting.proofs.sums.ChangeLaws.{changed-same, changed-other}
 use Rattle.load.specs.declared.Load.{Load}
 use Rattle.load.specs.Load.{rowAt}
-use Rattle.load.specs.View.{View, viewOf}
+use Rattle.load.specs.View.{viewOf}
 use Rattle.rules.specs.State.{fresh}
-use Rattle.rules.specs.Move.{openingAfter, started, startedFull}
+use Rattle.rules.specs.Move.{startedFull}
 use Rattle.bench.specs.declared.Bench.{Bench}
 use Rattle.bench.specs.declared.Look.{Look}
 use Rattle.bench.specs.declared.Board.{Board}
@@ -26,7 +23,7 @@ use Rattle.bench.specs.inner.Boards.{lookIn, boardWith, Shows}
 use Rattle.bench.specs.inner.Choices.{openingIn}
 use Rattle.bench.specs.inner.Moves.{benchStarted}
 use Rattle.bench.specs.inner.Running.{lookAfter}
-use Rattle.bench.proofs.shown.HeldLaws.{Sized}
+use Rattle.bench.proofs.shown.HeldLaws.{Sized, benchStarted-state}
 use Rattle.bench.proofs.shown.LookLaws.{look-of-row}
 use Rattle.bench.proofs.shown.BoardLaws.{boardWith-same, boardWith-other, boardWith-wide}
 use Rattle.bench.proofs.choice.JoinLaws.{finished-same, cost-same}
@@ -59,49 +56,9 @@ fresh-sized =
       opening-length = listTo-length nothing 24;
     }
 
--- a bench at another moment, and one with a step started, are as long
-pub benchAt-sized : (bench : Bench) (t : ℕ) → Sized bench → Sized (benchAt bench t)
-benchAt-sized bench t size =
-    record {
-      finished-length = size .finished-length;
-      end-length = size .end-length;
-      opening-length = size .opening-length;
-    }
-
-pub benchStarted-sized : (bench : Bench) (i long opening : ℕ) → Sized bench → Sized (benchStarted bench i long opening)
-benchStarted-sized bench i long opening size =
-    record {
-      finished-length = length-set (bench .finished) i (getD (bench .finished) i 0 + 1) ∙ size .finished-length;
-      end-length = length-set (bench .end) i (bench .clock + long) ∙ size .end-length;
-      opening-length = length-set (bench .opening) i opening ∙ size .opening-length;
-    }
-
 -- a bench once row i's next step, of which a board tells, is over
 abbrev pub benchOver : Bench → Board → ℕ → Bench
 benchOver bench board i = benchStarted bench i (lookIn board i .cost) (openingIn board (bench .clock) i)
-
--- a store in a list is a change of what is read
-set-changed : (l : List ℕ) (i v : ℕ) → i < length l → (λ k. getD (set l i v) k 0) ≡ changed (λ k. getD l k 0) i v
-set-changed l i v h = fun-ext each
-  where
-    each : (k : ℕ) → getD (set l i v) k 0 ≡ changed (λ k. getD l k 0) i v k
-    each k =
-        elim (ℕ-discrete k i) [
-          | yes q ↦ rw q (getD-set-same l i v 0 h ∙ sym (changed-same (λ k. getD l k 0) i v))
-          | no q ↦ getD-set-other l i k v 0 q ∙ sym (changed-other (λ k. getD l k 0) i v k q)
-        ]
-
--- so the bench of a start holds the state of the start
-pub benchStarted-state : (bench : Bench) → Sized bench → (L : View) (i long : ℕ) → i < 24
-    → stateOf (benchStarted bench i long (openingAfter L (stateOf bench) i)) ≡ started L (stateOf bench) i long
-unfolding started
-benchStarted-state bench size L i long h =
-    rw (
-      set-changed (bench .finished) i (getD (bench .finished) i 0 + 1) (omega (arith, size .finished-length)),
-      set-changed (bench .end) i (bench .clock + long) (omega (arith, size .end-length)),
-      set-changed (bench .opening) i (openingAfter L (stateOf bench) i) (omega (arith, size .opening-length)),
-      add-one,
-    )
 
 -- what is looked up of row k, by its numbers
 abbrev lookBy : Load → ℕ → ℕ → ℕ → ℕ → Look
