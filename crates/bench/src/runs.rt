@@ -21,9 +21,11 @@ ghost use mathlib.Core.Path.{_≡_};
 ghost use mathlib.Core.Bool.{true};
 ghost use mathlib.Core.List.{[]};
 ghost use Prim.Native.Nat.{_<_};
+ghost use lib.ListN.{replicate};
 ghost use Rattle.refusals.specs.declared.Checked.the-variants.{Good, Refused};
 ghost use Rattle.load.specs.Check.{checkLoad};
 ghost use Rattle.load.specs.View.{viewOf};
+ghost use Rattle.rules.specs.Slots.{noSlot, places};
 ghost use Rattle.rules.specs.Run.{schedule};
 ghost use Rattle.bench.specs.inner.Looks.{Fitting, Modest};
 ghost use Rattle.bench.specs.inner.Choices.{BoardFits, candidateIn};
@@ -44,6 +46,17 @@ fn look_after(row: Row, board: Board, clock: u32, rows: usize, i: usize) -> Look
     look_of(row, board.finished[i] + 1, end, opening)
 }
 
+// Gives the slots of a run that has none: all places are zero.
+fn no_slots() -> [Slot; SLOT_PLACES]
+    ensures { λ r. ⌜ r ≡ replicate places noSlot ⌝ }
+{
+    [Slot {
+        row: 0,
+        step: 0,
+        start: 0,
+    }; SLOT_PLACES]
+}
+
 // Runs a load that was checked: starts the first candidate that passes, or moves the clock on to a
 // moment before which nothing starts, until all steps are finished.
 fn run_checked(load: Load) -> Ran
@@ -54,11 +67,7 @@ fn run_checked(load: Load) -> Ran
     let mut board = board_of(load, fresh());
     let mut clock: u32 = 0;
     let mut count: usize = 0;
-    let mut slots = [Slot {
-        row: 0,
-        step: 0,
-        start: 0,
-    }; SLOT_PLACES];
+    let mut slots = no_slots();
     let mut done = all_finished(board, rows);
     while !done {
         let i = search(board, clock, rows);
@@ -92,11 +101,7 @@ fn refused_run(refusal: Refusal) -> Ran
     Ran {
         answer: Checked::Refused(refusal),
         count: 0,
-        slots: [Slot {
-            row: 0,
-            step: 0,
-            start: 0,
-        }; SLOT_PLACES],
+        slots: no_slots(),
     }
 }
 

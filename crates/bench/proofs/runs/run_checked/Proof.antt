@@ -32,19 +32,20 @@ board-of-requires c κs =
 
 loop-holds : tie.Need-loop-holds Inv-loop μ-loop
 loop-holds c =
-    let made = c .before in
+    let made = c .before .before in
     let start = made .before .before in
     let board = made .board-of .result in (
       c .all-finished .ensures,
-      running-fresh (start .args .t1) (start .pre) (checked-rows _ (start .pre)) board
+      rw (c .before .no-slots .ensures)
+          (running-fresh (start .args .t1) (start .pre) (checked-rows _ (start .pre)) board
           (subst (λ (b : Bench). Shows (start .args .t1) b board) (made .before .fresh .ensures)
-          (made .board-of .ensures)),
+          (made .board-of .ensures))),
     )
 
 -- a turn, with work left
 module _ (c : tie.In-loop Inv-loop μ-loop) where
   abbrev start : tie.Start Inv-loop μ-loop
-  start = c .before .before .before .before .before
+  start = c .before .before .before .before .before .before
 
   abbrev load : Load
   load = start .args .t1
@@ -108,7 +109,7 @@ loop-again-2 c =
 
 returns : tie.Need-returns Inv-loop μ-loop
 returns c =
-    let start = c .before .before .before .before .before in
+    let start = c .before .before .before .before .before .before in
     let inv = c .before .loop .inv in
     running-done _ (start .pre) (checked-rows _ (start .pre)) _ _ _ _ (inv .1)
     (sym (inv .0) ∙ not-false _ (c .loop-test .left))
@@ -122,7 +123,8 @@ run-checked-spec =
     (λ c. search needs)
     (λ c κs. search needs)
     board-of-requires
-    (λ c κs. checked-rows _ (c .before .before .pre))
+    (λ c κs. search needs)
+    (λ c κs. checked-rows _ (c .before .before .before .pre))
     loop-holds
     (λ c κs. fits c)
     (λ c. omega (arith, goes c .place))
