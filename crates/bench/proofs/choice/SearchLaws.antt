@@ -150,17 +150,21 @@ module _ (board : Board) (clock rows : ℕ) where
         none = λ b. absurd (omega arith);
       }
 
-  -- nothing is chosen where every step number is passed over
-  pub none-chosen : BoardFits board clock rows → PassedSteps 8 → ChosenIn board clock rows rows
-  none-chosen fits h =
+  -- no row is left once every step number is passed over
+  pub passed-all : BoardFits board clock rows → PassedSteps 8 → (k : ℕ) → k < rows → PassedRow k
+  passed-all fits h k l c =
+      h k l (omega (arith, candidate-more (lookIn board k) clock _ c, fits .modest k l .steps-most)) c
+
+  -- nothing is chosen where every row is passed over
+  pub none-chosen : ((k : ℕ) → k < rows → PassedRow k) → ChosenIn board clock rows rows
+  none-chosen h =
       record {
         most = omega arith;
         candidate = λ l. absurd (omega arith);
         passing = λ l. absurd (omega arith);
         keys = λ l. absurd (omega arith);
         ties = λ l. absurd (omega arith);
-        none = λ _ k l c. h k l
-            (omega (arith, candidate-more (lookIn board k) clock _ c, fits .modest k l .steps-most)) c;
+        none = λ _. h;
       }
 
   -- a candidate, by the lowest unfinished step

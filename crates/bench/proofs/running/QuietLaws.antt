@@ -1,5 +1,5 @@
--- Before the next release of an allowed next step, those set aside that are crowded, only crowded steps are candidates,
--- and nothing is chosen: the clock may go there at once.
+-- Before the next release of an allowed next step, those set aside that are crowded, only crowded steps are candidates:
+-- the clock may go there at once.
 use Prim.Native.Nat.{ℕ, min, _≤_, _<_}
 use mathlib.Core.Bool.{Bool, true, false, cond, not, _&&_, _||_}
 use mathlib.Core.Path.{_≡_, refl, ap, sym, _∙_}
@@ -10,7 +10,7 @@ use Rattle.counting.specs.Sums.{allTo}
 use Rattle.bench.specs.declared.Look.{Look}
 use Rattle.bench.specs.declared.Board.{Board}
 use Rattle.bench.specs.inner.Boards.{lookIn}
-use Rattle.bench.specs.inner.Choices.{belowIn, candidateIn, passesIn, BoardFits, ChosenIn}
+use Rattle.bench.specs.inner.Choices.{belowIn, candidateIn, BoardFits}
 use Rattle.bench.specs.inner.Running.{crowdedIn}
 use Rattle.bench.proofs.choice.SearchLaws.{candidate-more, candidate-ready, candidate-allowed}
 
@@ -64,17 +64,3 @@ module _ (board : Board) (clock rows lowest next : ℕ) (fits : BoardFits board 
       go : (c : Bool) → crowdedIn board clock rows k ≡ c → c ≡ true
       go true q = refl
       go false q = absurd (omega (arith, waits k b (there q), candidate-ready look t below e))
-
--- at a moment at which every candidate is refused nothing is chosen
-pub quiet-chosen : (board : Board) (t rows : ℕ)
-    → ((k : ℕ) → k < rows → candidateIn board t rows k ≡ true → passesIn board t rows k ≡ false)
-    → ChosenIn board t rows rows
-quiet-chosen board t rows refused =
-    record {
-      most = omega arith;
-      candidate = λ l. absurd (omega arith);
-      passing = λ l. absurd (omega arith);
-      keys = λ l. absurd (omega arith);
-      ties = λ l. absurd (omega arith);
-      none = λ h. refused;
-    }

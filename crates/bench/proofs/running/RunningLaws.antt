@@ -36,10 +36,10 @@ use Rattle.bench.specs.inner.Moves.{finishedIn}
 use Rattle.bench.specs.inner.Running.{QuietTo}
 use Rattle.bench.specs.Runs.{ranWith}
 use Rattle.bench.proofs.shown.HeldLaws.{Sized, benchAt-sized}
+use Rattle.bench.proofs.choice.SearchLaws.{none-chosen}
 use Rattle.bench.proofs.choice.ChoiceLaws.{chosen-nothing}
 use Rattle.bench.proofs.choice.NextLaws.{finished-is}
 use Rattle.bench.proofs.running.CrowdLaws.{crowded-refused}
-use Rattle.bench.proofs.running.QuietLaws.{quiet-chosen}
 use Rattle.bench.proofs.shown.LaterBoards.{fresh-sized, fresh-state, shows-at}
 
 -- the run at a turn: its bench is in no place of memory
@@ -159,7 +159,7 @@ module _ (load : Load) (accepted : checkLoad load ≡ Good) (most : load .rows �
                   (subst (λ x. ChosenIn board x (load .rows) i) (sym e) c) h
               | no e ↦
                   chosen-nothing load (benchAt (r .bench) m) board (shown-at m) most (load .rows)
-                  (quiet-chosen board m (load .rows) (refused m (omega arith) b)) (omega arith)
+                  (none-chosen board m (load .rows) (refused m (omega arith) b)) (omega arith)
             ]
 
         quiet : Quiet L s (t - clock)

@@ -13,6 +13,7 @@ use Rattle.bench.proofs.choice.SearchLaws.{
   passed-row,
   passed-step,
   first-chosen,
+  passed-all,
   none-chosen,
   candidate-is,
 }
@@ -98,9 +99,7 @@ returns : tie.Need-returns Inv-loop μ-loop Inv-search μ-search
 returns c =
     let start = c .before .before .before in
     let inv = c .before .search .inv in
-    rw (inv .1)
-    (none-chosen (start .args .t1) (start .args .clock) (start .args .rows) (start .pre)
-    (λ k l h. inv .2 k l (omega arith)))
+    rw (inv .1) (none-chosen _ _ _ (passed-all _ _ _ (start .pre) (λ k l h. inv .2 k l (omega arith))))
 
 returns-2 : tie.Need-returns-2 Inv-loop μ-loop Inv-search μ-search
 returns-2 c =
