@@ -94,13 +94,13 @@ pub full-move : (bench : Bench) (L : View) → shaped L (stateOf bench) ≡ true
     → lastMoment ≤ bench .clock → handedOn bench (move L (stateOf bench)) ≡ refusedWith bench ClockFull
 full-move bench L e d h = ap (handedOn bench) (move-full L (stateOf bench) e d h)
 
--- what a bench hands back, from its parts
+-- what is handed back, from its parts
 abbrev movedBy : Outcome → Bench → ℕ → ℕ → Moved
 movedBy outcome bench word count = record { bench = bench; outcome = outcome; lamps = word; count = count }
 
-parts : (outcome : Outcome) (bench bench′ : Bench) (word word′ count count′ : ℕ) → bench ≡ bench′ → word ≡ word′
-    → count ≡ count′ → movedBy outcome bench word count ≡ movedBy outcome bench′ word′ count′
-parts outcome bench bench′ word word′ count count′ e f g = rw (e, f, g)
+pub movedBy-ext : (outcome : Outcome) (bench bench′ : Bench) (word word′ count count′ : ℕ) → bench ≡ bench′
+    → word ≡ word′ → count ≡ count′ → movedBy outcome bench word count ≡ movedBy outcome bench′ word′ count′
+movedBy-ext outcome bench bench′ word word′ count count′ e f g = rw (e, f, g)
 
 module _ (load : Load) (bench : Bench) (board : Board) (shows : Shows load bench board) (size : Sized bench)
     (most : load .rows ≤ 24) where
@@ -122,7 +122,7 @@ module _ (load : Load) (bench : Bench) (board : Board) (shows : Shows load bench
       → handedOn bench (move L s) ≡ handedWith bench Done (board .opened) (load .rows)
   done-move e d =
       ap (handedOn bench) (move-done L s e d)
-      ∙ parts Done (benchOf s) bench _ _ _ _ (benchOf-stateOf bench size)
+      ∙ movedBy-ext Done (benchOf s) bench _ _ _ _ (benchOf-stateOf bench size)
       (word-is L s (load .rows) (rows-are load bench board shows) (board .opened) (opened-same load bench board shows))
       (count-is L s (load .rows) (rows-are load bench board shows) (board .opened) (opened-same load bench board shows))
 
@@ -135,7 +135,7 @@ module _ (load : Load) (bench : Bench) (board : Board) (shows : Shows load bench
         → handedOn bench (move L s) ≡ handedWith (benchAt bench (bench .clock + 1)) Idle (board .opened) (load .rows)
     idle-move q =
         ap (handedOn bench) (move-goes L s e d h ∙ ap (startOrIdle L s) q)
-        ∙ parts Idle (benchOf (ticked s)) (benchAt bench (bench .clock + 1)) _ _ _ _ (sym (ticked-is bench size))
+        ∙ movedBy-ext Idle (benchOf (ticked s)) (benchAt bench (bench .clock + 1)) _ _ _ _ (sym (ticked-is bench size))
         (word-is L (ticked s) (load .rows) (rows-are load bench board shows) (board .opened) open-ticked)
         (count-is L (ticked s) (load .rows) (rows-are load bench board shows) (board .opened) open-ticked)
 
@@ -144,8 +144,8 @@ module _ (load : Load) (bench : Bench) (board : Board) (shows : Shows load bench
     unfolding startedIn
     start-move i l q =
         ap (handedOn bench) (move-goes L s e d h ∙ ap (startOrIdle L s) q)
-        ∙ parts (Start (nextSlot s i)) (benchOf after) (benchStarted bench i (lookIn board i .cost) opening) _ _ _ _
-        bench-is
+        ∙ movedBy-ext (Start (nextSlot s i)) (benchOf after)
+        (benchStarted bench i (lookIn board i .cost) opening) _ _ _ _ bench-is
         (word-is L after (load .rows) (rows-are load bench board shows) lit lit-are)
         (count-is L after (load .rows) (rows-are load bench board shows) lit lit-are)
         ∙ ap (λ f. handedWith (benchStarted bench i (lookIn board i .cost) opening)

@@ -1,6 +1,5 @@
 -- What the code of the run looks up at a start, and the moment to which its clock goes where
--- nothing starts. Nothing here is to be believed: run's own contract cites the schedule. To be read
--- after Choices.
+-- nothing starts. To be read after Choices.
 use Prim.Native.Nat.{ℕ, _+_, _≤_, _<_}
 use mathlib.Core.Bool.{Bool, true, cond, not, _&&_}
 use mathlib.Core.Path.{_≡_}
