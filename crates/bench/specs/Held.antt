@@ -1,6 +1,8 @@
 -- "One move of the bench": "Each move takes the bench state and hands the next one back". The
 -- bridge between a bench held in memory, 24 places to a field, and the state of the rules.
 use Prim.Native.Nat.{ℕ}
+use mathlib.Core.Path.{_≡_}
+use lib.ListN.{length}
 use Rattle.counting.specs.Lists.{listTo, memberAt}
 use Rattle.refusals.specs.declared.Refusal.{Refusal}
 use Rattle.refusals.specs.declared.Checked.the-variants.{Good, Refused as Faulty}
@@ -34,6 +36,12 @@ benchOf s =
       end = listTo (s .end) mostRows;
       opening = listTo (s .opening) mostRows;
     }
+
+-- a bench as it is held in memory: what its type alone says
+pub record HeldBench (bench : Bench) : Type 0 where
+  pub finished-places : length (bench .finished) ≡ mostRows
+  pub end-places : length (bench .end) ≡ mostRows
+  pub opening-places : length (bench .opening) ≡ mostRows
 
 -- a bench at another moment, and nothing else changed
 abbrev pub benchAt : Bench → ℕ → Bench

@@ -25,7 +25,7 @@ ghost use lib.ListN.{replicate};
 ghost use Rattle.refusals.specs.declared.Checked.the-variants.{Good, Refused};
 ghost use Rattle.load.specs.Check.{checkLoad};
 ghost use Rattle.load.specs.View.{viewOf};
-ghost use Rattle.rules.specs.Slots.{noSlot, places};
+ghost use Rattle.rules.specs.Slots.{noSlot, slotPlaces};
 ghost use Rattle.rules.specs.Run.{schedule};
 ghost use Rattle.bench.specs.inner.Looks.{Fitting, Modest};
 ghost use Rattle.bench.specs.inner.Choices.{BoardFits, candidateIn};
@@ -48,7 +48,7 @@ fn look_after(row: Row, board: Board, clock: u32, rows: usize, i: usize) -> Look
 
 // Gives the slots of a run that has none: all places are zero.
 fn no_slots() -> [Slot; SLOT_PLACES]
-    ensures { λ r. ⌜ r ≡ replicate places noSlot ⌝ }
+    ensures { λ r. ⌜ r ≡ replicate slotPlaces noSlot ⌝ }
 {
     [Slot {
         row: 0,

@@ -12,7 +12,6 @@ use Rattle.refusals.specs.declared.Checked.{Checked}
 use Rattle.refusals.specs.declared.Checked.the-variants.{Good}
 use Rattle.refusals.specs.Given.{Given}
 use Rattle.load.specs.declared.Load.{Load}
-use Rattle.load.specs.Load.{mostRows}
 use Rattle.load.specs.View.{viewOf}
 use Rattle.load.specs.Calls.{CheckLoad}
 use Rattle.load_file.specs.declared.Reading.{Reading}
@@ -31,7 +30,7 @@ use Rattle.schedule.specs.Calls.{CheckSchedule}
 use Rattle.schedule.specs.CheckExactly.{KeepsRules}
 use Rattle.bench.specs.declared.Bench.{Bench}
 use Rattle.bench.specs.declared.Moved.{Moved}
-use Rattle.bench.specs.Held.{stateOf}
+use Rattle.bench.specs.Held.{stateOf, HeldBench}
 use Rattle.bench.specs.Calls.{NextMove}
 use Rattle.demands.specs.HostAnswers.{HostAnswers}
 use Rattle.demands.specs.Twins.{Twins}
@@ -39,12 +38,6 @@ use Rattle.demands.specs.Twins.{Twins}
 -- the file of a load that was written into an output: so many bytes from its front
 abbrev pub fileIn : Load → List ℕ → List ℕ
 fileIn load after = take (length (loadBytes load)) after
-
--- a bench as it is held in memory: what its type alone says
-pub record HeldBench (bench : Bench) : Type 0 where
-  pub finished-places : length (bench .finished) ≡ mostRows
-  pub end-places : length (bench .end) ≡ mostRows
-  pub opening-places : length (bench .opening) ≡ mostRows
 
 -- what a call hands back is what a move of the rules does
 pub record SameMove (r : Moved) (m : Move) : Type 0 where

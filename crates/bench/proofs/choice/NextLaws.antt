@@ -40,11 +40,11 @@ use Rattle.rules.proofs.moves.MoveLaws.{move-done, move-goes}
 use Rattle.bench.specs.declared.Bench.{Bench}
 use Rattle.bench.specs.declared.Board.{Board}
 use Rattle.bench.specs.declared.Moved.{Moved}
-use Rattle.bench.specs.Held.{stateOf, benchOf, benchAt, handedOn, refusedWith, nextMove}
+use Rattle.bench.specs.Held.{stateOf, benchOf, HeldBench, benchAt, handedOn, refusedWith, nextMove}
 use Rattle.bench.specs.inner.Boards.{lookIn, Shows}
 use Rattle.bench.specs.inner.Choices.{openingIn, openAfter}
 use Rattle.bench.specs.inner.Moves.{benchStarted, finishedIn, handedWith, startedIn, Stepped}
-use Rattle.bench.proofs.shown.HeldLaws.{Sized, benchOf-stateOf, ticked-is, benchStarted-is}
+use Rattle.bench.proofs.shown.HeldLaws.{benchOf-stateOf, ticked-is, benchStarted-is}
 use Rattle.bench.proofs.choice.JoinLaws.{rows-are, finished-same, steps-same, cost-same, opened-same}
 use Rattle.bench.proofs.choice.ChoiceLaws.{opening-after, open-after, chosen-row, chosen-nothing}
 
@@ -102,7 +102,7 @@ pub movedBy-ext : (outcome : Outcome) (bench bench′ : Bench) (word word′ cou
     → word ≡ word′ → count ≡ count′ → movedBy outcome bench word count ≡ movedBy outcome bench′ word′ count′
 movedBy-ext outcome bench bench′ word word′ count count′ e f g = rw (e, f, g)
 
-module _ (load : Load) (bench : Bench) (board : Board) (shows : Shows load bench board) (size : Sized bench)
+module _ (load : Load) (bench : Bench) (board : Board) (shows : Shows load bench board) (size : HeldBench bench)
     (most : load .rows ≤ 24) where
   abbrev L : View
   L = viewOf load

@@ -29,23 +29,23 @@ use Rattle.rules.proofs.invariant.ClockBound.{tightBound-fits}
 use Rattle.rules.proofs.run.StretchLaws.{later, Quiet, starts-done, quiet-accounted, quiet-starts}
 use Rattle.bench.specs.declared.Bench.{Bench}
 use Rattle.bench.specs.declared.Board.{Board}
-use Rattle.bench.specs.Held.{stateOf, benchOf, benchAt}
+use Rattle.bench.specs.Held.{stateOf, benchOf, HeldBench, benchAt}
 use Rattle.bench.specs.inner.Boards.{Shows}
 use Rattle.bench.specs.inner.Choices.{candidateIn, passesIn, ChosenIn}
 use Rattle.bench.specs.inner.Moves.{finishedIn}
 use Rattle.bench.specs.inner.Running.{QuietTo}
 use Rattle.bench.specs.Runs.{ranWith}
-use Rattle.bench.proofs.shown.HeldLaws.{Sized, benchAt-sized}
+use Rattle.bench.proofs.shown.HeldLaws.{benchOf-held, fresh-state, benchAt-held}
 use Rattle.bench.proofs.choice.SearchLaws.{none-chosen}
 use Rattle.bench.proofs.choice.ChoiceLaws.{chosen-nothing}
 use Rattle.bench.proofs.choice.NextLaws.{finished-is}
 use Rattle.bench.proofs.running.CrowdLaws.{crowded-refused}
-use Rattle.bench.proofs.shown.LaterBoards.{fresh-sized, fresh-state, shows-at}
+use Rattle.bench.proofs.shown.LaterBoards.{shows-at}
 
 -- the run at a turn: its bench is in no place of memory
 pub record Running (load : Load) (board : Board) (clock count : ℕ) (slots : List Slot) : Type 0 where
   pub bench : Bench
-  pub sized : Sized bench
+  pub held : HeldBench bench
   pub clock-is : bench .clock ≡ clock
   pub shows : Shows load bench board
   pub kept : Accounted (viewOf load) (stateOf bench)
@@ -75,7 +75,7 @@ module _ (load : Load) (accepted : checkLoad load ≡ Good) (most : load .rows �
   running-fresh board shows =
       record {
         bench = benchOf fresh;
-        sized = fresh-sized;
+        held = benchOf-held fresh;
         clock-is = refl;
         shows = shows;
         kept = subst (Accounted L) (sym fresh-state) (fresh-accounted L good);
@@ -92,7 +92,7 @@ module _ (load : Load) (accepted : checkLoad load ≡ Good) (most : load .rows �
     s = stateOf (r .bench)
 
     asked : finishedIn board (load .rows) ≡ allFinished L s
-    asked = finished-is load (r .bench) board (r .shows) (r .sized) most
+    asked = finished-is load (r .bench) board (r .shows) (r .held) most
 
     -- with work left the clock is before the last moment
     pub running-early : finishedIn board (load .rows) ≡ false → clock < lastMoment
@@ -119,7 +119,7 @@ module _ (load : Load) (accepted : checkLoad load ≡ Good) (most : load .rows �
         let pause : allFinished L s ≡ false = sym asked ∙ nd in
         record {
           bench = benchAt (r .bench) (r .bench .clock + k);
-          sized = benchAt-sized (r .bench) (r .sized) (r .bench .clock + k);
+          held = benchAt-held (r .bench) (r .held) (r .bench .clock + k);
           clock-is = ap (λ t. t + k) (r .clock-is);
           shows = shows-at load (r .bench) board (r .shows) (r .bench .clock + k);
           kept = quiet-accounted L good s (r .kept) pause k q;

@@ -33,7 +33,7 @@ use Rattle.bench.specs.inner.Boards.{lookIn, boardWith}
 use Rattle.bench.specs.inner.Choices.{ChosenIn}
 use Rattle.bench.specs.inner.Moves.{finishedIn}
 use Rattle.bench.specs.inner.Running.{lookAfter}
-use Rattle.bench.proofs.shown.HeldLaws.{benchStarted-sized}
+use Rattle.bench.proofs.shown.HeldLaws.{benchStarted-held}
 use Rattle.bench.proofs.choice.SearchLaws.{candidate-more, candidate-ends}
 use Rattle.bench.proofs.choice.JoinLaws.{finished-same, steps-same, cost-same}
 use Rattle.bench.proofs.choice.ChoiceLaws.{chosen-row}
@@ -64,7 +64,7 @@ module _ (load : Load) (accepted : checkLoad load ≡ Good) (most : load .rows �
   good = acceptable-runnable L (check-acceptable load accepted)
 
   asked : finishedIn board (load .rows) ≡ allFinished L s
-  asked = finished-is load (r .bench) board (r .shows) (r .sized) most
+  asked = finished-is load (r .bench) board (r .shows) (r .held) most
 
   -- the start of the row that is chosen
   module _ (nd : finishedIn board (load .rows) ≡ false) (i : ℕ) (l : i < load .rows)
@@ -147,13 +147,13 @@ module _ (load : Load) (accepted : checkLoad load ≡ Good) (most : load .rows �
         → Running load (boardWith board i look) (clock + lookIn board i .cost) (count + 1) (set slots count slot)
     running-start look e m =
         let over : Bench = benchOver (r .bench) board i in
-        let state : stateOf over ≡ going = after-state load (r .bench) board (r .shows) (r .sized) i l (omega arith) in
+        let state : stateOf over ≡ going = after-state load (r .bench) board (r .shows) (r .held) i l (omega arith) in
         record {
           bench = over;
-          sized = benchStarted-sized (r .bench) (r .sized) i _ _;
+          held = benchStarted-held (r .bench) (r .held) i _ _;
           clock-is = ap (λ t. t + lookIn board i .cost) (r .clock-is);
           shows =
-              shows-started load (r .bench) board (r .shows) (r .sized) i l (omega arith) look
+              shows-started load (r .bench) board (r .shows) (r .held) i l (omega arith) look
               (e ∙ ap (λ t. lookAfter (rowAt load i) board t i) (sym (r .clock-is))) m;
           kept = subst (Accounted L) (sym state) (chosen-accounted L good s (r .kept) (sym asked ∙ nd) i chosen-is);
           moves = r .moves - 1;

@@ -1,60 +1,30 @@
 -- A board goes on showing its load: with the clock at another moment as it is, and with row i looked up anew once the
 -- row's next step is over. The bench that it shows is in no place of memory; it holds the state of the rules.
 use Prim.Native.Nat.{ℕ, _+_, _<_}
-use mathlib.Core.Path.{_≡_, refl, ap, ap₂, sym, _∙_, fun-ext}
+use mathlib.Core.Path.{_≡_, refl, ap, ap₂, sym, _∙_}
 use mathlib.Core.Logic.{_≢_}
-use native.Mathlib.Decide.{ℕ-discrete, decLt}
+use native.Mathlib.Decide.{ℕ-discrete}
 use native.Mathlib.Omega.{arith}
-use lib.ListN.{getD, List·getD-eq-default}
+use lib.ListN.{getD}
 use lib.Seq.{getD-set-same, getD-set-other}
-use Rattle.counting.specs.Lists.{listTo}
-use Rattle.counting.proofs.lists.ListLaws.{listTo-length, getD-listTo}
 use Rattle.load.specs.declared.Load.{Load}
 use Rattle.load.specs.Load.{rowAt}
 use Rattle.load.specs.View.{viewOf}
-use Rattle.rules.specs.State.{fresh}
 use Rattle.rules.specs.Move.{startedFull}
 use Rattle.bench.specs.declared.Bench.{Bench}
 use Rattle.bench.specs.declared.Look.{Look}
 use Rattle.bench.specs.declared.Board.{Board}
-use Rattle.bench.specs.Held.{stateOf, benchOf, benchAt}
+use Rattle.bench.specs.Held.{stateOf, HeldBench, benchAt}
 use Rattle.bench.specs.inner.Looks.{viewAlike, stateAlike, lookOf, Modest}
 use Rattle.bench.specs.inner.Boards.{lookIn, boardWith, Shows}
 use Rattle.bench.specs.inner.Choices.{openingIn}
 use Rattle.bench.specs.inner.Moves.{benchStarted}
 use Rattle.bench.specs.inner.Running.{lookAfter}
-use Rattle.bench.proofs.shown.HeldLaws.{Sized, benchStarted-state}
+use Rattle.bench.proofs.shown.HeldLaws.{benchStarted-state}
 use Rattle.bench.proofs.shown.LookLaws.{look-of-row}
 use Rattle.bench.proofs.shown.BoardLaws.{boardWith-same, boardWith-other, boardWith-wide}
 use Rattle.bench.proofs.choice.JoinLaws.{finished-same, cost-same}
 use Rattle.bench.proofs.choice.ChoiceLaws.{opening-after}
-
--- the fresh bench holds the fresh state
-abbrev nothing : ℕ → ℕ
-nothing i = 0
-
-zeros : (n : ℕ) → (λ k. getD (listTo nothing n) k 0) ≡ nothing
-zeros n = fun-ext each
-  where
-    each : (k : ℕ) → getD (listTo nothing n) k 0 ≡ 0
-    each k =
-        elim (decLt k n) [
-          | yes l ↦ getD-listTo nothing n k 0 l
-          | no l ↦ List·getD-eq-default (listTo nothing n) 0 (omega (arith, listTo-length nothing n))
-        ]
-
-pub fresh-state : stateOf (benchOf fresh) ≡ fresh
-unfolding benchOf fresh
-fresh-state = rw (zeros 24)
-
-pub fresh-sized : Sized (benchOf fresh)
-unfolding benchOf fresh
-fresh-sized =
-    record {
-      finished-length = listTo-length nothing 24;
-      end-length = listTo-length nothing 24;
-      opening-length = listTo-length nothing 24;
-    }
 
 -- a bench once row i's next step, of which a board tells, is over
 abbrev pub benchOver : Bench → Board → ℕ → Bench
@@ -81,7 +51,7 @@ module _ (load : Load) (bench : Bench) (board : Board) (shows : Shows load bench
         modest = shows .modest;
       }
 
-  module _ (size : Sized bench) (i : ℕ) (l : i < load .rows) (inside : i < 24) where
+  module _ (size : HeldBench bench) (i : ℕ) (l : i < load .rows) (inside : i < 24) where
     abbrev after : Bench
     after = benchOver bench board i
 
@@ -96,10 +66,10 @@ module _ (load : Load) (bench : Bench) (board : Board) (shows : Shows load bench
     renewed =
         sym
         (ap₂ (λ a b. lookBy load i a b (getD (after .opening) i 0))
-        (getD-set-same (bench .finished) i _ 0 (omega (arith, size .finished-length))
+        (getD-set-same (bench .finished) i _ 0 (omega (arith, size .finished-places))
         ∙ ap (λ f. f + 1) (sym (finished-same load bench board shows i l)))
-        (getD-set-same (bench .end) i _ 0 (omega (arith, size .end-length)))
-        ∙ ap (lookBy load i _ _) (getD-set-same (bench .opening) i _ 0 (omega (arith, size .opening-length))))
+        (getD-set-same (bench .end) i _ 0 (omega (arith, size .end-places)))
+        ∙ ap (lookBy load i _ _) (getD-set-same (bench .opening) i _ 0 (omega (arith, size .opening-places))))
         ∙ look-of-row load after i
 
     other : (k : ℕ) → k ≢ i → lookOf (viewOf load) (stateOf bench) k ≡ lookOf (viewOf load) (stateOf after) k

@@ -11,11 +11,12 @@ use Rattle.rules.specs.declared.Outcome.the-variants.{Start, Idle, Done, Refuse
 use Rattle.rules.specs.State.{State}
 use Rattle.rules.specs.Move.{Moved as Move, move}
 use Rattle.bench.specs.declared.Bench.{Bench}
-use Rattle.bench.specs.Held.{stateOf, benchAfter, nextMove}
+use Rattle.bench.specs.Held.{stateOf, HeldBench, benchAfter, nextMove}
+use Rattle.bench.proofs.shown.HeldLaws.{Ends, held-ends, benchOf-held, stateOf-benchOf}
 use Rattle.bench.proofs.choice.NextLaws.{nextMove-good}
-use Rattle.demands.specs.Demand2.{HeldBench, SameMove}
+use Rattle.demands.specs.Demand2.{SameMove}
 use Rattle.demands.proofs.demand1.RefusedMoves.{move-alone}
-use Rattle.demands.proofs.moves.StateHeld.{Ends, held-ends, benchOf-held, stateOf-benchOf, move-ends}
+use Rattle.demands.proofs.moves.StateHeld.{move-ends}
 
 -- the bench after an answer holds the state after it
 after-is : (bench : Bench) (answer : Outcome) (s : State) → Ends s

@@ -12,23 +12,23 @@ use Rattle.rules.specs.Run.{stateAfter}
 use Rattle.rules.proofs.run.RunLaws.{stateAfter-next, stateAfter-zero}
 use Rattle.bench.specs.declared.Bench.{Bench}
 use Rattle.bench.specs.declared.Moved.{Moved}
-use Rattle.bench.specs.Held.{stateOf, benchOf, nextMove}
-use Rattle.demands.specs.Demand2.{HeldBench, SameMove}
+use Rattle.bench.specs.Held.{stateOf, benchOf, HeldBench, nextMove}
+use Rattle.bench.proofs.shown.HeldLaws.{benchOf-held, fresh-state}
+use Rattle.demands.specs.Demand2.{SameMove}
 use Rattle.demands.specs.Demand3.{Run}
-use Rattle.demands.proofs.moves.StateHeld.{benchOf-held, stateOf-benchOf, fresh-ends}
 use Rattle.demands.proofs.moves.MovesHeld.{next-held, next-same}
 
 -- every load has a run: each bench is what the move before it hands back
-benchAt : Load → ℕ → Bench
-benchAt load zero = benchOf fresh
-benchAt load (suc n) = nextMove load (benchAt load n) .bench
+nthBench : Load → ℕ → Bench
+nthBench load zero = benchOf fresh
+nthBench load (suc n) = nextMove load (nthBench load n) .bench
 
 pub run-of : (load : Load) → Run load
-unfolding benchAt
+unfolding nthBench
 run-of load =
     record {
-      bench = benchAt load;
-      moved = λ n. nextMove load (benchAt load n);
+      bench = nthBench load;
+      moved = λ n. nextMove load (nthBench load n);
       begins = refl;
       moves = λ n. refl;
       goes-on = λ n. refl;
@@ -45,7 +45,7 @@ module _ (load : Load) (accepted : checkLoad load ≡ Good) (run : Run load) whe
 
   pub run-states : (n : ℕ) → stateOf (run .bench n) ≡ stateAfter (viewOf load) n fresh
   run-states zero =
-      ap stateOf (run .begins) ∙ stateOf-benchOf fresh fresh-ends ∙ sym (stateAfter-zero (viewOf load) fresh)
+      ap stateOf (run .begins) ∙ fresh-state ∙ sym (stateAfter-zero (viewOf load) fresh)
   run-states (suc n) =
       ap stateOf (next-bench n)
       ∙ next-same load accepted (run .bench n) (run-held n) .state-is

@@ -1,78 +1,21 @@
--- A state in memory is the state of the rules: nothing stands past the 24 places, before a move and after it, so that a
--- state stored and read again is itself.
-use Prim.Native.Nat.{ℕ, zero, suc, _≤_, _<_}
+-- A move leaves nothing past the 24 places of memory where nothing stood before it.
+use Prim.Native.Nat.{ℕ, _≤_, _<_}
 use mathlib.Core.Bool.{Bool, true, false}
-use mathlib.Core.List.{List, [], _∷_}
-use mathlib.Core.Path.{_≡_, refl, sym, _∙_}
-use native.Mathlib.Decide.{decLt}
+use mathlib.Core.Path.{_≡_, refl, _∙_}
 use native.Mathlib.Omega.{arith}
 use lib.Dec.{leb}
-use lib.ListN.{length, getD}
-use Rattle.counting.specs.Lists.{listTo}
 use Rattle.counting.specs.Searches.{Found, at, none}
-use Rattle.counting.proofs.lists.ListLaws.{listTo-length, getD-listTo}
 use Rattle.load.specs.Load.{lastMoment, mostRows}
 use Rattle.load.specs.View.{View}
-use Rattle.rules.specs.State.{State, fresh, shaped}
+use Rattle.rules.specs.State.{State, shaped}
 use Rattle.rules.specs.Move.{started, ticked, startOrIdle, allFinished, chosen, shapedMove, move}
-use Rattle.rules.specs.Shape.{Unused}
 use Rattle.rules.proofs.moves.MoveLaws.{
   started-finished-other,
   started-end-other,
   started-opening-other,
   chosen-at,
 }
-use Rattle.bench.specs.declared.Bench.{Bench}
-use Rattle.bench.specs.Held.{stateOf, benchOf}
-use Rattle.demands.specs.Demand2.{HeldBench}
-
--- nothing stands past the last place
-abbrev pub Ends : State → Type 0
-Ends s = (i : ℕ) → mostRows ≤ i → Unused s i
-
-getD-past : (l : List ℕ) (i : ℕ) → length l ≤ i → getD l i 0 ≡ 0
-getD-past [] i h = refl
-getD-past (a ∷ l) zero h = absurd (omega arith)
-getD-past (a ∷ l) (suc i) h = getD-past l i (omega arith)
-
-pub held-ends : (bench : Bench) → HeldBench bench → Ends (stateOf bench)
-held-ends bench h i l =
-    record {
-      no-steps = getD-past (bench .finished) i (omega (arith, h .finished-places));
-      no-end = getD-past (bench .end) i (omega (arith, h .end-places));
-      no-opening = getD-past (bench .opening) i (omega (arith, h .opening-places));
-    }
-
-pub benchOf-held : (s : State) → HeldBench (benchOf s)
-unfolding benchOf
-benchOf-held s =
-    record {
-      finished-places = listTo-length (s .finished) mostRows;
-      end-places = listTo-length (s .end) mostRows;
-      opening-places = listTo-length (s .opening) mostRows;
-    }
-
--- what is stored in 24 places and read again
-stored-read : (f : ℕ → ℕ) → ((i : ℕ) → mostRows ≤ i → f i ≡ 0) → (i : ℕ) → getD (listTo f mostRows) i 0 ≡ f i
-stored-read f past i =
-    elim (decLt i mostRows) [
-      | yes l ↦ getD-listTo f mostRows i 0 l
-      | no l ↦ getD-past (listTo f mostRows) i (omega (arith, listTo-length f mostRows)) ∙ sym (past i (omega arith))
-    ]
-
-pub stateOf-benchOf : (s : State) → Ends s → stateOf (benchOf s) ≡ s
-unfolding benchOf
-stateOf-benchOf s ends =
-    λ k. record {
-      clock = s .clock;
-      finished = λ i. stored-read (s .finished) (λ n l. ends n l .no-steps) i k;
-      end = λ i. stored-read (s .end) (λ n l. ends n l .no-end) i k;
-      opening = λ i. stored-read (s .opening) (λ n l. ends n l .no-opening) i k;
-    }
-
-pub fresh-ends : Ends fresh
-unfolding fresh
-fresh-ends i l = record { no-steps = refl; no-end = refl; no-opening = refl }
+use Rattle.bench.proofs.shown.HeldLaws.{Ends}
 
 module _ (L : View) (s : State) (few : L .rows ≤ mostRows) (ends : Ends s) where
   ticked-ends : Ends (ticked s)

@@ -4,8 +4,7 @@ use mathlib.Core.Path.{_≡_, sym, _∙_}
 use lib.ListN.{length-map}
 use Rattle.load.specs.View.{viewOf}
 use Rattle.rules.specs.Move.{allFinished}
-use Rattle.bench.specs.Held.{stateOf}
-use Rattle.bench.proofs.shown.HeldLaws.{Sized}
+use Rattle.bench.specs.Held.{stateOf, HeldBench}
 use Rattle.bench.proofs.shown.CheckedLaws.{checked-rows, shaped-clock}
 use Rattle.bench.proofs.choice.JoinLaws.{finished-same}
 use Rattle.bench.proofs.choice.NextLaws.{full-move, finished-is, done-move, stepped-move}
@@ -14,13 +13,13 @@ use Rattle.bench.proofs.moves.move_shaped.Statement.{statement}
 use Rattle.bench.proofs.moves.move_shaped.Tie as tie
 
 -- a bench has 24 places to a field, which its own fields tell
-size : (c : tie.Start) → Sized (c .args .bench)
+size : (c : tie.Start) → HeldBench (c .args .bench)
 size c =
     let fields = c .good .1 .0 .1 .1 in
     record {
-      finished-length = simp length-map at (fields .1 .0 .1 .0 .1);
-      end-length = simp length-map at (fields .1 .1 .0 .1 .0 .1);
-      opening-length = simp length-map at (fields .1 .1 .1 .0 .1 .0 .1);
+      finished-places = simp length-map at (fields .1 .0 .1 .0 .1);
+      end-places = simp length-map at (fields .1 .1 .0 .1 .0 .1);
+      opening-places = simp length-map at (fields .1 .1 .1 .0 .1 .0 .1);
     }
 
 rows-most : (c : tie.Start) → c .args .load .rows ≤ 24
