@@ -28,7 +28,13 @@ ghost use Rattle.rules.specs.Move.{move};
 ghost use Rattle.bench.specs.Held.{stateOf, handedOn, refusedWith};
 ghost use Rattle.bench.specs.inner.Boards.{lookIn};
 ghost use Rattle.bench.specs.inner.Choices.{BoardFits};
-ghost use Rattle.bench.specs.inner.Moves.{finishedIn, handedWith, startedIn, Stepped};
+ghost use Rattle.bench.specs.inner.Moves.{
+  slotOf,
+  finishedIn,
+  handedWith,
+  startedIn,
+  Stepped,
+};
 ghost use Rattle.bench.specs.Calls.{NextMove};
 
 // Says whether all steps are finished.
@@ -79,7 +85,20 @@ fn done(bench: Bench, board: Board, rows: usize) -> Moved
     handed(bench, Outcome::Done, opened, rows)
 }
 
-// Starts a row's next step: rows and steps are shown counted from 1.
+// Gives the next step of row i, which has finished so many, as a slot that starts at a moment: rows
+// and steps are shown counted from 1.
+pub fn slot_of(i: usize, finished: u8, moment: u32) -> Slot
+    requires { ⌜ (i < 24) × (finished < 8) ⌝ }
+    ensures { λ r. ⌜ r ≡ slotOf i finished moment ⌝ }
+{
+    Slot {
+        row: i as u8 + 1,
+        step: finished + 1,
+        start: moment,
+    }
+}
+
+// Starts a row's next step.
 fn started(bench: Bench, board: Board, rows: usize, i: usize) -> Moved
     requires { ⌜ BoardFits board (bench .clock) rows ⌝ }
     requires { ⌜ (i < rows) × (lookIn board i .finished < 8)
@@ -90,11 +109,7 @@ fn started(bench: Bench, board: Board, rows: usize, i: usize) -> Moved
     let opening = opening_after(board.stays[i], board.opened[i], board.opening[i], clock);
     let mut opened = board.opened;
     opened[i] = board.stays[i];
-    let slot = Slot {
-        row: i as u8 + 1,
-        step: board.finished[i] + 1,
-        start: clock,
-    };
+    let slot = slot_of(i, board.finished[i], clock);
     let next = bench.start(i, board.cost[i], opening);
     handed(next, Outcome::Start(slot), opened, rows)
 }

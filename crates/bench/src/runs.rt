@@ -6,6 +6,7 @@ use crate::Ran;
 use crate::boards::board_of;
 use crate::lookups::look_of;
 use crate::moves::all_finished;
+use crate::moves::slot_of;
 use crate::quiet::next_moment;
 use crate::search::opening_after;
 use crate::search::search;
@@ -72,11 +73,7 @@ fn run_checked(load: Load) -> Ran
     while !done {
         let i = search(board, clock, rows);
         if i < rows {
-            slots[count] = Slot {
-                row: i as u8 + 1,
-                step: board.finished[i] + 1,
-                start: clock,
-            };
+            slots[count] = slot_of(i, board.finished[i], clock);
             count += 1;
             let row = load.row[i];
             let look = look_after(row, board, clock, rows, i);

@@ -18,7 +18,7 @@ use Rattle.refusals.specs.declared.Refusal.the-variants.{StateShape, ClockFull}
 use Rattle.refusals.specs.declared.Checked.the-variants.{Good, Refused}
 use Rattle.words.specs.LampWord.{wordOf}
 use Rattle.load.specs.declared.Load.{Load}
-use Rattle.load.specs.Load.{lastMoment, shown}
+use Rattle.load.specs.Load.{lastMoment}
 use Rattle.load.specs.Check.{checkLoad}
 use Rattle.load.specs.View.{View, viewOf}
 use Rattle.rules.specs.declared.Outcome.{Outcome}
@@ -43,7 +43,7 @@ use Rattle.bench.specs.declared.Moved.{Moved}
 use Rattle.bench.specs.Held.{stateOf, benchOf, HeldBench, benchAt, handedOn, refusedWith, nextMove}
 use Rattle.bench.specs.inner.Boards.{lookIn, Shows}
 use Rattle.bench.specs.inner.Choices.{openingIn, openAfter}
-use Rattle.bench.specs.inner.Moves.{benchStarted, finishedIn, handedWith, startedIn, Stepped}
+use Rattle.bench.specs.inner.Moves.{benchStarted, slotOf, finishedIn, handedWith, startedIn, Stepped}
 use Rattle.bench.proofs.shown.HeldLaws.{benchOf-stateOf, ticked-is, benchStarted-is}
 use Rattle.bench.proofs.choice.JoinLaws.{rows-are, finished-same, steps-same, cost-same, opened-same}
 use Rattle.bench.proofs.choice.ChoiceLaws.{opening-after, open-after, chosen-row, chosen-nothing}
@@ -149,7 +149,7 @@ module _ (load : Load) (bench : Bench) (board : Board) (shows : Shows load bench
         (word-is L after (load .rows) (rows-are load bench board shows) lit lit-are)
         (count-is L after (load .rows) (rows-are load bench board shows) lit lit-are)
         ∙ ap (λ f. handedWith (benchStarted bench i (lookIn board i .cost) opening)
-        (Start (record { row = shown i; step = shown f; start = bench .clock })) lit (load .rows))
+        (Start (slotOf i f (bench .clock))) lit (load .rows))
         (sym (finished-same load bench board shows i l))
       where
         after : State

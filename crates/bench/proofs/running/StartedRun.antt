@@ -31,7 +31,7 @@ use Rattle.bench.specs.Held.{stateOf}
 use Rattle.bench.specs.inner.Looks.{Modest}
 use Rattle.bench.specs.inner.Boards.{lookIn, boardWith}
 use Rattle.bench.specs.inner.Choices.{ChosenIn}
-use Rattle.bench.specs.inner.Moves.{finishedIn}
+use Rattle.bench.specs.inner.Moves.{slotOf, finishedIn}
 use Rattle.bench.specs.inner.Running.{lookAfter}
 use Rattle.bench.proofs.shown.HeldLaws.{benchStarted-held}
 use Rattle.bench.proofs.choice.SearchLaws.{candidate-more, candidate-ends}
@@ -79,11 +79,11 @@ module _ (load : Load) (accepted : checkLoad load ≡ Good) (most : load .rows �
     chosen-is = chosen-row load (r .bench) board (r .shows) most i here l
 
     abbrev slot : Slot
-    slot = record { row = i + 1; step = lookIn board i .finished + 1; start = clock }
+    slot = slotOf i (lookIn board i .finished) clock
 
     slot-is : slot ≡ nextSlot s i
     slot-is =
-        ap₂ (λ f t. record { row = i + 1; step = f + 1; start = t })
+        ap₂ (slotOf i)
         (finished-same load (r .bench) board (r .shows) i l) (sym (r .clock-is))
 
     abbrev going : State

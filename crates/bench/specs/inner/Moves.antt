@@ -44,17 +44,16 @@ handedWith bench outcome lit rows =
       count = countTo (isMarked lit) rows;
     }
 
--- row i's next step as a slot: rows and steps counted from 1
-abbrev pub slotIn : Bench → Board → ℕ → Slot
-slotIn bench board i =
-    record { row = shown i; step = shown (lookIn board i .finished); start = bench .clock }
+-- the next step of row i, which has finished so many, as a slot that starts at a moment
+abbrev pub slotOf : ℕ → ℕ → ℕ → Slot
+slotOf i finished moment = record { row = shown i; step = shown finished; start = moment }
 
 -- the move that starts row i's next step
 unfoldable pub startedIn : Bench → Board → ℕ → ℕ → Moved
 startedIn bench board rows i =
     handedWith
     (benchStarted bench i (lookIn board i .cost) (openingIn board (bench .clock) i))
-    (Start (slotIn bench board i))
+    (Start (slotOf i (lookIn board i .finished) (bench .clock)))
     (openAfter board i)
     rows
 

@@ -8,7 +8,7 @@ use Rattle.bench.proofs.moves.started.Tie as tie
 
 start-requires : tie.Need-start-requires
 start-requires c κs =
-    let start = c .before .before .before .before .before .before .before .before in
+    let start = c .before .before .before .before .before .before .before .before .before in
     let fits = start .pre .0 in
     let here = fits .modest _ (start .pre .1 .0) in (
       omega (arith, start .pre .1 .0, fits .rows-most),
@@ -19,8 +19,9 @@ start-requires c κs =
 returns : tie.Need-returns
 unfolding startedIn
 returns c =
-    let opened = c .before .before .before .before .before .before in
-    c .handed .ensures ∙ rw (c .before .start .ensures, opened .opening-after .ensures)
+    let made = c .before .before .before in
+    let opened = made .before .before .before .before in
+    c .handed .ensures ∙ rw (c .before .start .ensures, made .slot-of .ensures, opened .opening-after .ensures)
 
 pub started-spec : {M : Type 1} → statement M
 started-spec =
@@ -34,9 +35,7 @@ started-spec =
     (λ c. search needs)
     (λ c. search needs)
     (λ c. search needs)
-    (λ c. search needs)
-    (λ c. search needs)
-    (λ c. search needs)
+    (λ c κs. search needs)
     (λ c. search needs)
     (λ c. search needs)
     start-requires

@@ -81,7 +81,7 @@ module _ (c : tie.Then1 Inv-loop μ-loop) where
 
 look-after-requires : tie.Need-look-after-requires Inv-loop μ-loop
 look-after-requires c κs =
-    let found = c .before .before in
+    let found = c .before .before .before in
     let t = turn found in
     let l = found .if1 .taken in
     (checked-fitting (load t) (start t .pre) _ l, (fits t, (l, found .before .search .ensures .candidate l)))
@@ -89,10 +89,11 @@ look-after-requires c κs =
 loop-again : tie.Need-loop-again Inv-loop μ-loop
 loop-again c =
     let looked = c .before .before .before in
-    let found = looked .before .before .before in
+    let made = looked .before .before in
+    let found = made .before .before in
     let t = turn found in (
       c .all-finished2 .ensures,
-      rw (c .before .with-look .ensures)
+      rw (c .before .with-look .ensures, made .slot-of .ensures)
           (running-start (load t) (start t .pre) (rows-most t) _ _ _ _ (t .before .loop .inv .1) (work-left t) _
           (found .if1 .taken) (found .before .search .ensures) _ (looked .look-after .ensures .0)
           (looked .look-after .ensures .1)),
@@ -127,22 +128,20 @@ run-checked-spec =
     (λ c κs. checked-rows _ (c .before .before .before .pre))
     loop-holds
     (λ c κs. fits c)
-    (λ c. omega (arith, goes c .place))
-    (λ c. omega (arith, goes c .place))
     (λ c. goes c .place)
-    (λ c. omega (arith, goes (c .before) .more))
-    (λ c. omega (arith, goes (c .before) .room))
-    (λ c. omega (arith, goes (c .before) .room))
-    (λ c. omega (arith, goes (c .before) .room))
-    (λ c. omega (arith, goes (c .before) .place))
-    (λ c. goes (c .before) .place)
+    (λ c κs. (goes (c .before) .place, goes (c .before) .more))
+    (λ c. omega (arith, goes (c .before .before) .room))
+    (λ c. omega (arith, goes (c .before .before) .room))
+    (λ c. omega (arith, goes (c .before .before) .room))
+    (λ c. omega (arith, goes (c .before .before) .place))
+    (λ c. goes (c .before .before) .place)
     look-after-requires
-    (λ c. omega (arith, goes (c .before .before .before) .place))
-    (λ c. goes (c .before .before .before) .place)
-    (λ c. omega (arith, goes (c .before .before .before .before) .ends))
-    (λ c κs. goes (c .before .before .before .before) .place)
-    (λ c κs. rows-most (c .before .before .before .before .before .before .before))
-    (λ c. omega (arith, goes (c .before .before .before .before .before .before)))
+    (λ c. omega (arith, goes (c .before .before .before .before) .place))
+    (λ c. goes (c .before .before .before .before) .place)
+    (λ c. omega (arith, goes (c .before .before .before .before .before) .ends))
+    (λ c κs. goes (c .before .before .before .before .before) .place)
+    (λ c κs. rows-most (c .before .before .before .before .before .before .before .before))
+    (λ c. omega (arith, goes (c .before .before .before .before .before .before .before)))
     loop-again
     (λ c κs. (fits (c .before .before), early (c .before .before)))
     (λ c. omega (arith, c .next-moment .ensures))
