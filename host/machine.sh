@@ -8,7 +8,8 @@ strict='-O2 -Wall -Wextra -Wpedantic -Wconversion -Wshadow -Werror'
 PATH=$PATH:/opt/rattle/bin # where the toolchain stands if it is not on the path
 
 if [ "$(uname -m)" = x86_64 ]; then
-    sh tests/tools cc=gcc c++=g++ nm=binutils pkg-config=pkg-config make=make
+    sh tests/tools cc=gcc c++=g++ /usr/include/stdio.h=libc6-dev nm=binutils \
+        pkg-config=pkg-config make=make
     compile_c=cc compile_cpp=c++ list_names=nm emulator=''
 else
     cross=x86_64-linux-gnu
