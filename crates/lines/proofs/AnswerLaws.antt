@@ -27,7 +27,7 @@ use Rattle.bound.specs.declared.Judged.{Judged}
 use Rattle.bound.specs.Calls.{ifGood, BoundOf, MarginsOf, VerdictOf}
 use Rattle.bound.proofs.AcceptedLaws.{accepted-few}
 use Rattle.lines.specs.Lines.{loadLine, rowLine, firstLineOf, rowLineOf}
-use Rattle.lines.specs.inner.Parts.{Scheduled}
+use Rattle.lines.specs.inner.Puts.{Scheduled}
 
 module _ (load : Load) (accepted : checkLoad load ≡ Good) where
   bound-told : (r : Bounded) → BoundOf load r → r .bound ≡ bound (viewOf load)

@@ -3,7 +3,7 @@ use Prim.Native.Nat.{ℕ}
 use mathlib.Core.List.{List, [], _∷_, _++_, append-assoc}
 use mathlib.Core.Path.{_≡_, refl, ap, _∙_}
 use Rattle.lines.specs.Lines.{spaced}
-use Rattle.lines.specs.inner.Parts.{Put}
+use Rattle.lines.specs.inner.Puts.{Put}
 use Rattle.lines.proofs.PutLaws.{put-more, put-same}
 
 spaced-more : (word : List ℕ) (others : List (List ℕ)) (next : List ℕ)

@@ -10,7 +10,7 @@ use Rattle.counting.proofs.lists.ListLaws.{joinTo-next}
 use Rattle.words.specs.declared.Word.{Word}
 use Rattle.words.specs.Calls.{wordPlaces, wordHolding}
 use Rattle.words.proofs.OverwriteLaws.{sets-more}
-use Rattle.lines.specs.inner.Parts.{Put}
+use Rattle.lines.specs.inner.Puts.{Put}
 
 module _ {before text after : List ℕ} {at next last : ℕ} {xs ys : List ℕ} where
   pub put-more : Put before at xs text next → Put text next ys after last → Put before at (xs ++ ys) after last

@@ -21,7 +21,7 @@ use Rattle.rules.proofs.run.RunEnd.{lastEnd-last}
 use Rattle.rules.proofs.run.RunMade.{schedule-is-whole}
 use Rattle.rules.proofs.slots.WholeLaws.{Whole, names}
 use Rattle.bound.proofs.AcceptedLaws.{accepted-few}
-use Rattle.lines.specs.inner.Parts.{Scheduled}
+use Rattle.lines.specs.inner.Puts.{Scheduled}
 
 pub lastEnd-none : (L : View) (slots : List Slot) (n : ℕ) → n ≡ 0 → lastEnd L (take n slots) ≡ 0
 unfolding lastEnd

@@ -35,7 +35,7 @@ ghost use Rattle.lines.specs.Lines.{
   rowLineOf,
 };
 ghost use Rattle.lines.specs.Calls.{firstMost};
-ghost use Rattle.lines.specs.inner.Parts.{Put, Scheduled, rowsEnd};
+ghost use Rattle.lines.specs.inner.Puts.{Put, Scheduled, rowsEnd};
 
 // Gives when a slot ends that names a step of the load.
 fn end_of(load: Load, slot: Slot) -> u32

@@ -11,7 +11,7 @@ use rules::Slot;
 ghost use Prim.Native.Nat.{_≤_};
 ghost use Rattle.lines.specs.Lines.{slotLine, refusedLine, firstLineOf, rowLineOf};
 ghost use Rattle.lines.specs.Calls.{textPlaces};
-ghost use Rattle.lines.specs.inner.Parts.{Put};
+ghost use Rattle.lines.specs.inner.Puts.{Put};
 
 // Puts the first line: rows, steps, end of the last step, bound, verdict.
 pub fn put_first(

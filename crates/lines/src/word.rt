@@ -10,7 +10,7 @@ ghost use lib.ListN.{length, take};
 ghost use Rattle.words.specs.Decimal.{decimal, signedDecimal};
 ghost use Rattle.words.specs.Calls.{wordPlaces};
 ghost use Rattle.lines.specs.Lines.{yesOrNo};
-ghost use Rattle.lines.specs.inner.Parts.{Put};
+ghost use Rattle.lines.specs.inner.Puts.{Put};
 
 // Puts bytes.
 pub fn put_bytes(text: &mut [u8], at: usize, bytes: &[u8]) -> usize

@@ -15,7 +15,7 @@ use Rattle.load.specs.Load.{shown, rowAt}
 use Rattle.rules.specs.Margins.{marginIn}
 use Rattle.bound.proofs.SignLaws.{each-fits}
 use Rattle.lines.specs.Lines.{rowLineOf}
-use Rattle.lines.specs.inner.Parts.{Put}
+use Rattle.lines.specs.inner.Puts.{Put}
 use Rattle.lines.proofs.PutLaws.{put-same, put-none, put-next}
 use Rattle.lines.proofs.LengthLaws.{rowLineOf-le}
 use Rattle.lines.proofs.gather.put_rows_with.Statement.{statement}

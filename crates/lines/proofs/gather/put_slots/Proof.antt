@@ -9,7 +9,7 @@ use Rattle.counting.specs.Lists.{joinTo}
 use Rattle.rules.specs.declared.Slot.{Slot}
 use Rattle.rules.specs.Slots.{slotAt}
 use Rattle.lines.specs.Lines.{slotLine}
-use Rattle.lines.specs.inner.Parts.{Put}
+use Rattle.lines.specs.inner.Puts.{Put}
 use Rattle.lines.proofs.PutLaws.{put-none, put-next}
 use Rattle.lines.proofs.LengthLaws.{slotLine-le}
 use Rattle.lines.proofs.gather.put_slots.Statement.{statement}
