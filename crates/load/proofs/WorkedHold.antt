@@ -2,7 +2,7 @@
 use Prim.Native.Nat.{ℕ}
 use mathlib.Core.Path.{refl}
 use Rattle.counting.specs.Sums.{sumTo, allTo, anyTo}
-use Rattle.counting.specs.Lists.{joinTo, joinIn, anyIn}
+use Rattle.counting.specs.Lists.{joinTo, anyIn}
 use Rattle.refusals.specs.FirstMet.{firstFaultTo}
 use Rattle.load.specs.Load.{zeroRow}
 use Rattle.load.specs.View.{viewOf, chain, embedded}
@@ -14,7 +14,7 @@ use Rattle.load.specs.WorkedCases.{notZero, WorkedCases}
 
 -- to open this is to open all that its line names
 unfoldable computing : ℕ
-unfolding sumTo allTo anyTo joinTo joinIn anyIn firstFaultTo zeroRow viewOf chain embedded rowTests takenTests
+unfolding sumTo allTo anyTo joinTo anyIn firstFaultTo zeroRow viewOf chain embedded rowTests takenTests
     stepTests windowTests rowFault checkLoad numbersOf
 computing = 0
 

@@ -2,10 +2,10 @@
 -- outside it. The answers are the document's, taken by hand and from the second program. To be read
 -- after Check and Notation.
 use Prim.Native.Nat.{ℕ, suc}
-use mathlib.Core.List.{List, [], _∷_}
+use mathlib.Core.List.{List, [], _∷_, map}
 use mathlib.Core.Path.{_≡_}
 use lib.ListN.{replicate, take}
-use Rattle.counting.specs.Lists.{joinIn, listTo}
+use Rattle.counting.specs.Lists.{listTo}
 use Rattle.refusals.specs.Refusals.{numberGiven}
 use Rattle.load.specs.declared.Step.{Step}
 use Rattle.load.specs.declared.Window.{Window}
@@ -17,7 +17,7 @@ use Rattle.load.specs.Notation.{_w_, window, rowWith, row, loadOf}
 -- the numbers that loads are refused with, and 0 for one that is accepted: a load for each member
 -- of a list
 unfoldable pub numbersOf : {A : Type 0} → (A → Load) → List A → List ℕ
-numbersOf load members = joinIn (λ member. numberGiven (checkLoad (load member)) ∷ []) members
+numbersOf load members = map (λ member. numberGiven (checkLoad (load member))) members
 
 -- a load of one row
 abbrev pub one : Row → Load

@@ -1,11 +1,11 @@
 -- "A load" and numbers 3, 6 and 7 of windows, worked; which steps and waits are embedded, and
--- chains. The answers are the document's, taken by hand and from the second program. To be read
--- after WorkedRanges. Rests on D4.
+-- chains. The answers are the document's, taken by hand; the numbers were asked of the second
+-- program too. To be read after WorkedRanges. Rests on D4.
 use mathlib.Core.Bool.{true, false}
-use mathlib.Core.List.{List, [], _∷_, _++_}
+use mathlib.Core.List.{List, [], _∷_, _++_, map}
 use mathlib.Core.Path.{_≡_}
 use lib.ListN.{replicate}
-use Rattle.counting.specs.Lists.{joinIn, listTo}
+use Rattle.counting.specs.Lists.{listTo}
 use Rattle.load.specs.declared.Step.{Step}
 use Rattle.load.specs.declared.Window.{Window}
 use Rattle.load.specs.declared.Load.{Load}
@@ -79,17 +79,14 @@ pub record WorkedWindows : Type 0 where
       ≡ 7 ∷ 6 ∷ 3 ∷ []
   -- the chain of steps 2 to 3, and 1 to 4: 2 + 4 + 2, and 5 + 7 + 2 + 4 + 2 + 9 + 1
   pub chains :
-      joinIn (λ t. chainOf (row 1 waiting []) t ∷ []) (window 2 3 1 ∷ window 1 4 1 ∷ [])
-      ≡ 8 ∷ 30 ∷ []
+      map (chainOf (row 1 waiting [])) (window 2 3 1 ∷ window 1 4 1 ∷ []) ≡ 8 ∷ 30 ∷ []
   -- the same of the view
   pub chains-in :
-      joinIn
-      (λ t. chainIn (viewOf (one (row 1 waiting []))) 0 t ∷ [])
-      (window 2 3 1 ∷ window 1 4 1 ∷ [])
+      map (chainIn (viewOf (one (row 1 waiting []))) 0) (window 2 3 1 ∷ window 1 4 1 ∷ [])
       ≡ 8 ∷ 30 ∷ []
   -- the same of places: from 1, 2, 3 and 5 on and below 3; from 2 on, as far as there are steps
   pub chains-between :
-      joinIn (λ a. chainBetween (row 1 waiting []) a 3 ∷ []) (1 ∷ 2 ∷ 3 ∷ 5 ∷ [])
+      map (λ a. chainBetween (row 1 waiting []) a 3) (1 ∷ 2 ∷ 3 ∷ 5 ∷ [])
       ++ chainBetween (row 1 waiting []) 2 9 ∷ []
       ≡ 8 ∷ 2 ∷ 0 ∷ 0 ∷ 12 ∷ []
   -- six steps with a window from 2 to 4: steps 3 and 4 are embedded

@@ -1,6 +1,6 @@
 -- "Numbers given back", 1 to 8, worked: what reading and writing small files gives. The answers are
--- the document's, taken by hand and from the second program. To be read after WorkedFile. Rests on
--- D1, D6 to D8, D25 and D29.
+-- the document's, taken by hand; those of reading were asked of the second program too. To be read
+-- after WorkedFile. Rests on D1, D6 to D8, D25 and D29.
 use mathlib.Core.List.{[], _∷_, _++_}
 use mathlib.Core.Path.{_≡_}
 use lib.ListN.{replicate, take, drop}

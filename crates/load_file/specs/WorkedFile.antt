@@ -1,7 +1,7 @@
 -- "Load file", worked: a file of one row, byte by byte, the load that it spells, and the numbers
 -- that files are refused with. To be read after Calls.
 use Prim.Native.Nat.{ℕ}
-use mathlib.Core.List.{List, [], _∷_}
+use mathlib.Core.List.{List, [], _∷_, map}
 use Rattle.counting.specs.Lists.{joinIn}
 use Rattle.refusals.specs.Refusals.{numberGiven}
 use Rattle.load.specs.declared.Load.{Load}
@@ -14,7 +14,7 @@ joined records = joinIn (λ part. part) records
 
 -- the numbers that files are refused with, and 0 for one that is accepted
 unfoldable pub numbersRead : List (List (List ℕ)) → List ℕ
-numbersRead files = joinIn (λ parts. numberGiven (readLoad (joined parts) .answer) ∷ []) files
+numbersRead files = map (λ parts. numberGiven (readLoad (joined parts) .answer)) files
 
 -- version 1, and so many rows
 abbrev pub header : ℕ → List ℕ

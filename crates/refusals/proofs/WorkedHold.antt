@@ -1,11 +1,10 @@
 -- The worked cases hold: each is decided by computing.
 use mathlib.Core.Path.{refl}
-use Rattle.counting.specs.Lists.{joinIn}
 use Rattle.refusals.specs.FirstMet.{firstFaultTo}
 use Rattle.refusals.specs.WorkedCases.{table, WorkedCases}
 
 pub worked-hold : WorkedCases
-unfolding joinIn firstFaultTo table
+unfolding firstFaultTo table
 worked-hold =
     record {
       numbers = refl;

@@ -2,10 +2,9 @@
 -- whose bytes are told before and after. The answers are the document's, taken by hand. To be read
 -- after Given. Rests on D26.
 use mathlib.Core.Bool.{true, false}
-use mathlib.Core.List.{List, [], _∷_}
+use mathlib.Core.List.{List, [], _∷_, map}
 use mathlib.Core.Path.{_≡_}
 use lib.Dec.{eqb}
-use Rattle.counting.specs.Lists.{joinIn}
 use Rattle.refusals.specs.declared.Refusal.{Refusal}
 use Rattle.refusals.specs.declared.Refusal.the-variants.{
   FileShort,
@@ -77,7 +76,7 @@ table =
 pub record WorkedCases : Type 0 where
   -- the table's numbers, in the table's order
   pub numbers :
-      joinIn (λ refusal. numberOf refusal ∷ []) table
+      map numberOf table
       ≡ 1 ∷ 2 ∷ 3 ∷ 4 ∷ 5 ∷ 6 ∷ 7 ∷ 8 ∷ 9 ∷ 10 ∷ 11 ∷ 12 ∷ 13 ∷ 14 ∷ 15 ∷ 16 ∷ 17 ∷ []
   -- nothing refused is 0
   pub nothing-refused : numberGiven Good ≡ 0
