@@ -1,13 +1,12 @@
 -- What is printed for a file, by what its reading finds: the lines of its load, which its check then accepts, or the
--- one line of its refusal. What was put at the front of zeros is held there as a text.
-use Prim.Native.Nat.{ℕ, _+_, _-_, _≤_}
-use mathlib.Core.List.{List, _++_}
+-- one line of its refusal. What was put at the front of zeros is a text.
+use Prim.Native.Nat.{ℕ, _-_, _≤_}
+use mathlib.Core.List.{List}
 use mathlib.Core.Path.{_≡_, ap, ap₂, sym, _∙_}
-use native.Mathlib.Omega.{arith}
-use lib.ListN.{length, take, drop, replicate, length-replicate, replicate-append-replicate}
-use lib.Seq.{sets, take-append-seam, drop-at}
+use lib.ListN.{length, take, replicate}
+use lib.Seq.{sets, take-append-seam}
 use Rattle.words.specs.LittleEndian.{Bytes}
-use Rattle.words.proofs.OverwriteLaws.{sets-front}
+use Rattle.words.proofs.OverwriteLaws.{sets-alone}
 use Rattle.refusals.specs.declared.Refusal.{Refusal}
 use Rattle.refusals.specs.declared.Checked.the-variants.{Good, Refused}
 use Rattle.load.specs.Check.{checkLoad}
@@ -50,21 +49,11 @@ module _ (bs : List ℕ) (r : Reading) (e : ReadLoad bs r) where
   unfolding printed
   printed-refused refusal refused = sym (ap (λ t. linesBeside t (loadIn bs)) (sym finding ∙ refused))
 
--- bytes at the front of a list of one number alone, and what is left of that list
-alone-front : (n a : ℕ) (bs : List ℕ) → length bs ≤ n → sets (replicate n a) 0 bs ≡ bs ++ replicate (n - length bs) a
-alone-front n a bs h =
-    let k = length bs in
-    let e : k + (n - k) ≡ n = omega arith in
-    let parts = replicate-append-replicate k (n - k) a ∙ ap (λ m. replicate m a) e in
-    sets-front (replicate n a) bs (omega (arith, length-replicate n a))
-    ∙ ap (λ l. bs ++ l)
-    (ap (drop k) (sym parts) ∙ drop-at (replicate k a) (replicate (n - k) a) k (length-replicate k a))
-
--- what was put at the front of zeros is held there, with its length
-pub text-held : (bs after : List ℕ) (n : ℕ) → after ≡ sets (replicate textPlaces 0) 0 bs → n ≡ length bs
+-- what was put at the front of zeros is a text, with its length
+pub textHolding-is : (bs after : List ℕ) (n : ℕ) → after ≡ sets (replicate textPlaces 0) 0 bs → n ≡ length bs
     → length bs ≤ textPlaces → _≡_ {A = Text} (record { length = n; bytes = after }) (textHolding bs)
-text-held bs after n e size h =
-    ap₂ (λ l held. record { length = l; bytes = held }) size (e ∙ alone-front textPlaces 0 bs h)
+textHolding-is bs after n e size h =
+    ap₂ (λ l t. record { length = l; bytes = t }) size (e ∙ sets-alone textPlaces 0 bs h)
 
 -- the bytes that a text counts are those that it holds
 pub text-taken : (bs : List ℕ) (t : Text) → t ≡ textHolding bs → take (t .length) (t .bytes) ≡ bs

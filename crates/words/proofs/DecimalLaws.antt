@@ -1,21 +1,21 @@
 -- Laws of decimal text: a number of two digits or more is its tenth with one digit behind it, and a number below
 -- 10 ^ k has at most k digits.
-use Prim.Native.Nat.{ℕ, zero, suc, _+_, _/_, _%_, _^_, _-_, _≤_, _<_}
+use Prim.Native.Nat.{ℕ, zero, suc, _+_, _/_, _%_, _^_, _≤_, _<_}
 use mathlib.Core.Bool.{Bool, true, false, cond}
 use mathlib.Core.List.{List, _++_}
 use mathlib.Core.Path.{_≡_, refl, ap, ap₂, sym, _∙_}
 use native.Mathlib.Decide.{decLt}
-use native.Mathlib.Nat.{pow-suc, sub-zero, zero-sub, suc-sub-suc}
+use native.Mathlib.Nat.{pow-suc}
 use native.Mathlib.Omega.{arith}
 use borrow.Author.Tests.{lt-ltb, le-ltb}
 use lib.Dec.{ltb}
 use lib.IntN.{ℤ, pos, negsuc, natAbs}
-use lib.ListN.{length, length-append, drop, replicate, set}
+use lib.ListN.{length, length-append, replicate, set}
 use lib.Seq.{sets}
 use Rattle.words.specs.declared.Word.{Word}
 use Rattle.words.specs.Decimal.{digit, decimalTo, decimal, signedDecimal}
 use Rattle.words.specs.Calls.{wordPlaces, wordHolding}
-use Rattle.words.proofs.OverwriteLaws.{sets-set, sets-behind, sets-front}
+use Rattle.words.proofs.OverwriteLaws.{sets-set, sets-behind, sets-alone}
 
 -- one digit, or a tenth and a digit
 decimalTo-step : (most n : ℕ)
@@ -104,14 +104,7 @@ last-digit bytes at place n l h e =
     ∙ sets-behind bytes at place (decimal (n / 10)) (digit (n % 10)) next
     ∙ ap (sets bytes at) (sym (decimal-next n l h))
 
-drop-replicate : (k n a : ℕ) → drop k (replicate n a) ≡ replicate (n - k) a
-drop-replicate zero n a = rw (sub-zero n)
-drop-replicate (suc k) zero a = rw (zero-sub (suc k))
-drop-replicate (suc k) (suc n) a = rw (suc-sub-suc n k) (drop-replicate k n a)
-
 -- a text at the front of a word of zeros
-pub word-held : (bs : List ℕ) (n : ℕ) → n ≡ length bs → length bs ≤ wordPlaces
+pub wordHolding-is : (bs : List ℕ) (n : ℕ) → n ≡ length bs → length bs ≤ wordPlaces
     → _≡_ {A = Word} (record { length = n; bytes = sets (replicate wordPlaces 0) 0 bs }) (wordHolding bs)
-word-held bs n e h =
-    ap₂ (λ l held. record { length = l; bytes = held }) e
-    (sets-front (replicate wordPlaces 0) bs h ∙ ap (λ l. bs ++ l) (drop-replicate (length bs) wordPlaces 0))
+wordHolding-is bs n e h = ap₂ (λ l w. record { length = l; bytes = w }) e (sets-alone wordPlaces 0 bs h)

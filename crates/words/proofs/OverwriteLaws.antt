@@ -1,12 +1,12 @@
 -- Laws of bytes written over a list from a place on: past the end nothing is written, and what is written in two
 -- pieces, or in many, one behind the other, is written as one.
-use Prim.Native.Nat.{ℕ, suc, _+_, _*_, _≤_, _<_}
+use Prim.Native.Nat.{ℕ, zero, suc, _+_, _-_, _*_, _≤_, _<_}
 use mathlib.Core.List.{List, [], _∷_, _++_}
 use mathlib.Core.Path.{_≡_, refl, ap, sym, _∙_}
-use native.Mathlib.Nat.{mul-comm}
+use native.Mathlib.Nat.{mul-comm, sub-zero, zero-sub, suc-sub-suc}
 use native.Mathlib.Numerals.{add-one}
 use native.Mathlib.Omega.{arith}
-use lib.ListN.{length, drop, getD, set}
+use lib.ListN.{length, drop, getD, set, replicate, length-replicate}
 use lib.Seq.{sets, sets-eq, set-out, set-comm, drop-cons}
 use Rattle.counting.specs.Lists.{joinTo}
 use Rattle.counting.proofs.lists.ListLaws.{joinTo-zero, joinTo-next, joinTo-length-same}
@@ -57,6 +57,17 @@ module _ {A : Type 0} where
   -- from the front on
   pub sets-front : (out xs : List A) → length xs ≤ length out → sets out 0 xs ≡ xs ++ drop (length xs) out
   sets-front out xs h = let e : 0 + length xs ≡ length xs = omega arith in rw e at (sets-eq xs out 0 (omega arith))
+
+  -- the same, over one element alone
+  pub sets-alone : (n : ℕ) (a : A) (xs : List A) → length xs ≤ n
+      → sets (replicate n a) 0 xs ≡ xs ++ replicate (n - length xs) a
+  sets-alone n a xs h =
+      sets-front (replicate n a) xs (omega (arith, length-replicate n a)) ∙ ap (λ l. xs ++ l) (alone (length xs) n a)
+    where
+      alone : (k n : ℕ) (a : A) → drop k (replicate n a) ≡ replicate (n - k) a
+      alone zero n a = rw (sub-zero n)
+      alone (suc k) zero a = rw (zero-sub (suc k))
+      alone (suc k) (suc n) a = rw (suc-sub-suc n k) (alone k n a)
 
   -- of a run of pieces, one behind the other, none is written yet
   pub sets-joined-zero : (f : ℕ → List A) (out : List A) (at : ℕ) → out ≡ sets out at (joinTo f 0)

@@ -5,7 +5,7 @@ use borrow.Author.Needs.{needs}
 use lib.ListN.{length}
 use Rattle.words.specs.LittleEndian.{Bytes}
 use Rattle.lines.specs.Lines.{printed}
-use Rattle.lines.proofs.PrintedLaws.{text-held}
+use Rattle.lines.proofs.PrintedLaws.{textHolding-is}
 use Rattle.lines.proofs.LengthLaws.{printed-le}
 use Rattle.lines.proofs.text_of.Statement.{statement}
 use Rattle.lines.proofs.text_of.Tie as tie
@@ -21,7 +21,7 @@ returns c =
     let lines = printed (known .before .args .bytes .now) in
     let put = made .put-printed .ensures in
     let size : made .put-printed .result ≡ length lines = omega (arith, put .place-is) in
-    text-held lines _ _ (put .text-is) size (printed-le _ (bytes known))
+    textHolding-is lines _ _ (put .text-is) size (printed-le _ (bytes known))
 
 pub text-of-spec : {M : Type 1} → statement M
 text-of-spec = tie.close (tie.spec (λ c. search needs) (λ c κs. search needs) returns)

@@ -5,7 +5,7 @@ use native.Mathlib.Omega.{arith}
 use borrow.Author.Needs.{needs}
 use lib.ListN.{length}
 use Rattle.words.specs.Decimal.{decimal}
-use Rattle.words.proofs.DecimalLaws.{decimal-length-le, word-held}
+use Rattle.words.proofs.DecimalLaws.{decimal-length-le, wordHolding-is}
 use Rattle.words.proofs.decimal.decimal_of.Statement.{statement}
 use Rattle.words.proofs.decimal.decimal_of.Tie as tie
 
@@ -13,7 +13,7 @@ returns : tie.Need-returns
 returns c =
     let digits = decimal (c .before .args .number) in
     let few = decimal-length-le 9 (c .before .args .number) (search needs) in
-    c .with-digits .ensures ∙ word-held digits (0 + length digits) (omega arith) (omega arith)
+    c .with-digits .ensures ∙ wordHolding-is digits (0 + length digits) (omega arith) (omega arith)
 
 pub decimal-of-spec : {M : Type 1} → statement M
 decimal-of-spec = tie.close (tie.spec (λ c κs. search needs) returns)

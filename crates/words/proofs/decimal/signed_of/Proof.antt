@@ -13,7 +13,7 @@ use lib.Signed.{ltZ}
 use mir.Facts.{toZ-ofZ}
 use Rattle.words.specs.Decimal.{decimal}
 use Rattle.words.specs.Calls.{wordPlaces, wordHolding}
-use Rattle.words.proofs.DecimalLaws.{decimal-length-le, word-held}
+use Rattle.words.proofs.DecimalLaws.{decimal-length-le, wordHolding-is}
 use Rattle.words.proofs.SignLaws.{signedDecimal-negative, signedDecimal-other, natAbs-lt}
 use Rattle.words.proofs.decimal.signed_of.Statement.{statement}
 use Rattle.words.proofs.decimal.signed_of.Tie as tie
@@ -31,7 +31,7 @@ is-negative c =
     c .with-digits .ensures
     ∙ ap (λ n. record { length = 1 + length (decimal n); bytes = sets (replicate wordPlaces 0) 0 (45 ∷ decimal n) })
     (digits-are (c .before .before))
-    ∙ word-held (45 ∷ digits) (1 + length digits) (omega arith) (omega arith)
+    ∙ wordHolding-is (45 ∷ digits) (1 + length digits) (omega arith) (omega arith)
     ∙ ap wordHolding (sym (signedDecimal-negative z negative))
 
 is-other : tie.Need-returns-2
