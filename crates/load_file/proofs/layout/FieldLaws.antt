@@ -38,9 +38,6 @@ use Rattle.load_file.proofs.layout.RecordLaws.{
   record-stands,
 }
 
-pub headerRecord-length : (n : ℕ) → length (headerRecord n) ≡ headerKind .size
-headerRecord-length n = refl
-
 pub rowRecord-length : (row : Row) → length (rowRecord row) ≡ rowKind .size
 rowRecord-length row = simp (length-append, littleEndian-length)
 

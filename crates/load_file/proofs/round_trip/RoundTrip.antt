@@ -1,6 +1,6 @@
 -- Demand 2 for load files: the witness of the round trip, and what follows from it. An accepted file reads to one
--- load, which is written back to the same bytes; a written load reads back as itself; loads with one file are one
--- load; and a file has at most 2,216 bytes.
+-- load, which is written back to the same bytes; a written load reads back as itself; and a file has at most 2,216
+-- bytes.
 use Prim.Native.Nat.{ℕ, _≤_}
 use mathlib.Core.List.{List}
 use mathlib.Core.Path.{_≡_, refl, ap, sym, _∙_}
@@ -50,10 +50,6 @@ AcceptedFile-unique bs load other a c = ap (λ r. r .load) (sym (a .reads) ∙ c
 loadIn-is : (bs : List ℕ) (load : Load) → readLoad bs ≡ accepted load → loadIn bs ≡ load
 loadIn-is bs load h = ap (λ r. r .load) (sym (readLoad-good bs (good-readLoad bs load h)) ∙ h)
 
--- what an accepted file spells is held as its types say
-pub loadIn-held : (bs : List ℕ) → Bytes bs → fileFault bs ≡ Good → Held (loadIn bs)
-loadIn-held bs b h = read-held bs b (fileFault-good bs h)
-
 accepted-written : (bs : List ℕ) (load : Load) → AcceptedFile bs load → WrittenLoad load bs
 accepted-written bs load a =
     let h : fileFault bs ≡ Good = good-readLoad bs load (a .reads) in
@@ -94,12 +90,6 @@ read-write bs load b h = sym (round-trip .read-write bs load (record { bytes = b
 pub write-read : (load : Load) → Held load → checkLoad load ≡ Good → readLoad (loadBytes load) ≡ accepted load
 write-read load held good =
     round-trip .write-read (loadBytes load) load (record { held = held; good = good; file = refl }) .reads
-
--- loads with one file are one load
-pub loadBytes-unique : (load other : Load) → Held load → checkLoad load ≡ Good → Held other → checkLoad other ≡ Good
-    → loadBytes load ≡ loadBytes other → load ≡ other
-loadBytes-unique load other held good held′ good′ e =
-    ap (λ r. r .load) (sym (write-read load held good) ∙ ap readLoad e ∙ write-read other held′ good′)
 
 -- the longest file: 24 rows of 8 steps and 4 windows
 pub loadBytes-le : (load : Load) → checkLoad load ≡ Good → length (loadBytes load) ≤ 2216
