@@ -2,7 +2,7 @@
 use Prim.Native.Nat.{ℕ, zero, suc, _+_, _<_}
 use mathlib.Core.Bool.{Bool, true, false}
 use mathlib.Core.List.{List, [], _∷_, _++_}
-use mathlib.Core.Path.{_≡_, refl, ap₂, _∙_}
+use mathlib.Core.Path.{_≡_, refl, ap₂, sym, _∙_}
 use native.Mathlib.Decide.{ℕ-discrete}
 use native.Mathlib.Numerals.{add-one}
 use native.Mathlib.Omega.{arith}
@@ -37,10 +37,6 @@ firstMet-good-first t ts e = go (t .0) refl e
 pub firstMet-good-rest : (t : Bool × Refusal) (ts : List (Bool × Refusal)) → firstMet (t ∷ ts) ≡ Good
     → firstMet ts ≡ Good
 firstMet-good-rest t ts e = let q : t .0 ≡ false = firstMet-good-first t ts e in rw q at e
-
-pub firstMet-both : (t : Bool × Refusal) (ts : List (Bool × Refusal)) → t .0 ≡ false → firstMet ts ≡ Good
-    → firstMet (t ∷ ts) ≡ Good
-firstMet-both t ts p q = rw (p, q)
 
 -- tests one behind the other
 pub firstMet-append : (ts us : List (Bool × Refusal)) → firstMet (ts ++ us) ≡ andThen (firstMet ts) (firstMet us)
@@ -98,3 +94,14 @@ firstMet-append-refused ts us r h = firstMet-append ts us ∙ rw h
 
 pub firstMet-append-good : (ts us : List (Bool × Refusal)) → firstMet ts ≡ Good → firstMet (ts ++ us) ≡ firstMet us
 firstMet-append-good ts us h = firstMet-append ts us ∙ rw h
+
+-- and where all of them are Good, both are, and the other way round
+module _ (ts us : List (Bool × Refusal)) where
+  pub append-good-first : firstMet (ts ++ us) ≡ Good → firstMet ts ≡ Good
+  append-good-first e = andThen-good-first (firstMet ts) (firstMet us) (sym (firstMet-append ts us) ∙ e)
+
+  pub append-good-second : firstMet (ts ++ us) ≡ Good → firstMet us ≡ Good
+  append-good-second e = andThen-good-second (firstMet ts) (firstMet us) (sym (firstMet-append ts us) ∙ e)
+
+  pub append-good-both : firstMet ts ≡ Good → firstMet us ≡ Good → firstMet (ts ++ us) ≡ Good
+  append-good-both p q = firstMet-append ts us ∙ andThen-both (firstMet ts) (firstMet us) p q

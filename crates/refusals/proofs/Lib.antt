@@ -1,7 +1,6 @@
 -- Laws of the first fault and of what a writing call gives, sameness of results, and worked cases.
 pub mod FirstMetLaws
 pub mod FirstFaultLaws
-pub mod UnmetLaws
 pub mod GivenLaws
 pub mod CallLaws
 pub mod WorkedHold

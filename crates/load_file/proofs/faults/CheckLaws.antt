@@ -1,17 +1,16 @@
 -- What the check of a load in memory asks, part by part: its finding is Good exactly when each part's is, and an
 -- unused place is the zero part.
 use Prim.Native.Nat.{ℕ, _≤_, _<_}
-use mathlib.Core.Bool.{Bool, true, not}
+use mathlib.Core.Bool.{Bool, true}
 use mathlib.Core.List.{[], _∷_}
-use mathlib.Core.Path.{_≡_, ap}
+use mathlib.Core.Path.{_≡_}
 use lib.Dec.{ltb}
-use borrow.Author.Tests.{ltb-false, le-ltb, not-false}
+use borrow.Author.Tests.{ltb-false, le-ltb}
 use Rattle.counting.specs.Sums.{allFrom}
 use Rattle.counting.proofs.tests.TestLaws.{or-right}
-use Rattle.refusals.specs.declared.Refusal.the-variants.{OutOfRange}
 use Rattle.refusals.specs.declared.Checked.the-variants.{Good}
-use Rattle.refusals.proofs.FirstMetLaws.{firstFaultTo-good, good-firstFaultTo}
-use Rattle.refusals.proofs.UnmetLaws.{good-unmet, unmet-good, good-allGood, allGood-good}
+use Rattle.refusals.proofs.FirstMetLaws.{firstMet-good-first, firstFaultTo-good, good-firstFaultTo}
+use Rattle.refusals.proofs.FirstFaultLaws.{firstMet-good, firstFault-good}
 use Rattle.load.specs.declared.Row.{Row}
 use Rattle.load.specs.declared.Load.{Load}
 use Rattle.load.specs.Load.{mostRows, mostSteps, mostWindows, rowAt}
@@ -28,12 +27,10 @@ use Rattle.load.specs.Check.{
   rowFault,
   checkLoad,
 }
-
-allZero-good : (b : Bool) → allZero b ≡ Good → b ≡ true
-allZero-good b h = not-false b (good-unmet ((not b, OutOfRange) ∷ []) h .0)
+use Rattle.load.proofs.AcceptableLaws.{allZero-good}
 
 good-allZero : (b : Bool) → b ≡ true → allZero b ≡ Good
-good-allZero b h = unmet-good ((not b, OutOfRange) ∷ []) (ap not h, tt)
+good-allZero b h = rw h
 
 -- what the check asks of the row at place i
 pub record RowGood (load : Load) (i : ℕ) (row : Row) : Type 0 where
@@ -48,14 +45,14 @@ module _ (load : Load) (i : ℕ) (row : Row) where
   pub rowFault-good : rowFault load i row ≡ Good → RowGood load i row
   unfolding rowFault
   rowFault-good h =
-      let g = good-allGood (_ ∷ _ ∷ _ ∷ _ ∷ _ ∷ _ ∷ []) h in
+      let finding = firstFault-good (_ ∷ _ ∷ _ ∷ _ ∷ _ ∷ _ ∷ []) h in
       record {
-        fields-good = g .0;
-        taken-good = g .1 .0;
-        each-step-good = firstFaultTo-good (checkStep row) (row .steps) (g .1 .1 .0);
-        steps-zero = allZero-good (zeroStepsFrom row (row .steps)) (g .1 .1 .1 .0);
-        each-window-good = firstFaultTo-good (checkWindow row) (row .windows) (g .1 .1 .1 .1 .0);
-        windows-zero = allZero-good (zeroWindowsFrom row (row .windows)) (g .1 .1 .1 .1 .1 .0);
+        fields-good = finding 0;
+        taken-good = finding 1;
+        each-step-good = firstFaultTo-good (checkStep row) (row .steps) (finding 2);
+        steps-zero = allZero-good (zeroStepsFrom row (row .steps)) (finding 3);
+        each-window-good = firstFaultTo-good (checkWindow row) (row .windows) (finding 4);
+        windows-zero = allZero-good (zeroWindowsFrom row (row .windows)) (finding 5);
       }
 
   pub good-rowFault : RowGood load i row → rowFault load i row ≡ Good
@@ -65,8 +62,7 @@ module _ (load : Load) (i : ℕ) (row : Row) where
       let no-steps = good-allZero (zeroStepsFrom row (row .steps)) (r .steps-zero) in
       let windows = good-firstFaultTo (checkWindow row) (row .windows) (r .each-window-good) in
       let no-windows = good-allZero (zeroWindowsFrom row (row .windows)) (r .windows-zero) in
-      allGood-good (_ ∷ _ ∷ _ ∷ _ ∷ _ ∷ _ ∷ [])
-      (r .fields-good, (r .taken-good, (steps, (no-steps, (windows, (no-windows, tt))))))
+      rw (r .fields-good, r .taken-good, steps, no-steps, windows, no-windows)
 
 -- what the check asks of a load
 pub record LoadGood (load : Load) : Type 0 where
@@ -78,29 +74,27 @@ module _ (load : Load) where
   pub checkLoad-good : checkLoad load ≡ Good → LoadGood load
   unfolding checkLoad
   checkLoad-good h =
-      let g = good-allGood (_ ∷ _ ∷ _ ∷ []) h in
+      let finding = firstFault-good (_ ∷ _ ∷ _ ∷ []) h in
       let zeros : Bool = allFrom (λ i. isZeroRow (rowAt load i)) (load .rows) mostRows in
       record {
-        few-rows =
-            ltb-false mostRows (load .rows) (good-unmet ((ltb mostRows (load .rows), OutOfRange) ∷ []) (g .0) .0);
+        few-rows = ltb-false mostRows (load .rows) (firstMet-good-first _ [] (finding 0));
         each-row-good =
             λ i l.
             rowFault-good load i (rowAt load i)
-            (firstFaultTo-good (λ i. rowFault load i (rowAt load i)) (load .rows) (g .1 .0) i l);
-        rows-zero = allZero-good zeros (g .1 .1 .0);
+            (firstFaultTo-good (λ i. rowFault load i (rowAt load i)) (load .rows) (finding 1) i l);
+        rows-zero = allZero-good zeros (finding 2);
       }
 
   pub good-checkLoad : LoadGood load → checkLoad load ≡ Good
   unfolding checkLoad
   good-checkLoad g =
       let few = le-ltb mostRows (load .rows) (g .few-rows) in
-      let count = unmet-good ((ltb mostRows (load .rows), OutOfRange) ∷ []) (few, tt) in
       let rows =
       good-firstFaultTo (λ i. rowFault load i (rowAt load i)) (load .rows)
       (λ i l. good-rowFault load i (rowAt load i) (g .each-row-good i l)) in
       let no-rows =
       good-allZero (allFrom (λ i. isZeroRow (rowAt load i)) (load .rows) mostRows) (g .rows-zero) in
-      allGood-good (_ ∷ _ ∷ _ ∷ []) (count, (rows, (no-rows, tt)))
+      rw (few, rows, no-rows)
 
 -- a row's own fields: so many steps and windows have places
 module _ (row : Row) (h : checkFields row ≡ Good) where
@@ -108,8 +102,8 @@ module _ (row : Row) (h : checkFields row ≡ Good) where
   unfolding rowTests
   fields-steps-le =
       ltb-false mostSteps (row .steps)
-      (or-right (ltb (row .steps) 1) (ltb mostSteps (row .steps)) (good-unmet (rowTests row) h .1 .1 .1 .1 .0))
+      (or-right (ltb (row .steps) 1) (ltb mostSteps (row .steps)) (firstMet-good (rowTests row) h 4))
 
   pub fields-windows-le : row .windows ≤ mostWindows
   unfolding rowTests
-  fields-windows-le = ltb-false mostWindows (row .windows) (good-unmet (rowTests row) h .1 .1 .1 .1 .1 .0)
+  fields-windows-le = ltb-false mostWindows (row .windows) (firstMet-good (rowTests row) h 5)

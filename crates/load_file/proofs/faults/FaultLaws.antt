@@ -3,20 +3,19 @@
 use Prim.Native.Nat.{ℕ, _+_, _≤_, _<_}
 use mathlib.Core.List.{List, [], _∷_, _++_}
 use mathlib.Core.Path.{_≡_}
-use lib.ListN.{length}
+use lib.ListN.{length, drop}
 use borrow.Author.Tests.{ltb-false, le-ltb}
 use Rattle.words.specs.LittleEndian.{byteAt, numberAt}
 use Rattle.refusals.specs.declared.Checked.the-variants.{Good}
-use Rattle.refusals.proofs.FirstMetLaws.{firstFaultTo-good, good-firstFaultTo}
-use Rattle.refusals.proofs.UnmetLaws.{
-  good-unmet,
-  unmet-good,
+use Rattle.refusals.specs.FirstMet.{firstMet}
+use Rattle.refusals.proofs.FirstMetLaws.{
+  firstFaultTo-good,
+  good-firstFaultTo,
   append-good-first,
   append-good-second,
   append-good-both,
-  good-allGood,
-  allGood-good,
 }
+use Rattle.refusals.proofs.FirstFaultLaws.{firstMet-good, firstFault-good}
 use Rattle.load.specs.Load.{mostRows}
 use Rattle.load.specs.View.{viewOf, stepsInAll}
 use Rattle.load.specs.Faults.{rowTests, takenTests, stepTests, windowTests}
@@ -46,8 +45,6 @@ use Rattle.load_file.proofs.layout.RecordLaws.{
   differs-false,
   eq-differs,
   Due,
-  unmet-due,
-  due-unmet,
   good-due,
   due-good,
 }
@@ -66,16 +63,16 @@ module _ (bs : List ℕ) (i at : ℕ) where
   pub rowFaultAt-good : rowFaultAt bs i at ≡ Good → RowAccepted bs i at
   unfolding rowFaultAt ownFault stepFaultIn windowFaultIn
   rowFaultAt-good h =
-      let g = good-allGood (_ ∷ _ ∷ _ ∷ []) h in
+      let finding = firstFault-good (_ ∷ _ ∷ _ ∷ []) h in
       let row = rowFrom bs at in
-      let front = append-good-first (dueTests rowKind bs at ++ rowTests row) (takenTests (loadIn bs) i row) (g .0) in
-      let step = firstFaultTo-good (stepFaultIn bs at) (stepsSaid bs at) (g .1 .0) in
-      let window = firstFaultTo-good (windowFaultIn bs at) (windowsSaid bs at) (g .1 .1 .0) in
+      let front = append-good-first (dueTests rowKind bs at ++ rowTests row) _ (finding 0) in
+      let step = firstFaultTo-good (stepFaultIn bs at) (stepsSaid bs at) (finding 1) in
+      let window = firstFaultTo-good (windowFaultIn bs at) (windowsSaid bs at) (finding 2) in
       record {
         due = good-due rowKind bs at (append-good-first (dueTests rowKind bs at) (rowTests row) front);
         fields-good = append-good-second (dueTests rowKind bs at) (rowTests row) front;
         taken-good =
-            append-good-second (dueTests rowKind bs at ++ rowTests row) (takenTests (loadIn bs) i row) (g .0);
+            append-good-second (dueTests rowKind bs at ++ rowTests row) (takenTests (loadIn bs) i row) (finding 0);
         each-step-due =
             λ j l.
             good-due stepKind bs (stepPlace at j)
@@ -109,7 +106,7 @@ module _ (bs : List ℕ) (i at : ℕ) where
       (λ k l.
       append-good-both (dueTests windowKind bs (windowPlace bs at k)) (windowTests row k)
       (due-good windowKind bs (windowPlace bs at k) (r .each-window-due k l)) (r .each-window-good k l)) in
-      allGood-good (_ ∷ _ ∷ _ ∷ []) (own, (steps, (windows, tt)))
+      rw (own, steps, windows)
 
 -- where the end record stands
 abbrev pub endPlace : List ℕ → ℕ
@@ -129,37 +126,41 @@ module _ (bs : List ℕ) where
   pub fileFault-good : fileFault bs ≡ Good → FileAccepted bs
   unfolding fileFault headerTests endTests
   fileFault-good h =
-      let g = good-allGood (_ ∷ _ ∷ _ ∷ []) h in
-      let head = good-unmet (headerTests bs) (g .0) in
-      let row = firstFaultTo-good (λ i. rowFaultAt bs i (rowPlace bs i)) (rowsSaid bs) (g .1 .0) in
-      let tail = good-unmet (endTests bs (endPlace bs)) (g .1 .1 .0) in
+      let finding = firstFault-good (_ ∷ _ ∷ _ ∷ []) h in
+      let head = firstMet-good (headerTests bs) (finding 0) in
+      let row = firstFaultTo-good (λ i. rowFaultAt bs i (rowPlace bs i)) (rowsSaid bs) (finding 1) in
+      let tail = firstMet-good (endTests bs (endPlace bs)) (finding 2) in
       let said : ℕ = numberAt 2 bs (endPlace bs + 2) in
       let count : ℕ = stepsInAll (viewOf (loadIn bs)) in
       record {
-        header-due = unmet-due headerKind bs 0 (head .0, (head .1 .0, (head .1 .1 .0, tt)));
-        version-is = differs-false (byteAt bs 2) version (head .1 .1 .1 .0);
-        few-rows = ltb-false mostRows (rowsSaid bs) (head .1 .1 .1 .1 .0);
+        header-due =
+            good-due headerKind bs 0
+            (append-good-first (dueTests headerKind bs 0) (drop 3 (headerTests bs)) (finding 0));
+        version-is = differs-false (byteAt bs 2) version (head 3);
+        few-rows = ltb-false mostRows (rowsSaid bs) (head 4);
         each-row = λ i l. rowFaultAt-good bs i (rowPlace bs i) (row i l);
-        end-due = unmet-due endKind bs (endPlace bs) (tail .0, (tail .1 .0, (tail .1 .1 .0, tt)));
-        count-is = differs-false said count (tail .1 .1 .1 .0);
-        no-more = ltb-false (endPlace bs + 4) (length bs) (tail .1 .1 .1 .1 .0);
+        end-due =
+            good-due endKind bs (endPlace bs)
+            (append-good-first (dueTests endKind bs (endPlace bs)) (drop 3 (endTests bs (endPlace bs))) (finding 2));
+        count-is = differs-false said count (tail 3);
+        no-more = ltb-false (endPlace bs + 4) (length bs) (tail 4);
       }
 
   pub good-fileFault : FileAccepted bs → fileFault bs ≡ Good
   unfolding fileFault headerTests endTests
   good-fileFault f =
       let said : ℕ = numberAt 2 bs (endPlace bs + 2) in
-      let head = due-unmet headerKind bs 0 (f .header-due) in
       let same-version = eq-differs (byteAt bs 2) version (f .version-is) in
       let few = le-ltb mostRows (rowsSaid bs) (f .few-rows) in
-      let header =
-      unmet-good (headerTests bs) (head .0, (head .1 .0, (head .1 .1 .0, (same-version, (few, tt))))) in
+      let header : firstMet (headerTests bs) ≡ Good =
+      append-good-both (dueTests headerKind bs 0) (drop 3 (headerTests bs))
+      (due-good headerKind bs 0 (f .header-due)) (rw (same-version, few)) in
       let rows =
       good-firstFaultTo (λ i. rowFaultAt bs i (rowPlace bs i)) (rowsSaid bs)
       (λ i l. good-rowFaultAt bs i (rowPlace bs i) (f .each-row i l)) in
-      let tail = due-unmet endKind bs (endPlace bs) (f .end-due) in
       let same-count = eq-differs said (stepsInAll (viewOf (loadIn bs))) (f .count-is) in
       let no-more = le-ltb (endPlace bs + 4) (length bs) (f .no-more) in
-      let end =
-      unmet-good (endTests bs (endPlace bs)) (tail .0, (tail .1 .0, (tail .1 .1 .0, (same-count, (no-more, tt))))) in
-      allGood-good (_ ∷ _ ∷ _ ∷ []) (header, (rows, (end, tt)))
+      let end : firstMet (endTests bs (endPlace bs)) ≡ Good =
+      append-good-both (dueTests endKind bs (endPlace bs)) (drop 3 (endTests bs (endPlace bs)))
+      (due-good endKind bs (endPlace bs) (f .end-due)) (rw (same-count, no-more)) in
+      rw (header, rows, end)

@@ -15,8 +15,12 @@ use Rattle.refusals.specs.declared.Refusal.{Refusal}
 use Rattle.refusals.specs.declared.Checked.{Checked}
 use Rattle.refusals.specs.declared.Checked.the-variants.{Good, Refused}
 use Rattle.refusals.specs.FirstMet.{firstMet, andThen}
-use Rattle.refusals.proofs.FirstMetLaws.{firstMet-append-refused, firstMet-append-good}
-use Rattle.refusals.proofs.UnmetLaws.{append-good-first, append-good-second}
+use Rattle.refusals.proofs.FirstMetLaws.{
+  firstMet-append-refused,
+  firstMet-append-good,
+  append-good-first,
+  append-good-second,
+}
 use Rattle.load.specs.declared.Identifier.{Identifier}
 use Rattle.load.specs.declared.BoxNumber.{BoxNumber}
 use Rattle.load.specs.declared.Step.{Step}

@@ -22,7 +22,7 @@ use Rattle.refusals.proofs.FirstMetLaws.{
   firstFaultTo-next,
   firstFaultTo-refused,
 }
-use Rattle.refusals.proofs.UnmetLaws.{good-unmet}
+use Rattle.refusals.proofs.FirstFaultLaws.{firstMet-good}
 use Rattle.load.specs.declared.Identifier.{Identifier}
 use Rattle.load.specs.declared.BoxNumber.{BoxNumber}
 use Rattle.load.specs.declared.Row.{Row}
@@ -238,4 +238,4 @@ module _ (bs : List ℕ) where
 
     pub header-rows-le : rowsSaid bs ≤ mostRows
     unfolding headerTests
-    header-rows-le = ltb-false mostRows (rowsSaid bs) (good-unmet (headerTests bs) e .1 .1 .1 .1 .0)
+    header-rows-le = ltb-false mostRows (rowsSaid bs) (firstMet-good (headerTests bs) e 4)

@@ -1,13 +1,13 @@
 -- Each record kind, both ways: where a record stands its kind is due there and its fields are read from there; and
 -- where a kind is due, the record of the fields read there stands there.
-use Prim.Native.Nat.{ℕ, zero, suc, _+_, _*_, _^_, _≤_, _<_}
+use Prim.Native.Nat.{ℕ, _+_, _^_, _≤_, _<_}
 use mathlib.Core.Bool.{false, not}
 use mathlib.Core.List.{List, [], _∷_, _++_}
 use mathlib.Core.Path.{_≡_, refl, ap, ap₂, sym, _∙_}
 use native.Mathlib.Omega.{arith}
 use lib.Dec.{eqb}
 use lib.ListN.{length, drop, take-append-drop}
-use lib.Seq.{drop-drop, getD-drop}
+use lib.Seq.{drop-drop}
 use borrow.Author.Tests.{ltb-false, le-ltb, eqb-true, eq-eqb, not-false}
 use Rattle.counting.proofs.lists.PieceLaws.{
   Stands,
@@ -20,30 +20,18 @@ use Rattle.counting.proofs.lists.PieceLaws.{
   stands-inside,
 }
 use Rattle.words.specs.LittleEndian.{littleEndian, byteAt, numberAt, Bytes}
-use Rattle.words.proofs.LittleEndianLaws.{littleEndian-length, littleEndian-read, numberAt-written}
+use Rattle.words.proofs.LittleEndianLaws.{littleEndian-length, littleEndian-read, numberAt-first, numberAt-written}
 use Rattle.refusals.specs.declared.Checked.the-variants.{Good}
 use Rattle.refusals.specs.FirstMet.{firstMet}
-use Rattle.refusals.proofs.UnmetLaws.{Unmet, good-unmet, unmet-good}
+use Rattle.refusals.proofs.FirstFaultLaws.{firstMet-good}
 use Rattle.load_file.specs.Records.{Kind, recordOf}
 use Rattle.load_file.specs.Reading.{dueTests}
-
--- bytes in front of a place do not matter
-numberAt-drop : (width : ℕ) (bs : List ℕ) (at k : ℕ) → numberAt width (drop at bs) k ≡ numberAt width bs (at + k)
-unfolding numberAt
-numberAt-drop zero bs at k = refl
-numberAt-drop (suc width) bs at k =
-    let e : at + (k + 1) ≡ at + k + 1 = omega arith in
-    ap₂ (λ b n. b + 256 * n) (getD-drop at bs k 0)
-    (numberAt-drop width bs at (k + 1) ∙ ap (numberAt width bs) e)
 
 -- a number of so many bytes
 module _ (width : ℕ) (bs : List ℕ) (at : ℕ) where
   pub number-read : (n : ℕ) → n < 256 ^ width → Stands (littleEndian width n) bs at → numberAt width bs at ≡ n
   number-read n l h =
-      let e : at ≡ at + 0 = omega arith in
-      ap (numberAt width bs) e
-      ∙ sym (numberAt-drop width bs at 0)
-      ∙ ap (λ l. numberAt width l 0) (h .cut)
+      numberAt-first width bs _ at (sym (h .cut))
       ∙ littleEndian-read width n [] (drop (at + length (littleEndian width n)) bs) l
 
   pub number-stands : Bytes bs → at + width ≤ length bs → Stands (littleEndian width (numberAt width bs at)) bs at
@@ -86,26 +74,21 @@ pub record Due (kind : Kind) (bs : List ℕ) (at : ℕ) : Type 0 where
   pub second-mark : byteAt bs (at + 1) ≡ kind .mark₂
 
 module _ (kind : Kind) (bs : List ℕ) (at : ℕ) where
-  pub unmet-due : Unmet (dueTests kind bs at) → Due kind bs at
-  unmet-due u =
+  pub good-due : firstMet (dueTests kind bs at) ≡ Good → Due kind bs at
+  good-due h =
+      let test = firstMet-good (dueTests kind bs at) h in
       record {
-        inside = ltb-false (length bs) (at + kind .size) (u .0);
-        first-mark = differs-false (byteAt bs at) (kind .mark₁) (u .1 .0);
-        second-mark = differs-false (byteAt bs (at + 1)) (kind .mark₂) (u .1 .1 .0);
+        inside = ltb-false (length bs) (at + kind .size) (test 0);
+        first-mark = differs-false (byteAt bs at) (kind .mark₁) (test 1);
+        second-mark = differs-false (byteAt bs (at + 1)) (kind .mark₂) (test 2);
       }
 
-  pub due-unmet : Due kind bs at → Unmet (dueTests kind bs at)
-  due-unmet d =
+  pub due-good : Due kind bs at → firstMet (dueTests kind bs at) ≡ Good
+  due-good d =
       let short = le-ltb (length bs) (at + kind .size) (d .inside) in
       let first = eq-differs (byteAt bs at) (kind .mark₁) (d .first-mark) in
       let second = eq-differs (byteAt bs (at + 1)) (kind .mark₂) (d .second-mark) in
-      (short, (first, (second, tt)))
-
-  pub good-due : firstMet (dueTests kind bs at) ≡ Good → Due kind bs at
-  good-due h = unmet-due (good-unmet (dueTests kind bs at) h)
-
-  pub due-good : Due kind bs at → firstMet (dueTests kind bs at) ≡ Good
-  due-good d = unmet-good (dueTests kind bs at) (due-unmet d)
+      rw (short, first, second)
 
   -- the mark, and behind it the fields
   module _ (fields : List ℕ) where
