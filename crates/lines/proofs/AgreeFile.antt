@@ -36,6 +36,7 @@ use Rattle.load_file.specs.Reading.{
   stepFaultIn,
   windowFaultIn,
   rowFaultAt,
+  rowFaultIn,
   ownFault,
   stepsFault,
   windowsFault,
@@ -72,10 +73,6 @@ firstFaultTo-agree f g (suc m) h =
     andThen-agree (firstFaultTo f m) (firstFaultTo g m) (f m) (g m)
     (firstFaultTo-agree f g m (λ i l. h i (omega arith))) (h m (omega arith))
 
--- what a file's row i is refused for
-abbrev pub faultOf : List ℕ → ℕ → Checked
-faultOf bs i = rowFaultAt bs i (rowPlace bs i)
-
 -- where row i stands is the same, and how far that is
 pub record Placed (bs cs : List ℕ) (i : ℕ) : Type 0 where
   pub place-same : rowPlace bs i ≡ rowPlace cs i
@@ -85,7 +82,7 @@ module _ (bs cs : List ℕ) (a : Agree filePlaces bs cs) where
   pub said : rowsSaid bs ≡ rowsSaid cs
   said = a .same 3 (omega arith)
 
-  placed-next : (i : ℕ) → i < mostRows → Placed bs cs i → faultOf bs i ≡ Good → Placed bs cs (suc i)
+  placed-next : (i : ℕ) → i < mostRows → Placed bs cs i → rowFaultIn bs i ≡ Good → Placed bs cs (suc i)
   unfolding rowPlace
   placed-next i l p good =
       let at = rowPlace bs i in
@@ -102,16 +99,16 @@ module _ (bs cs : List ℕ) (a : Agree filePlaces bs cs) where
         place-le = omega arith;
       }
 
-  pub placed : (i : ℕ) → i ≤ mostRows → firstFaultTo (faultOf bs) i ≡ Good → Placed bs cs i
+  pub placed : (i : ℕ) → i ≤ mostRows → firstFaultTo (rowFaultIn bs) i ≡ Good → Placed bs cs i
   unfolding firstFaultTo rowPlace
   placed zero l good = record { place-same = refl; place-le = omega arith }
   placed (suc i) l good =
       placed-next i (omega arith)
-      (placed i (omega arith) (andThen-good-first (firstFaultTo (faultOf bs) i) (faultOf bs i) good))
-      (andThen-good-second (firstFaultTo (faultOf bs) i) (faultOf bs i) good)
+      (placed i (omega arith) (andThen-good-first (firstFaultTo (rowFaultIn bs) i) (rowFaultIn bs i) good))
+      (andThen-good-second (firstFaultTo (rowFaultIn bs) i) (rowFaultIn bs i) good)
 
   -- row i of both files, where the rows before it are Good
-  module _ (i : ℕ) (l : i < rowsSaid bs) (few : rowsSaid bs ≤ mostRows) (before : firstFaultTo (faultOf bs) i ≡ Good)
+  module _ (i : ℕ) (l : i < rowsSaid bs) (few : rowsSaid bs ≤ mostRows) (before : firstFaultTo (rowFaultIn bs) i ≡ Good)
     where
       at : ℕ
       at = rowPlace bs i
@@ -122,7 +119,7 @@ module _ (bs cs : List ℕ) (a : Agree filePlaces bs cs) where
       earlier : (k : ℕ) → k < i → Placed bs cs k
       earlier k h =
           placed k (omega arith)
-          (good-firstFaultTo (faultOf bs) k (λ j m. firstFaultTo-good (faultOf bs) i before j (omega arith)))
+          (good-firstFaultTo (rowFaultIn bs) k (λ j m. firstFaultTo-good (rowFaultIn bs) i before j (omega arith)))
 
       -- what earlier rows hold
       identifier-earlier : (k : ℕ) → k < i → rowAt (loadIn bs) k .identifier ≡ rowAt (loadIn cs) k .identifier
@@ -204,7 +201,7 @@ module _ (bs cs : List ℕ) (a : Agree filePlaces bs cs) where
             row-agree)
             ∙ ap (firstFaultTo (windowFaultIn cs at)) (windowsSaid-agree filePlaces bs cs a at (omega arith))
 
-      pub row-fault-agree : faultOf bs i ≡ faultOf cs i
+      pub row-fault-agree : rowFaultIn bs i ≡ rowFaultIn cs i
       unfolding at
       row-fault-agree =
           rowFaultAt-parts bs at i

@@ -28,14 +28,13 @@ use Rattle.load.specs.Load.{mostRows}
 use Rattle.load.specs.View.{viewOf, stepsInAll}
 use Rattle.load_file.specs.Records.{headerKind, endKind, version}
 use Rattle.load_file.specs.Places.{stepsSaid, rowPlace, rowsSaid, loadIn}
-use Rattle.load_file.specs.Reading.{dueTests, headerTests, endTests, fileFault}
+use Rattle.load_file.specs.Reading.{dueTests, headerTests, rowFaultIn, endTests, fileFault}
 use Rattle.load_file.proofs.faults.ReadingLaws.{stepsInAll-read}
 use Rattle.lines.specs.Lines.{linesBeside, printed, filePlaces}
 use Rattle.lines.proofs.AgreeLaws.{Agree, numberAt-agree, dueTests-agree, stepsSaid-agree}
 use Rattle.lines.proofs.AgreeFile.{
   andThen-agree,
   firstFaultTo-agree,
-  faultOf,
   Placed,
   said,
   placed,
@@ -58,14 +57,14 @@ module _ (bs cs : List ℕ) (a : Agree filePlaces bs cs) where
   rows-most good = ltb-false mostRows (rowsSaid bs) (firstMet-good (headerTests bs) good 4)
 
   rows-agree : rowsSaid bs ≤ mostRows
-      → firstFaultTo (faultOf bs) (rowsSaid bs) ≡ firstFaultTo (faultOf cs) (rowsSaid cs)
+      → firstFaultTo (rowFaultIn bs) (rowsSaid bs) ≡ firstFaultTo (rowFaultIn cs) (rowsSaid cs)
   rows-agree few =
-      firstFaultTo-agree (faultOf bs) (faultOf cs) (rowsSaid bs)
+      firstFaultTo-agree (rowFaultIn bs) (rowFaultIn cs) (rowsSaid bs)
       (λ i l before. row-fault-agree bs cs a i l few before)
-      ∙ ap (firstFaultTo (faultOf cs)) (said bs cs a)
+      ∙ ap (firstFaultTo (rowFaultIn cs)) (said bs cs a)
 
   -- where all rows are Good
-  module _ (few : rowsSaid bs ≤ mostRows) (good : firstFaultTo (faultOf bs) (rowsSaid bs) ≡ Good) where
+  module _ (few : rowsSaid bs ≤ mostRows) (good : firstFaultTo (rowFaultIn bs) (rowsSaid bs) ≡ Good) where
     end : Placed bs cs (rowsSaid bs)
     end = placed bs cs a (rowsSaid bs) few good
 
@@ -79,8 +78,8 @@ module _ (bs cs : List ℕ) (a : Agree filePlaces bs cs) where
         each : (i : ℕ) → i < rowsSaid bs → stepsSaid bs (rowPlace bs i) ≡ stepsSaid cs (rowPlace cs i)
         each i l =
             let so-far =
-            good-firstFaultTo (faultOf bs) i
-            (λ j h. firstFaultTo-good (faultOf bs) (rowsSaid bs) good j (omega arith)) in
+            good-firstFaultTo (rowFaultIn bs) i
+            (λ j h. firstFaultTo-good (rowFaultIn bs) (rowsSaid bs) good j (omega arith)) in
             let p = placed bs cs a i (omega arith) so-far in
             let le = p .place-le in
             stepsSaid-agree filePlaces bs cs a (rowPlace bs i) (omega arith) ∙ ap (stepsSaid cs) (p .place-same)
@@ -107,7 +106,7 @@ module _ (bs cs : List ℕ) (a : Agree filePlaces bs cs) where
   file-agree =
       andThen-agree (firstMet (headerTests bs)) (firstMet (headerTests cs)) _ _ (ap firstMet header-agree)
       (λ head.
-      andThen-agree (firstFaultTo (faultOf bs) (rowsSaid bs)) (firstFaultTo (faultOf cs) (rowsSaid cs)) _ _
+      andThen-agree (firstFaultTo (rowFaultIn bs) (rowsSaid bs)) (firstFaultTo (rowFaultIn cs) (rowsSaid cs)) _ _
       (rows-agree (rows-most head))
       (λ rows. ap (λ ts. andThen (firstMet ts) Good) (ends-agree (rows-most head) rows)))
 
@@ -117,8 +116,8 @@ module _ (bs cs : List ℕ) (a : Agree filePlaces bs cs) where
   file-long good =
       let head = andThen-good-first (firstMet (headerTests bs)) _ good in
       let behind = andThen-good-second (firstMet (headerTests bs)) _ good in
-      let rows = andThen-good-first (firstFaultTo (faultOf bs) (rowsSaid bs)) _ behind in
-      let last = andThen-good-second (firstFaultTo (faultOf bs) (rowsSaid bs)) _ behind in
+      let rows = andThen-good-first (firstFaultTo (rowFaultIn bs) (rowsSaid bs)) _ behind in
+      let last = andThen-good-second (firstFaultTo (rowFaultIn bs) (rowsSaid bs)) _ behind in
       let at = rowPlace bs (rowsSaid bs) in
       let tests = andThen-good-first (firstMet (endTests bs at)) Good last in
       let no-more = ltb-false (at + 4) (length bs) (firstMet-good (endTests bs at) tests 4) in

@@ -83,6 +83,10 @@ windowsFault bs at = firstFaultTo (windowFaultIn bs at) (windowsSaid bs at)
 unfoldable pub rowFaultAt : List ℕ → ℕ → ℕ → Checked
 rowFaultAt bs i at = firstFault (ownFault bs i at ∷ stepsFault bs at ∷ windowsFault bs at ∷ [])
 
+-- row i, where it stands
+abbrev pub rowFaultIn : List ℕ → ℕ → Checked
+rowFaultIn bs i = rowFaultAt bs i (rowPlace bs i)
+
 -- the end record: its count, and that no bytes follow
 unfoldable pub endTests : List ℕ → ℕ → List (Bool × Refusal)
 endTests bs at =
@@ -96,7 +100,7 @@ unfoldable pub fileFault : List ℕ → Checked
 fileFault bs =
     firstFault
     (firstMet (headerTests bs)
-    ∷ firstFaultTo (λ i. rowFaultAt bs i (rowPlace bs i)) (rowsSaid bs)
+    ∷ firstFaultTo (rowFaultIn bs) (rowsSaid bs)
     ∷ firstMet (endTests bs (rowPlace bs (rowsSaid bs)))
     ∷ [])
 

@@ -37,6 +37,7 @@ use Rattle.load_file.specs.Reading.{
   stepFaultIn,
   windowFaultIn,
   rowFaultAt,
+  rowFaultIn,
   endTests,
   fileFault,
   ownFault,
@@ -128,7 +129,7 @@ module _ (bs : List ℕ) where
   fileFault-good h =
       let finding = firstFault-good (_ ∷ _ ∷ _ ∷ []) h in
       let head = firstMet-good (headerTests bs) (finding 0) in
-      let row = firstFaultTo-good (λ i. rowFaultAt bs i (rowPlace bs i)) (rowsSaid bs) (finding 1) in
+      let row = firstFaultTo-good (rowFaultIn bs) (rowsSaid bs) (finding 1) in
       let tail = firstMet-good (endTests bs (endPlace bs)) (finding 2) in
       let said : ℕ = numberAt 2 bs (endPlace bs + 2) in
       let count : ℕ = stepsInAll (viewOf (loadIn bs)) in
@@ -156,7 +157,7 @@ module _ (bs : List ℕ) where
       append-good-both (dueTests headerKind bs 0) (drop 3 (headerTests bs))
       (due-good headerKind bs 0 (f .header-due)) (rw (same-version, few)) in
       let rows =
-      good-firstFaultTo (λ i. rowFaultAt bs i (rowPlace bs i)) (rowsSaid bs)
+      good-firstFaultTo (rowFaultIn bs) (rowsSaid bs)
       (λ i l. good-rowFaultAt bs i (rowPlace bs i) (f .each-row i l)) in
       let same-count = eq-differs said (stepsInAll (viewOf (loadIn bs))) (f .count-is) in
       let no-more = le-ltb (endPlace bs + 4) (length bs) (f .no-more) in

@@ -39,19 +39,15 @@ use Rattle.load_file.specs.Places.{
   loadIn,
   rowWith,
 }
-use Rattle.load_file.specs.Reading.{headerTests, rowFaultAt, endTests, fileFault, readLoad, ownFault}
+use Rattle.load_file.specs.Reading.{headerTests, rowFaultAt, rowFaultIn, endTests, fileFault, readLoad, ownFault}
 use Rattle.load_file.specs.inner.ReadingSteps.{RowsBefore, readRow, rowsFault, readRows}
 use Rattle.load_file.proofs.faults.ReadingLaws.{rowFaultAt-parts, own-steps-le, own-windows-le, stepsInAll-read}
-
--- what is found in row k, at its place
-abbrev pub faultOf : List ℕ → ℕ → Checked
-faultOf bs k = rowFaultAt bs k (rowPlace bs k)
 
 -- the rows before row i are read: no fault is found in them, they are kept, the next record stands at a place, and they
 -- have so many steps
 pub record RowsRead (bs : List ℕ) (i : ℕ) (identifiers : List Identifier) (boxes : List BoxNumber) (rows : List Row)
     (at steps : ℕ) : Type 0 where
-  pub no-fault : firstFaultTo (faultOf bs) i ≡ Good
+  pub no-fault : firstFaultTo (rowFaultIn bs) i ≡ Good
   pub before : RowsBefore bs i identifiers boxes
   pub rows-are : rows ≡ filled (λ k. rowFrom bs (rowPlace bs k)) i mostRows zeroRow
   pub place-is : at ≡ rowPlace bs i
@@ -73,7 +69,7 @@ pub rows-none : (bs : List ℕ) (zeros : Row) → zeros ≡ zeroRow
     (replicate mostRows zeros) 4 0
 rows-none bs zeros e =
     record {
-      no-fault = firstFaultTo-zero (faultOf bs);
+      no-fault = firstFaultTo-zero (rowFaultIn bs);
       before =
           record {
             said = omega arith;
@@ -91,7 +87,7 @@ rows-none bs zeros e =
 -- what is found in a row, and what the reading behind the header gives for it
 module _ (bs : List ℕ) where
   rowsFault-parts : rowsFault bs
-      ≡ andThen (firstFaultTo (faultOf bs) (rowsSaid bs))
+      ≡ andThen (firstFaultTo (rowFaultIn bs) (rowsSaid bs))
       (andThen (firstMet (endTests bs (rowPlace bs (rowsSaid bs)))) Good)
   unfolding rowsFault
   rowsFault-parts = refl
@@ -112,15 +108,15 @@ module _ {bs : List ℕ} {i : ℕ} {identifiers : List Identifier} {boxes : List
     unfolding readRow
     answer-is = ap (λ r. r .answer) e
 
-    found : r .answer ≡ faultOf bs i
+    found : r .answer ≡ rowFaultIn bs i
     found = answer-is ∙ ap (rowFaultAt bs i) (so-far .place-is)
 
     -- and refused
     pub rows-refused : {refusal : Refusal} → r .answer ≡ Refused refusal
         → record { answer = Refused refusal; load = zeroLoad } ≡ readRows bs
     rows-refused {refusal} h =
-        let z : firstFaultTo (faultOf bs) (rowsSaid bs) ≡ Refused refusal =
-        firstFaultTo-refused (faultOf bs) (rowsSaid bs) i refusal l (so-far .no-fault) (sym found ∙ h) in
+        let z : firstFaultTo (rowFaultIn bs) (rowsSaid bs) ≡ Refused refusal =
+        firstFaultTo-refused (rowFaultIn bs) (rowsSaid bs) i refusal l (so-far .no-fault) (sym found ∙ h) in
         refused bs (rowsFault-parts bs ∙ rw z)
 
     -- and is Good
@@ -159,7 +155,7 @@ module _ {bs : List ℕ} {i : ℕ} {identifiers : List Identifier} {boxes : List
           let most-steps : r .row .steps ≤ 8 = few-steps in
           let most-windows : r .row .windows ≤ 4 = few-windows in
           record {
-            no-fault = firstFaultTo-next (faultOf bs) i ∙ andThen-both _ _ (so-far .no-fault) (sym found ∙ h);
+            no-fault = firstFaultTo-next (rowFaultIn bs) i ∙ andThen-both _ _ (so-far .no-fault) (sym found ∙ h);
             before =
                 record {
                   said = omega arith;
@@ -193,8 +189,8 @@ module _ {bs : List ℕ} {i : ℕ} {identifiers : List Identifier} {boxes : List
     steps-counted =
         so-far .steps-are ∙ ap (sumTo (λ k. stepsSaid bs (rowPlace bs k))) last ∙ stepsInAll-read bs
 
-    rows-good : firstFaultTo (faultOf bs) (rowsSaid bs) ≡ Good
-    rows-good = ap (firstFaultTo (faultOf bs)) (sym last) ∙ so-far .no-fault
+    rows-good : firstFaultTo (rowFaultIn bs) (rowsSaid bs) ≡ Good
+    rows-good = ap (firstFaultTo (rowFaultIn bs)) (sym last) ∙ so-far .no-fault
 
     end-place : at ≡ rowPlace bs (rowsSaid bs)
     end-place = so-far .place-is ∙ ap (rowPlace bs) last

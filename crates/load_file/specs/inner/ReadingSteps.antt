@@ -18,7 +18,7 @@ use Rattle.load_file.specs.declared.Reading.{Reading}
 use Rattle.load_file.specs.declared.read_row.RowReading.{RowReading}
 use Rattle.load_file.specs.Records.{Kind, stepKind, windowKind}
 use Rattle.load_file.specs.Places.{stepIn, windowIn, rowFrom, rowPlace, rowsSaid, loadIn}
-use Rattle.load_file.specs.Reading.{rowFaultAt, endTests, loadBeside}
+use Rattle.load_file.specs.Reading.{rowFaultAt, rowFaultIn, endTests, loadBeside}
 
 -- the kind of record with a mark and a size
 abbrev pub kindOf : List ℕ → ℕ → Kind
@@ -57,7 +57,7 @@ readRow bs i at =
 unfoldable pub rowsFault : List ℕ → Checked
 rowsFault bs =
     firstFault
-    (firstFaultTo (λ i. rowFaultAt bs i (rowPlace bs i)) (rowsSaid bs)
+    (firstFaultTo (rowFaultIn bs) (rowsSaid bs)
     ∷ firstMet (endTests bs (rowPlace bs (rowsSaid bs)))
     ∷ [])
 
