@@ -5,7 +5,7 @@ use mathlib.Core.List.{List, []}
 use lib.ListN.{length}
 use Rattle.counting.specs.Lists.{filled}
 use Rattle.refusals.specs.declared.Checked.{Checked}
-use Rattle.refusals.specs.declared.Checked.the-variants.{Good, Refused}
+use Rattle.refusals.specs.Given.{ifGood}
 use Rattle.load.specs.declared.Load.{Load}
 use Rattle.load.specs.View.{viewOf}
 use Rattle.load.specs.Check.{checkLoad}
@@ -16,7 +16,7 @@ use Rattle.bench.specs.declared.Ran.{Ran}
 
 -- the schedule of a load in whose check nothing is met, and no slot of one that is refused
 unfoldable pub scheduleOr : Load → List Slot
-scheduleOr load = elim (checkLoad load) [ Good ↦ schedule (viewOf load) | Refused refusal ↦ [] ]
+scheduleOr load = ifGood (checkLoad load) (schedule (viewOf load)) []
 
 -- slots handed back in an array, with their count: places past the last slot are zero
 abbrev pub ranWith : Checked → List Slot → Ran

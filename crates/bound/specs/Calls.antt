@@ -7,8 +7,7 @@ use mathlib.Core.List.{List}
 use mathlib.Core.Path.{_≡_}
 use lib.IntN.{ℤ, pos}
 use lib.ListN.{replicate}
-use Rattle.refusals.specs.declared.Checked.{Checked}
-use Rattle.refusals.specs.declared.Checked.the-variants.{Good, Refused}
+use Rattle.refusals.specs.Given.{ifGood}
 use Rattle.load.specs.declared.Load.{Load}
 use Rattle.load.specs.Load.{mostRows}
 use Rattle.load.specs.View.{viewOf}
@@ -18,11 +17,6 @@ use Rattle.rules.specs.Margins.{margins, verdict, bytesOfMargins}
 use Rattle.bound.specs.declared.Bounded.{Bounded}
 use Rattle.bound.specs.declared.Margined.{Margined}
 use Rattle.bound.specs.declared.Judged.{Judged}
-
--- the answer where a check refuses nothing, else what comes with a refusal
-abbrev pub ifGood : {A : Type 0} → Checked → A → A → A
-ifGood Good answer none = answer
-ifGood (Refused refusal) answer none = none
 
 -- bound_of(load): what the check finds, and the load's bound
 abbrev pub BoundOf : Load → Bounded → Type 0

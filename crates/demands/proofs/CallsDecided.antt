@@ -3,6 +3,7 @@
 use Prim.Native.Nat.{ℕ}
 use mathlib.Core.List.{List, [], _∷_}
 use mathlib.Core.Path.{_≡_, refl}
+use lib.ListN.{length}
 use Rattle.words.proofs.CallLaws.{
   ByteAt-unique,
   NumberAt-unique,
@@ -15,7 +16,7 @@ use Rattle.refusals.specs.declared.Checked.{Checked}
 use Rattle.refusals.specs.declared.Checked.the-variants.{Good}
 use Rattle.refusals.specs.Refusals.{numberGiven}
 use Rattle.refusals.specs.FirstMet.{firstFault}
-use Rattle.refusals.specs.Given.{roomFor, outputAfter, Given}
+use Rattle.refusals.specs.Given.{ifGood, written, roomFor, Given}
 use Rattle.refusals.proofs.CallLaws.{NumberOf-unique}
 use Rattle.load.specs.View.{View, viewOf}
 use Rattle.load.specs.Check.{checkLoad}
@@ -59,7 +60,7 @@ use Rattle.reading_bench.proofs.CallLaws.{
 }
 use Rattle.lines.specs.declared.Printed.{Printed}
 use Rattle.lines.specs.Lines.{printed}
-use Rattle.lines.specs.Calls.{lengthGiven, PrintLines}
+use Rattle.lines.specs.Calls.{PrintLines}
 use Rattle.lines.proofs.CallLaws.{TextOf-unique, PrintLines-unique}
 use Rattle.demands.specs.PublicCalls.{Wrote, Writes, EveryCall}
 use Rattle.demands.specs.Sameness.{OneResult, Sameness}
@@ -129,7 +130,7 @@ given : (finding : Checked) (answer out : List ℕ) → Answer (Wrote Checked) (
 given finding answer out =
     let found = firstFault (finding ∷ roomFor answer out ∷ []) in
     record {
-      result = record { gives = found; after = outputAfter found answer out };
+      result = record { gives = found; after = ifGood found (written answer out) out };
       met = record { finding-is = refl; output-is = refl };
     }
 
@@ -149,7 +150,7 @@ printing bs out =
     let found = g .result .gives in
     record {
       result = record {
-        gives = record { answer = found; length = lengthGiven found (printed bs) };
+        gives = record { answer = found; length = ifGood found (length (printed bs)) 0 };
         after = g .result .after;
       };
       met = record { given = g .met; length-is = refl };

@@ -11,6 +11,7 @@ use Rattle.refusals.specs.declared.Checked.the-variants.{Good}
 use Rattle.refusals.specs.FirstMet.{firstFault}
 use Rattle.refusals.specs.Given.{Given, roomFor}
 use Rattle.refusals.proofs.FirstMetLaws.{andThen-good-first}
+use Rattle.refusals.proofs.GivenLaws.{ifGood-good}
 use Rattle.load.specs.declared.Load.{Load}
 use Rattle.load.specs.View.{viewOf}
 use Rattle.load.specs.Check.{checkLoad}
@@ -25,7 +26,7 @@ use Rattle.rules.specs.Margins.{margins, bytesOfMargins, verdict}
 use Rattle.bound.specs.declared.Bounded.{Bounded}
 use Rattle.bound.specs.declared.Margined.{Margined}
 use Rattle.bound.specs.declared.Judged.{Judged}
-use Rattle.bound.specs.Calls.{ifGood, BoundOf, MarginsOf, VerdictOf}
+use Rattle.bound.specs.Calls.{BoundOf, MarginsOf, VerdictOf}
 use Rattle.schedule.proofs.CheckExactly.{checkSchedule-exactly}
 use Rattle.demands.specs.Demand2.{fileIn, Demand2}
 use Rattle.demands.proofs.moves.MovesHeld.{next-same}
@@ -53,25 +54,21 @@ writes-reads load held out after h r e =
     ∙ take-append-seam (loadBytes load) (drop (length (loadBytes load)) out) in
     e ∙ ap readLoad front ∙ write-read load held good
 
--- an answer beside Good
-if-good : {A : Type 0} → (found : Checked) (answer none : A) → found ≡ Good → ifGood found answer none ≡ answer
-if-good found answer none e = rw e
-
 module _ (load : Load) where
   bound-is : (r : Bounded) → BoundOf load r → r .answer ≡ Good → r .bound ≡ bound (viewOf load)
   bound-is r e g =
       ap (λ (x : Bounded). x .bound) e
-      ∙ if-good (checkLoad load) (bound (viewOf load)) 0 (ap (λ (x : Bounded). x .answer) (sym e) ∙ g)
+      ∙ ifGood-good (checkLoad load) (bound (viewOf load)) 0 (ap (λ (x : Bounded). x .answer) (sym e) ∙ g)
 
   margins-is : (r : Margined) → MarginsOf load r → r .answer ≡ Good → r .margins ≡ margins (viewOf load)
   margins-is r e g =
       ap (λ (x : Margined). x .margins) e
-      ∙ if-good (checkLoad load) (margins (viewOf load)) _ (ap (λ (x : Margined). x .answer) (sym e) ∙ g)
+      ∙ ifGood-good (checkLoad load) (margins (viewOf load)) _ (ap (λ (x : Margined). x .answer) (sym e) ∙ g)
 
   verdict-is : (r : Judged) → VerdictOf load r → r .answer ≡ Good → r .verdict ≡ verdict (viewOf load)
   verdict-is r e g =
       ap (λ (x : Judged). x .verdict) e
-      ∙ if-good (checkLoad load) (verdict (viewOf load)) _ (ap (λ (x : Judged). x .answer) (sym e) ∙ g)
+      ∙ ifGood-good (checkLoad load) (verdict (viewOf load)) _ (ap (λ (x : Judged). x .answer) (sym e) ∙ g)
 
 pub demand2 : Demand2
 demand2 =

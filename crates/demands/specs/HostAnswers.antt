@@ -10,7 +10,7 @@ use Rattle.words.specs.LittleEndian.{littleEndian, Bytes}
 use Rattle.refusals.specs.declared.Refusal.{Refusal}
 use Rattle.refusals.specs.declared.Checked.the-variants.{Good, Refused}
 use Rattle.refusals.specs.Refusals.{numberOf}
-use Rattle.refusals.specs.Given.{Given}
+use Rattle.refusals.specs.Given.{ifGood, Given}
 use Rattle.load.specs.View.{View, viewOf}
 use Rattle.load_file.specs.declared.Reading.{Reading}
 use Rattle.load_file.specs.Calls.{ReadLoad}
@@ -28,7 +28,7 @@ use Rattle.reading_bench.specs.Calls.{
 use Rattle.lines.specs.declared.Printed.{Printed}
 use Rattle.lines.specs.declared.Text.{Text}
 use Rattle.lines.specs.Lines.{printed, filePlaces}
-use Rattle.lines.specs.Calls.{textPlaces, TextOf, PrintLines, lengthGiven}
+use Rattle.lines.specs.Calls.{textPlaces, TextOf, PrintLines}
 
 -- a call for C: of a file that is read as a load, it refuses nothing but the room, and gives that
 -- load's answer
@@ -70,4 +70,4 @@ pub record HostAnswers : Type 0 where
   pub lines : (bs out : List ℕ) (r : Printed) (after : List ℕ) → PrintLines bs out r after
       → Given Good (printed bs) out (r .answer) after
   pub lines-counted : (bs out : List ℕ) (r : Printed) (after : List ℕ) → PrintLines bs out r after
-      → r .length ≡ lengthGiven (r .answer) (printed bs)
+      → r .length ≡ ifGood (r .answer) (length (printed bs)) 0

@@ -11,6 +11,7 @@ use lib.ListN.{take, replicate}
 use Rattle.counting.specs.Lists.{joinTo}
 use Rattle.counting.proofs.lists.ListLaws.{getD-listTo, joinTo-ext}
 use Rattle.refusals.specs.declared.Checked.the-variants.{Good}
+use Rattle.refusals.proofs.GivenLaws.{ifGood-good}
 use Rattle.load.specs.declared.Load.{Load}
 use Rattle.load.specs.Load.{mostRows, shown, rowAt}
 use Rattle.load.specs.View.{viewOf, stepsInAll}
@@ -24,22 +25,22 @@ use Rattle.rules.specs.Slots.{lastEnd}
 use Rattle.bound.specs.declared.Bounded.{Bounded}
 use Rattle.bound.specs.declared.Margined.{Margined}
 use Rattle.bound.specs.declared.Judged.{Judged}
-use Rattle.bound.specs.Calls.{ifGood, BoundOf, MarginsOf, VerdictOf}
+use Rattle.bound.specs.Calls.{BoundOf, MarginsOf, VerdictOf}
 use Rattle.bound.proofs.AcceptedLaws.{accepted-few}
 use Rattle.lines.specs.Lines.{loadLine, rowLine, firstLineOf, rowLineOf}
 use Rattle.lines.specs.inner.Puts.{Scheduled}
 
 module _ (load : Load) (accepted : checkLoad load ≡ Good) where
   bound-told : (r : Bounded) → BoundOf load r → r .bound ≡ bound (viewOf load)
-  bound-told r e = ap (λ (b : Bounded). b .bound) e ∙ ap (λ t. ifGood t (bound (viewOf load)) 0) accepted
+  bound-told r e = ap (λ (b : Bounded). b .bound) e ∙ ifGood-good _ (bound (viewOf load)) 0 accepted
 
   verdict-told : (r : Judged) → VerdictOf load r → r .verdict ≡ verdict (viewOf load)
-  verdict-told r e = ap (λ (j : Judged). j .verdict) e ∙ ap (λ t. ifGood t (verdict (viewOf load)) false) accepted
+  verdict-told r e = ap (λ (j : Judged). j .verdict) e ∙ ifGood-good _ (verdict (viewOf load)) false accepted
 
   margins-told : (r : Margined) → MarginsOf load r → r .margins ≡ margins (viewOf load)
   margins-told r e =
       ap (λ (m : Margined). m .margins) e
-      ∙ ap (λ t. ifGood t (margins (viewOf load)) (replicate mostRows (pos 0))) accepted
+      ∙ ifGood-good _ (margins (viewOf load)) (replicate mostRows (pos 0)) accepted
 
   -- at the place of a row stands its margin
   margin-read : (i : ℕ) → i < load .rows → marginIn (margins (viewOf load)) i ≡ margin (viewOf load) i

@@ -11,13 +11,13 @@ use Rattle.refusals.specs.declared.Refusal.the-variants.{OutputShort}
 use Rattle.refusals.specs.declared.Checked.{Checked}
 use Rattle.refusals.specs.declared.Checked.the-variants.{Good, Refused}
 use Rattle.refusals.specs.FirstMet.{andThen}
-use Rattle.refusals.specs.Given.{roomFor}
+use Rattle.refusals.specs.Given.{ifGood, roomFor}
 use Rattle.refusals.proofs.FirstMetLaws.{andThen-good-first, firstMet-good-first}
 use Rattle.refusals.proofs.CallLaws.{Given-unique-finding, Given-unique-output}
 use Rattle.lines.specs.declared.Printed.{Printed}
 use Rattle.lines.specs.declared.Text.{Text}
 use Rattle.lines.specs.Lines.{printed}
-use Rattle.lines.specs.Calls.{textPlaces, TextOf, lengthGiven, PrintLines}
+use Rattle.lines.specs.Calls.{textPlaces, TextOf, PrintLines}
 
 pub TextOf-unique : (bs : List ℕ) (r s : Text) → TextOf bs r → TextOf bs s → r ≡ s
 TextOf-unique bs r s p q = p ∙ sym q
@@ -35,7 +35,7 @@ pub PrintLines-unique : (bs out : List ℕ) (r s : Printed) (after later : List 
 PrintLines-unique bs out r s after later p q =
     let answers =
     Given-unique-finding Good (printed bs) out (r .answer) (s .answer) after later (p .given) (q .given) in
-    let lengths = p .length-is ∙ ap (λ c. lengthGiven c (printed bs)) answers ∙ sym (q .length-is) in (
+    let lengths = p .length-is ∙ ap (λ c. ifGood c (length (printed bs)) 0) answers ∙ sym (q .length-is) in (
       ap₂ (λ c n. record { answer = c; length = n }) answers lengths,
       Given-unique-output Good (printed bs) out (r .answer) (s .answer) after later (p .given) (q .given),
     )
@@ -44,7 +44,7 @@ pub PrintLines-length-le : (bs out : List ℕ) (r : Printed) (after : List ℕ) 
     → r .length ≤ length out
 PrintLines-length-le bs out r after p = go (r .answer) (p .given .finding-is) (p .length-is)
   where
-    go : (c : Checked) → c ≡ andThen (roomFor (printed bs) out) Good → r .length ≡ lengthGiven c (printed bs)
+    go : (c : Checked) → c ≡ andThen (roomFor (printed bs) out) Good → r .length ≡ ifGood c (length (printed bs)) 0
         → r .length ≤ length out
     go (Refused refusal) e h = omega arith
     go Good e h =

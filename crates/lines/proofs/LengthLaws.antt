@@ -22,6 +22,7 @@ use Rattle.load.specs.Check.{checkLoad}
 use Rattle.load.specs.View.{View, viewOf, stepsInAll}
 use Rattle.load.proofs.AcceptableLaws.{check-acceptable}
 use Rattle.load_file.specs.Reading.{readLoad}
+use Rattle.load_file.proofs.CallLaws.{ReadLoad-accepted}
 use Rattle.rules.specs.declared.Slot.{Slot}
 use Rattle.rules.specs.Bound.{bound}
 use Rattle.rules.specs.Margins.{margin, verdict}
@@ -42,7 +43,7 @@ use Rattle.lines.specs.Lines.{
   printed,
 }
 use Rattle.lines.specs.Calls.{firstMost, rowMost, slotMost, textPlaces}
-use Rattle.lines.proofs.PrintedLaws.{read-accepted, printed-good, printed-refused}
+use Rattle.lines.proofs.PrintedLaws.{read-lines, read-refused}
 
 decimalTo-le : (most n : ℕ) → length (decimalTo most n) ≤ most
 unfolding decimalTo
@@ -144,7 +145,7 @@ printed-le bs bytes = go (readLoad bs .answer) refl
   where
     go : (c : Checked) → readLoad bs .answer ≡ c → length (printed bs) ≤ textPlaces
     go Good e =
-        let accepted = read-accepted bs (readLoad bs) refl e bytes in
-        rw (printed-good bs (readLoad bs) refl e) at (loadLines-le (readLoad bs .load) accepted)
+        let accepted = ReadLoad-accepted bs (readLoad bs) refl bytes e in
+        rw (read-lines bs (readLoad bs) refl e) at (loadLines-le (readLoad bs .load) accepted)
     go (Refused refusal) e =
-        rw (printed-refused bs (readLoad bs) refl refusal e) at (refusedLine-le refusal)
+        rw (read-refused bs (readLoad bs) refl refusal e) at (refusedLine-le refusal)

@@ -30,7 +30,9 @@ use Rattle.load_file.specs.Records.{headerKind, endKind, version}
 use Rattle.load_file.specs.Places.{stepsSaid, rowPlace, rowsSaid, loadIn}
 use Rattle.load_file.specs.Reading.{dueTests, headerTests, rowFaultIn, endTests, fileFault}
 use Rattle.load_file.proofs.faults.ReadingLaws.{stepsInAll-read}
-use Rattle.lines.specs.Lines.{linesBeside, printed, filePlaces}
+use Rattle.load_file.proofs.faults.ReadingRowsLaws.{header-rows-le}
+use Rattle.lines.specs.Lines.{printed, filePlaces}
+use Rattle.lines.proofs.PrintedLaws.{printed-refused}
 use Rattle.lines.proofs.AgreeLaws.{Agree, numberAt-agree, dueTests-agree, stepsSaid-agree}
 use Rattle.lines.proofs.AgreeFile.{
   andThen-agree,
@@ -50,11 +52,6 @@ module _ (bs cs : List ℕ) (a : Agree filePlaces bs cs) where
       ∙ ap₂
       (λ v r. dueTests headerKind cs 0 ++ (not (eqb v version), MarkDiffers) ∷ (ltb mostRows r, OutOfRange) ∷ [])
       (a .same 2 (omega arith)) (said bs cs a)
-
-  -- a header that is Good announces at most 24 rows
-  rows-most : firstMet (headerTests bs) ≡ Good → rowsSaid bs ≤ mostRows
-  unfolding headerTests
-  rows-most good = ltb-false mostRows (rowsSaid bs) (firstMet-good (headerTests bs) good 4)
 
   rows-agree : rowsSaid bs ≤ mostRows
       → firstFaultTo (rowFaultIn bs) (rowsSaid bs) ≡ firstFaultTo (rowFaultIn cs) (rowsSaid cs)
@@ -107,8 +104,8 @@ module _ (bs cs : List ℕ) (a : Agree filePlaces bs cs) where
       andThen-agree (firstMet (headerTests bs)) (firstMet (headerTests cs)) _ _ (ap firstMet header-agree)
       (λ head.
       andThen-agree (firstFaultTo (rowFaultIn bs) (rowsSaid bs)) (firstFaultTo (rowFaultIn cs) (rowsSaid cs)) _ _
-      (rows-agree (rows-most head))
-      (λ rows. ap (λ ts. andThen (firstMet ts) Good) (ends-agree (rows-most head) rows)))
+      (rows-agree (header-rows-le bs head))
+      (λ rows. ap (λ ts. andThen (firstMet ts) Good) (ends-agree (header-rows-le bs head) rows)))
 
   -- bytes follow the end record
   file-long : fileFault bs ≡ Good → ⊥
@@ -121,19 +118,17 @@ module _ (bs cs : List ℕ) (a : Agree filePlaces bs cs) where
       let at = rowPlace bs (rowsSaid bs) in
       let tests = andThen-good-first (firstMet (endTests bs at)) Good last in
       let no-more = ltb-false (at + 4) (length bs) (firstMet-good (endTests bs at) tests 4) in
-      let few = rows-most head in
+      let few = header-rows-le bs head in
       let le = end few rows .place-le in
       omega (arith, a .first-long)
 
   pub printed-agree : printed bs ≡ printed cs
-  unfolding printed
   printed-agree = go (fileFault bs) refl
     where
-      go : (c : Checked) → fileFault bs ≡ c
-          → linesBeside (fileFault bs) (loadIn bs) ≡ linesBeside (fileFault cs) (loadIn cs)
+      go : (c : Checked) → fileFault bs ≡ c → printed bs ≡ printed cs
       go Good e = absurd (file-long e)
       go (Refused refusal) e =
-          ap (λ c. linesBeside c (loadIn bs)) e ∙ sym (ap (λ c. linesBeside c (loadIn cs)) (sym file-agree ∙ e))
+          printed-refused bs refusal e ∙ sym (printed-refused cs refusal (sym file-agree ∙ e))
 
 -- the first 2,217 bytes are enough
 pub printed-front : (bs : List ℕ) → printed bs ≡ printed (take filePlaces bs)

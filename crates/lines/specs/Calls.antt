@@ -4,9 +4,8 @@ use Prim.Native.Nat.{ℕ, _+_, _-_, _*_}
 use mathlib.Core.List.{List, _++_}
 use mathlib.Core.Path.{_≡_}
 use lib.ListN.{length, replicate}
-use Rattle.refusals.specs.declared.Checked.{Checked}
-use Rattle.refusals.specs.declared.Checked.the-variants.{Good, Refused}
-use Rattle.refusals.specs.Given.{Given}
+use Rattle.refusals.specs.declared.Checked.the-variants.{Good}
+use Rattle.refusals.specs.Given.{ifGood, Given}
 use Rattle.load.specs.Load.{mostRows, mostSteps}
 use Rattle.lines.specs.declared.Printed.{Printed}
 use Rattle.lines.specs.declared.Text.{Text}
@@ -38,13 +37,8 @@ textHolding bs =
 abbrev pub TextOf : List ℕ → Text → Type 0
 TextOf bs r = r ≡ textHolding (printed bs)
 
--- how many bytes of an answer are written: all, or none with a refusal
-abbrev pub lengthGiven : Checked → List ℕ → ℕ
-lengthGiven Good answer = length answer
-lengthGiven (Refused refusal) answer = 0
-
--- print_lines(bytes, out): 9 where the output is too short, and the output as it was; or Good, and
--- what the program prints for the file at the output's front
+-- print_lines(bytes, out): 9 where the output is too short, length 0, and the output as it was; or
+-- Good, the length of what the program prints for the file, and that at the output's front
 pub record PrintLines (bs out : List ℕ) (r : Printed) (after : List ℕ) : Type 0 where
   pub given : Given Good (printed bs) out (r .answer) after
-  pub length-is : r .length ≡ lengthGiven (r .answer) (printed bs)
+  pub length-is : r .length ≡ ifGood (r .answer) (length (printed bs)) 0

@@ -7,7 +7,6 @@ use lib.IntN.{ℤ}
 use Rattle.counting.specs.Lists.{joinTo, joinIn}
 use Rattle.words.specs.Decimal.{text, decimal, signedDecimal}
 use Rattle.refusals.specs.declared.Refusal.{Refusal}
-use Rattle.refusals.specs.declared.Checked.{Checked}
 use Rattle.refusals.specs.declared.Checked.the-variants.{Good, Refused}
 use Rattle.refusals.specs.Refusals.{numberOf}
 use Rattle.load.specs.declared.Row.{Row}
@@ -76,14 +75,10 @@ loadLines load =
 unfoldable pub refusedLine : Refusal → List ℕ
 refusedLine refusal = line "refused" (decimal (numberOf refusal) ∷ [])
 
--- the lines beside what a reading finds
-abbrev pub linesBeside : Checked → Load → List ℕ
-linesBeside Good load = loadLines load
-linesBeside (Refused refusal) load = refusedLine refusal
-
--- what the program prints for a file
+-- what the program prints for a file: the lines of its load, or the one line of its refusal
 unfoldable pub printed : List ℕ → List ℕ
-printed bs = linesBeside (fileFault bs) (loadIn bs)
+printed bs =
+    elim (fileFault bs) [ Good ↦ loadLines (loadIn bs) | Refused refusal ↦ refusedLine refusal ]
 
 -- how many bytes of a file decide what is printed: one more than the longest load file has, that of
 -- 24 rows with 8 steps and 4 windows each

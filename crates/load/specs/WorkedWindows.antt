@@ -111,7 +111,7 @@ pub record WorkedWindows : Type 0 where
       ≡ false ∷ true ∷ false ∷ false ∷ true ∷ true ∷ []
   -- the steps of two rows, four and one, where 0, 1, 2 and 25 rows are counted
   pub steps-in-all :
-      joinIn
-      (λ n. stepsInAll (viewOf (loadPlaced n (row 1 waiting [] ∷ row 2 step1 [] ∷ []))) ∷ [])
+      map
+      (λ n. stepsInAll (viewOf (loadPlaced n (row 1 waiting [] ∷ row 2 step1 [] ∷ []))))
       (0 ∷ 1 ∷ 2 ∷ 25 ∷ [])
       ≡ 0 ∷ 4 ∷ 5 ∷ 5 ∷ []

@@ -1,17 +1,42 @@
--- Any two results that meet a call's contract are equal, and so is what the output holds afterwards.
+-- Any two results that meet a call's contract are equal, and so is what the output holds afterwards. Also: what a
+-- reading finds, the load that it gives with Good, and that this load passes its check.
 use Prim.Native.Nat.{ℕ}
 use mathlib.Core.List.{List}
-use mathlib.Core.Path.{_≡_, sym, _∙_}
+use mathlib.Core.Path.{_≡_, ap, sym, _∙_}
+use Rattle.words.specs.LittleEndian.{Bytes}
 use Rattle.refusals.specs.declared.Checked.{Checked}
+use Rattle.refusals.specs.declared.Checked.the-variants.{Good}
+use Rattle.refusals.proofs.GivenLaws.{ifGood-good}
 use Rattle.refusals.proofs.CallLaws.{Given-unique-finding, Given-unique-output}
 use Rattle.load.specs.declared.Load.{Load}
+use Rattle.load.specs.Load.{zeroLoad}
 use Rattle.load.specs.Check.{checkLoad}
 use Rattle.load_file.specs.declared.Reading.{Reading}
 use Rattle.load_file.specs.Writing.{loadBytes}
+use Rattle.load_file.specs.Places.{loadIn}
+use Rattle.load_file.specs.Reading.{fileFault, readLoad}
 use Rattle.load_file.specs.Calls.{ReadLoad, WriteLoad}
+use Rattle.load_file.proofs.faults.CheckLaws.{good-checkLoad}
+use Rattle.load_file.proofs.faults.FaultLaws.{fileFault-good}
+use Rattle.load_file.proofs.round_trip.ReadFile.{read-good}
 
 pub ReadLoad-unique : (bs : List ℕ) (r s : Reading) → ReadLoad bs r → ReadLoad bs s → r ≡ s
 ReadLoad-unique bs r s p q = p ∙ sym q
+
+module _ (bs : List ℕ) (r : Reading) (e : ReadLoad bs r) where
+  pub ReadLoad-answer : r .answer ≡ fileFault bs
+  unfolding readLoad
+  ReadLoad-answer = ap (λ (x : Reading). x .answer) e
+
+  pub ReadLoad-load : r .answer ≡ Good → r .load ≡ loadIn bs
+  unfolding readLoad
+  ReadLoad-load good =
+      ap (λ (x : Reading). x .load) e ∙ ifGood-good (fileFault bs) (loadIn bs) zeroLoad (sym ReadLoad-answer ∙ good)
+
+  pub ReadLoad-accepted : Bytes bs → r .answer ≡ Good → checkLoad (r .load) ≡ Good
+  ReadLoad-accepted bytes good =
+      let file = fileFault-good bs (sym ReadLoad-answer ∙ good) in
+      ap checkLoad (ReadLoad-load good) ∙ good-checkLoad (loadIn bs) (read-good bs bytes file)
 
 pub WriteLoad-unique : (load : Load) (out : List ℕ) (r s : Checked) (after later : List ℕ)
     → WriteLoad load out r after → WriteLoad load out s later → (r ≡ s) × (after ≡ later)

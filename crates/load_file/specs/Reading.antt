@@ -11,9 +11,8 @@ use Rattle.refusals.specs.declared.Refusal.{Refusal}
 use Rattle.refusals.specs.declared.Refusal.the-variants.{FileShort, MarkDiffers}
 use Rattle.refusals.specs.declared.Refusal.the-variants.{OutOfRange, EndDiffers}
 use Rattle.refusals.specs.declared.Checked.{Checked}
-use Rattle.refusals.specs.declared.Checked.the-variants.{Good, Refused}
 use Rattle.refusals.specs.FirstMet.{firstMet, firstFault, firstFaultTo}
-use Rattle.load.specs.declared.Load.{Load}
+use Rattle.refusals.specs.Given.{ifGood}
 use Rattle.load.specs.Load.{mostRows, zeroLoad}
 use Rattle.load.specs.View.{viewOf, stepsInAll}
 use Rattle.load.specs.Faults.{rowTests, takenTests, stepTests, windowTests}
@@ -104,11 +103,6 @@ fileFault bs =
     ∷ firstMet (endTests bs (rowPlace bs (rowsSaid bs)))
     ∷ [])
 
--- the load beside a finding: a refused reading gives the all-zero load
-abbrev pub loadBeside : Checked → Load → Load
-loadBeside Good load = load
-loadBeside (Refused refusal) load = zeroLoad
-
--- what reading a file gives
+-- what reading a file gives: a refused reading gives the all-zero load
 unfoldable pub readLoad : List ℕ → Reading
-readLoad bs = record { answer = fileFault bs; load = loadBeside (fileFault bs) (loadIn bs) }
+readLoad bs = record { answer = fileFault bs; load = ifGood (fileFault bs) (loadIn bs) zeroLoad }

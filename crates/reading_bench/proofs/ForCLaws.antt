@@ -12,28 +12,15 @@ use Rattle.refusals.specs.declared.Refusal.{Refusal}
 use Rattle.refusals.specs.declared.Checked.{Checked}
 use Rattle.refusals.specs.declared.Checked.the-variants.{Good, Refused}
 use Rattle.refusals.specs.Refusals.{numberOf, numberGiven}
-use Rattle.refusals.specs.Given.{Given, outputAfter}
-use Rattle.refusals.proofs.GivenLaws.{refused-given}
+use Rattle.refusals.specs.Given.{Given}
+use Rattle.refusals.proofs.GivenLaws.{refused-given, refused-alike}
 use Rattle.load.specs.View.{View, viewOf}
 use Rattle.load.specs.Check.{checkLoad}
 use Rattle.load_file.specs.declared.Reading.{Reading}
 use Rattle.load_file.specs.Places.{loadIn}
-use Rattle.load_file.specs.Reading.{fileFault, loadBeside, readLoad}
 use Rattle.load_file.specs.Calls.{ReadLoad}
-use Rattle.load_file.proofs.round_trip.RoundTrip.{round-trip}
+use Rattle.load_file.proofs.CallLaws.{ReadLoad-answer, ReadLoad-load, ReadLoad-accepted}
 use Rattle.reading_bench.specs.Calls.{Numbered, ForC}
-
--- a refusal is given alike beside any answer
-refused-beside : (refusal : Refusal) (answer other out : List ℕ) (found : Checked) (after : List ℕ)
-    → Given (Refused refusal) answer out found after → Given (Refused refusal) other out found after
-refused-beside refusal answer other out found after g =
-    record {
-      finding-is = g .finding-is;
-      output-is =
-          g .output-is
-          ∙ ap (λ f. outputAfter f answer out) (g .finding-is)
-          ∙ sym (ap (λ f. outputAfter f other out) (g .finding-is));
-    }
 
 -- a finding that refuses is told by its number, and the output stays
 pub refused-numbered : (finding : Checked) (answer out : List ℕ) (refusal : Refusal) (r : ℕ)
@@ -54,33 +41,21 @@ numbered-right Good answer right out r after e n = subst (λ a. Numbered Good a 
 numbered-right (Refused refusal) answer right out r after e n =
     record {
       found = n .found;
-      given = refused-beside refusal answer right out (n .found) after (n .given);
+      given = refused-alike (Refused refusal) refusal answer right out (n .found) after refl (n .given);
       number-is = n .number-is;
     }
 
 module _ (bs : List ℕ) (reading : Reading) (read : ReadLoad bs reading)
     (inside : (at : ℕ) → Fits w8 (byteAt bs at)) where
-  found-is : reading .answer ≡ fileFault bs
-  unfolding readLoad
-  found-is = ap (λ r. r .answer) read
-
-  load-is : reading .answer ≡ Good → reading .load ≡ loadIn bs
-  unfolding readLoad
-  load-is e = ap (λ r. r .load) read ∙ ap (λ f. loadBeside f (loadIn bs)) (sym found-is ∙ e)
-
   -- the load of a file that is not refused passes its check
   pub load-good : reading .answer ≡ Good → checkLoad (reading .load) ≡ Good
-  load-good e =
-      let reads = sym read ∙ (λ i. record { answer = e i; load = reading .load }) in
-      round-trip .read-write bs (reading .load)
-      (record { bytes = λ at. omega (arith, inside at); reads = reads })
-      .good
+  load-good e = ReadLoad-accepted bs reading read (λ at. omega (arith, inside at)) e
 
   -- what a call gives of the answer for the load that it read
   pub read-for-c : (answer : View → List ℕ) (bytes out : List ℕ) (r : ℕ) (after : List ℕ)
       → (checkLoad (reading .load) ≡ Good → bytes ≡ answer (viewOf (reading .load)))
       → Numbered (reading .answer) bytes out r after → ForC answer bs out r after
   read-for-c answer bytes out r after right n =
-      subst (λ finding. Numbered finding (answer (viewOf (loadIn bs))) out r after) found-is
+      subst (λ finding. Numbered finding (answer (viewOf (loadIn bs))) out r after) (ReadLoad-answer bs reading read)
       (numbered-right (reading .answer) bytes (answer (viewOf (loadIn bs))) out r after
-      (λ e. right (load-good e) ∙ ap (λ load. answer (viewOf load)) (load-is e)) n)
+      (λ e. right (load-good e) ∙ ap (λ load. answer (viewOf load)) (ReadLoad-load bs reading read e)) n)

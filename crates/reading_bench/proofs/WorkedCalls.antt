@@ -8,7 +8,7 @@ use Rattle.refusals.specs.declared.Checked.{Checked}
 use Rattle.refusals.specs.declared.Checked.the-variants.{Good, Refused}
 use Rattle.refusals.specs.FirstMet.{firstFault}
 use Rattle.refusals.specs.Refusals.{numberGiven}
-use Rattle.refusals.specs.Given.{roomFor, outputAfter}
+use Rattle.refusals.specs.Given.{ifGood, written, roomFor}
 use Rattle.load.specs.Load.{zeroLoad}
 use Rattle.load_file.specs.Places.{rowWith, rowFrom, rowPlace, loadIn}
 use Rattle.load_file.specs.Reading.{
@@ -34,7 +34,7 @@ unfolding computing numberAt zeroLoad rowWith rowFrom rowPlace loadIn headerTest
 reading = 0
 
 told : {finding : Checked} {answer out : List ℕ} {r : ℕ} {after : List ℕ} (found : Checked)
-    → found ≡ firstFault (finding ∷ roomFor answer out ∷ []) → after ≡ outputAfter found answer out
+    → found ≡ firstFault (finding ∷ roomFor answer out ∷ []) → after ≡ ifGood found (written answer out) out
     → r ≡ numberGiven found → Numbered finding answer out r after
 told found e a n = record { found = found; given = record { finding-is = e; output-is = a }; number-is = n }
 

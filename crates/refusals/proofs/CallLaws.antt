@@ -4,7 +4,7 @@ use mathlib.Core.List.{List}
 use mathlib.Core.Path.{_≡_, sym, _∙_, ap}
 use Rattle.refusals.specs.declared.Refusal.{Refusal}
 use Rattle.refusals.specs.declared.Checked.{Checked}
-use Rattle.refusals.specs.Given.{Given, outputAfter}
+use Rattle.refusals.specs.Given.{ifGood, written, Given}
 use Rattle.refusals.specs.Calls.{NumberOf}
 
 pub NumberOf-unique : (refusal : Refusal) (r s : ℕ) → NumberOf refusal r → NumberOf refusal s → r ≡ s
@@ -17,4 +17,4 @@ module _ (finding : Checked) (answer out : List ℕ) (r s : Checked) (after late
 
   pub Given-unique-output : after ≡ later
   Given-unique-output =
-      p .output-is ∙ ap (λ c. outputAfter c answer out) Given-unique-finding ∙ sym (q .output-is)
+      p .output-is ∙ ap (λ c. ifGood c (written answer out) out) Given-unique-finding ∙ sym (q .output-is)

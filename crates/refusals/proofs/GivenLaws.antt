@@ -1,15 +1,22 @@
--- The three ways in which a writing call ends, each with what the contract asks of it: the finding is refused, the
--- output is too short for the answer, or the answer is written.
+-- What comes with a finding, by what it is. The three ways in which a writing call ends, each with what the contract
+-- asks of it: the finding is refused, the output is too short for the answer, or the answer is written.
 use Prim.Native.Nat.{ℕ, _≤_, _<_}
 use mathlib.Core.List.{List}
-use mathlib.Core.Path.{_≡_, refl}
+use mathlib.Core.Path.{_≡_, refl, sym, _∙_}
 use lib.ListN.{length}
 use borrow.Author.Tests.{lt-ltb, le-ltb}
 use Rattle.refusals.specs.declared.Refusal.{Refusal}
 use Rattle.refusals.specs.declared.Refusal.the-variants.{OutputShort}
 use Rattle.refusals.specs.declared.Checked.{Checked}
 use Rattle.refusals.specs.declared.Checked.the-variants.{Good, Refused}
-use Rattle.refusals.specs.Given.{Given, written}
+use Rattle.refusals.specs.Given.{ifGood, written, Given}
+
+module _ {A : Type 0} (finding : Checked) (answer none : A) where
+  pub ifGood-good : finding ≡ Good → ifGood finding answer none ≡ answer
+  ifGood-good e = rw e
+
+  pub ifGood-refused : (refusal : Refusal) → finding ≡ Refused refusal → ifGood finding answer none ≡ none
+  ifGood-refused refusal e = rw e
 
 module _ (finding : Checked) (answer out : List ℕ) where
   pub refused-given : (refusal : Refusal) → finding ≡ Refused refusal
@@ -23,3 +30,17 @@ module _ (finding : Checked) (answer out : List ℕ) where
   pub written-given : (after : List ℕ) → finding ≡ Good → length answer ≤ length out → after ≡ written answer out
       → Given finding answer out Good after
   written-given after e h w = record { finding-is = rw (e, le-ltb _ _ h); output-is = w }
+
+-- an answer that is not written does not matter
+pub refused-alike : (finding : Checked) (refusal : Refusal) (answer other out : List ℕ)
+    → (found : Checked) (after : List ℕ) → finding ≡ Refused refusal
+    → Given finding answer out found after → Given finding other out found after
+refused-alike finding refusal answer other out found after e g =
+    let refused : found ≡ Refused refusal = rw e at (g .finding-is) in
+    record {
+      finding-is = rw e refused;
+      output-is =
+          g .output-is
+          ∙ ifGood-refused found (written answer out) out refusal refused
+          ∙ sym (ifGood-refused found (written other out) out refusal refused);
+    }

@@ -1,5 +1,6 @@
--- "Returned alone; nothing lent is altered": what a call that writes gives, and what its output
--- holds afterwards. Rests on D26: 9 comes last, and goes by the answer's own length.
+-- "Returned alone; nothing lent is altered": what comes with a finding, and for a call that writes
+-- what it gives and what its output holds afterwards. Rests on D25 and D26: 9 comes last, and goes
+-- by the answer's own length.
 use Prim.Native.Nat.{ℕ}
 use mathlib.Core.List.{List, [], _∷_, _++_}
 use mathlib.Core.Path.{_≡_}
@@ -10,6 +11,11 @@ use Rattle.refusals.specs.declared.Checked.{Checked}
 use Rattle.refusals.specs.declared.Checked.the-variants.{Good, Refused}
 use Rattle.refusals.specs.FirstMet.{firstFault, firstMet}
 
+-- what comes with a finding: the answer where nothing is refused, else what a refusal leaves
+abbrev pub ifGood : {A : Type 0} → Checked → A → A → A
+ifGood Good answer none = answer
+ifGood (Refused refusal) answer none = none
+
 -- the lent output with the answer's bytes at its front: bytes past the answer stay
 abbrev pub written : List ℕ → List ℕ → List ℕ
 written answer out = answer ++ drop (length answer) out
@@ -18,13 +24,8 @@ written answer out = answer ++ drop (length answer) out
 abbrev pub roomFor : List ℕ → List ℕ → Checked
 roomFor answer out = firstMet ((ltb (length out) (length answer), OutputShort) ∷ [])
 
--- the output after a finding: the answer where there is nothing to refuse, else as it was
-abbrev pub outputAfter : Checked → List ℕ → List ℕ → List ℕ
-outputAfter Good answer out = written answer out
-outputAfter (Refused refusal) answer out = out
-
 -- what a writing call finds, and what its output holds afterwards
 pub record Given (finding : Checked) (answer out : List ℕ) (found : Checked) (after : List ℕ)
     : Type 0 where
   pub finding-is : found ≡ firstFault (finding ∷ roomFor answer out ∷ [])
-  pub output-is : after ≡ outputAfter found answer out
+  pub output-is : after ≡ ifGood found (written answer out) out

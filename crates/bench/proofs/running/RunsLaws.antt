@@ -11,6 +11,7 @@ use Rattle.counting.proofs.lists.ListLaws.{listTo-length}
 use Rattle.counting.proofs.sums.SumLaws.{sumTo-le}
 use Rattle.refusals.specs.declared.Refusal.{Refusal}
 use Rattle.refusals.specs.declared.Checked.the-variants.{Good, Refused}
+use Rattle.refusals.proofs.GivenLaws.{ifGood-good, ifGood-refused}
 use Rattle.load.specs.declared.Load.{Load}
 use Rattle.load.specs.Load.{mostSteps}
 use Rattle.load.specs.View.{viewOf, stepsInAll}
@@ -35,12 +36,12 @@ Runs-taken load r e =
 
 pub scheduleOr-refused : (load : Load) (refusal : Refusal) → checkLoad load ≡ Refused refusal → scheduleOr load ≡ []
 unfolding scheduleOr
-scheduleOr-refused load refusal e = rw (e, scheduleOr)
+scheduleOr-refused load refusal e = ifGood-refused _ (schedule (viewOf load)) [] refusal e
 
 module _ (load : Load) (accepted : checkLoad load ≡ Good) where
   pub scheduleOr-good : scheduleOr load ≡ schedule (viewOf load)
   unfolding scheduleOr
-  scheduleOr-good = rw (accepted, scheduleOr)
+  scheduleOr-good = ifGood-good _ (schedule (viewOf load)) [] accepted
 
   -- the slots that a run counts are the schedule
   pub Runs-schedule : (r : Ran) → Runs load r → take (r .count) (r .slots) ≡ schedule (viewOf load)

@@ -6,57 +6,47 @@ use mathlib.Core.Path.{_≡_, ap, sym, _∙_}
 use lib.IntN.{pos}
 use lib.ListN.{length, replicate}
 use Rattle.refusals.specs.declared.Refusal.{Refusal}
-use Rattle.refusals.specs.declared.Checked.{Checked}
 use Rattle.refusals.specs.declared.Checked.the-variants.{Refused}
+use Rattle.refusals.proofs.GivenLaws.{ifGood-refused}
 use Rattle.load.specs.declared.Load.{Load}
 use Rattle.load.specs.Load.{mostRows, zeroLoad}
 use Rattle.load.specs.Check.{checkLoad}
 use Rattle.load_file.specs.declared.Reading.{Reading}
 use Rattle.load_file.specs.Places.{loadIn}
-use Rattle.load_file.specs.Reading.{fileFault, loadBeside, readLoad}
+use Rattle.load_file.specs.Reading.{fileFault, readLoad}
 use Rattle.load_file.specs.Calls.{ReadLoad}
 use Rattle.bound.specs.declared.Bounded.{Bounded}
 use Rattle.bound.specs.declared.Margined.{Margined}
 use Rattle.bound.specs.declared.Judged.{Judged}
-use Rattle.bound.specs.Calls.{ifGood, BoundOf, MarginsOf, VerdictOf}
+use Rattle.bound.specs.Calls.{BoundOf, MarginsOf, VerdictOf}
 use Rattle.bench.specs.declared.Ran.{Ran}
 use Rattle.bench.specs.Calls.{Runs}
 use Rattle.bench.proofs.running.RunsLaws.{scheduleOr-refused}
-
--- what comes with a refusal
-if-refused : {A : Type 0} → (found : Checked) (answer none : A) (refusal : Refusal) → found ≡ Refused refusal
-    → ifGood found answer none ≡ none
-if-refused found answer none refusal e = rw e
-
--- the load beside one
-beside-refused : (found : Checked) (load : Load) (refusal : Refusal) → found ≡ Refused refusal
-    → loadBeside found load ≡ zeroLoad
-beside-refused found load refusal e = rw e
 
 pub refused-load : (bs : List ℕ) (r : Reading) (refusal : Refusal) → ReadLoad bs r → r .answer ≡ Refused refusal
     → r .load ≡ zeroLoad
 unfolding readLoad
 refused-load bs r refusal e h =
     ap (λ (x : Reading). x .load) e
-    ∙ beside-refused (fileFault bs) (loadIn bs) refusal (ap (λ (x : Reading). x .answer) (sym e) ∙ h)
+    ∙ ifGood-refused (fileFault bs) (loadIn bs) zeroLoad refusal (ap (λ (x : Reading). x .answer) (sym e) ∙ h)
 
 module _ (load : Load) where
   pub refused-bound : (r : Bounded) (refusal : Refusal) → BoundOf load r → r .answer ≡ Refused refusal → r .bound ≡ 0
   refused-bound r refusal e h =
       ap (λ (x : Bounded). x .bound) e
-      ∙ if-refused (checkLoad load) _ 0 refusal (ap (λ (x : Bounded). x .answer) (sym e) ∙ h)
+      ∙ ifGood-refused (checkLoad load) _ 0 refusal (ap (λ (x : Bounded). x .answer) (sym e) ∙ h)
 
   pub refused-margins : (r : Margined) (refusal : Refusal) → MarginsOf load r → r .answer ≡ Refused refusal
       → r .margins ≡ replicate mostRows (pos 0)
   refused-margins r refusal e h =
       ap (λ (x : Margined). x .margins) e
-      ∙ if-refused (checkLoad load) _ _ refusal (ap (λ (x : Margined). x .answer) (sym e) ∙ h)
+      ∙ ifGood-refused (checkLoad load) _ _ refusal (ap (λ (x : Margined). x .answer) (sym e) ∙ h)
 
   pub refused-verdict : (r : Judged) (refusal : Refusal) → VerdictOf load r → r .answer ≡ Refused refusal
       → r .verdict ≡ false
   refused-verdict r refusal e h =
       ap (λ (x : Judged). x .verdict) e
-      ∙ if-refused (checkLoad load) _ false refusal (ap (λ (x : Judged). x .answer) (sym e) ∙ h)
+      ∙ ifGood-refused (checkLoad load) _ false refusal (ap (λ (x : Judged). x .answer) (sym e) ∙ h)
 
   pub refused-slots : (r : Ran) (refusal : Refusal) → Runs load r → r .answer ≡ Refused refusal → r .count ≡ 0
   refused-slots r refusal e h =

@@ -3,7 +3,7 @@ use Prim.Native.Nat.{ℕ}
 use mathlib.Core.Bool.{true}
 use mathlib.Core.List.{List, [], _∷_, _++_}
 use mathlib.Core.Logic.{_≢_}
-use mathlib.Core.Path.{_≡_, refl, ap, _∙_}
+use mathlib.Core.Path.{_≡_, refl, _∙_}
 use lib.Dec.{ltb}
 use lib.ListN.{length}
 use Rattle.counting.specs.Lists.{anyIn}
@@ -12,7 +12,8 @@ use Rattle.refusals.specs.declared.Refusal.the-variants.{OutOfRange, OutputShor
 use Rattle.refusals.specs.declared.Checked.{Checked}
 use Rattle.refusals.specs.declared.Checked.the-variants.{Good, Refused}
 use Rattle.refusals.specs.Refusals.{numberGiven}
-use Rattle.refusals.specs.Given.{outputAfter, Given}
+use Rattle.refusals.specs.Given.{ifGood, written, Given}
+use Rattle.refusals.proofs.GivenLaws.{ifGood-refused}
 use Rattle.load.specs.declared.Load.{Load}
 use Rattle.load.specs.View.{View, viewOf}
 use Rattle.load.specs.Check.{checkLoad}
@@ -82,7 +83,7 @@ number-stays : (finding : Checked) (answer out : List ℕ) (found : Checked) (af
     → Given finding answer out found after → numberGiven found ≢ 0 → after ≡ out
 number-stays finding answer out found after g ne = go found ne (g .output-is)
   where
-    go : (c : Checked) → numberGiven c ≢ 0 → after ≡ outputAfter c answer out → after ≡ out
+    go : (c : Checked) → numberGiven c ≢ 0 → after ≡ ifGood c (written answer out) out → after ≡ out
     go Good other e = absurd (other refl)
     go (Refused refusal) other e = e
 
@@ -95,4 +96,4 @@ c-keeps answer bs out r after c ne =
 pub lines-keep : (bs out : List ℕ) (refusal : Refusal) (r : Printed) (after : List ℕ) → PrintLines bs out r after
     → r .answer ≡ Refused refusal → after ≡ out
 lines-keep bs out refusal r after p e =
-    p .given .output-is ∙ ap (λ c. outputAfter c (printed bs) out) e
+    p .given .output-is ∙ ifGood-refused (r .answer) (written (printed bs) out) out refusal e

@@ -12,8 +12,9 @@ use Rattle.load.specs.declared.Load.{Load}
 use Rattle.load.specs.View.{View, viewOf}
 use Rattle.load_file.specs.declared.Reading.{Reading}
 use Rattle.load_file.specs.Places.{loadIn}
-use Rattle.load_file.specs.Reading.{fileFault, loadBeside, readLoad}
+use Rattle.load_file.specs.Reading.{fileFault}
 use Rattle.load_file.specs.Calls.{ReadLoad}
+use Rattle.load_file.proofs.CallLaws.{ReadLoad-answer, ReadLoad-load}
 use Rattle.rules.specs.Margins.{marginBytes}
 use Rattle.reading_bench.specs.Calls.{Numbered, ForC, boundBytes, verdictBytes, scheduleFile}
 use Rattle.lines.specs.Lines.{printed}
@@ -25,12 +26,10 @@ use Rattle.demands.specs.HostAnswers.{GivesAnswer, HostAnswers}
 
 module _ (bs : List ℕ) (read : Reading) (m : ReadLoad bs read) where
   fault-is : fileFault bs ≡ read .answer
-  unfolding readLoad
-  fault-is = sym (ap (λ (r : Reading). r .answer) m)
+  fault-is = sym (ReadLoad-answer bs read m)
 
   load-is : read .answer ≡ Good → loadIn bs ≡ read .load
-  unfolding readLoad
-  load-is e = sym (ap (λ (r : Reading). r .load) m ∙ ap (λ f. loadBeside f (loadIn bs)) (fault-is ∙ e))
+  load-is e = sym (ReadLoad-load bs read m e)
 
 answers : (answer : View → List ℕ) → GivesAnswer (ForC answer) answer
 answers answer bs read m e out n after c =

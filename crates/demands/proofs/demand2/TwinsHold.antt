@@ -5,13 +5,13 @@ use mathlib.Core.Path.{_≡_, ap, sym, _∙_}
 use lib.IntN.{pos}
 use lib.ListN.{replicate}
 use Rattle.refusals.specs.declared.Checked.the-variants.{Good}
+use Rattle.refusals.specs.Given.{ifGood}
 use Rattle.load.specs.declared.Load.{Load}
 use Rattle.load.specs.Load.{mostRows}
 use Rattle.load.specs.Check.{checkLoad}
 use Rattle.rules.specs.SameLoads.{SameLoad}
 use Rattle.rules.specs.Run.{schedule}
 use Rattle.rules.proofs.bound.SameBound.{viewOf-same, bound-same, margins-same, verdict-same}
-use Rattle.bound.specs.Calls.{ifGood}
 use Rattle.bench.specs.Runs.{scheduleOr, ranWith}
 use Rattle.bench.proofs.running.RunsLaws.{scheduleOr-good}
 use Rattle.bench.proofs.SameMoves.{nextMove-same}

@@ -1,5 +1,5 @@
--- What the parts of the code give: bytes put into a text from a place on, and lines of plain
--- numbers. The promises do not cite this page.
+-- What the parts of the code ask for and give: the slots of an accepted load, and bytes put into a
+-- text from a place on. The promises do not cite this page.
 use Prim.Native.Nat.{ℕ, _+_, _*_, _≤_}
 use mathlib.Core.List.{List}
 use mathlib.Core.Path.{_≡_}

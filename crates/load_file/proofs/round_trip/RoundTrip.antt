@@ -6,15 +6,13 @@ use mathlib.Core.List.{List}
 use mathlib.Core.Path.{_≡_, refl, ap, sym, _∙_}
 use lib.ListN.{length}
 use Rattle.words.specs.LittleEndian.{Bytes}
-use Rattle.refusals.specs.declared.Checked.{Checked}
 use Rattle.refusals.specs.declared.Checked.the-variants.{Good}
 use Rattle.load.specs.declared.Load.{Load}
 use Rattle.load.specs.Load.{rowAt}
 use Rattle.load.specs.Check.{checkLoad}
-use Rattle.load_file.specs.declared.Reading.{Reading}
 use Rattle.load_file.specs.Writing.{loadBytes}
 use Rattle.load_file.specs.Places.{loadIn}
-use Rattle.load_file.specs.Reading.{fileFault, loadBeside, readLoad}
+use Rattle.load_file.specs.Reading.{fileFault, readLoad}
 use Rattle.load_file.specs.RoundTrip.{Held, accepted, AcceptedFile, WrittenLoad, RoundTrip}
 use Rattle.load_file.proofs.layout.PlaceLaws.{loadBytes-length-le}
 use Rattle.load_file.proofs.faults.CheckLaws.{
@@ -28,12 +26,10 @@ use Rattle.load_file.proofs.layout.ByteLaws.{loadBytes-bytes}
 use Rattle.load_file.proofs.round_trip.WrittenFile.{written-load, written-accepted}
 use Rattle.load_file.proofs.round_trip.ReadFile.{read-held, read-good, read-file}
 
--- what a reading gives beside a finding
+-- what reading a file gives that is not refused
 readLoad-good : (bs : List ℕ) → fileFault bs ≡ Good → readLoad bs ≡ accepted (loadIn bs)
 unfolding readLoad
-readLoad-good bs h =
-    let given : Checked → Reading = λ c. record { answer = c; load = loadBeside c (loadIn bs) } in
-    ap given h
+readLoad-good bs h = rw h
 
 good-readLoad : (bs : List ℕ) (load : Load) → readLoad bs ≡ accepted load → fileFault bs ≡ Good
 unfolding readLoad

@@ -6,19 +6,18 @@ use mathlib.Core.Path.{_≡_}
 use lib.ListN.{getD}
 use Rattle.counting.specs.Lists.{filled}
 use Rattle.refusals.specs.declared.Checked.{Checked}
-use Rattle.refusals.specs.declared.Checked.the-variants.{Good, Refused}
 use Rattle.refusals.specs.FirstMet.{firstMet, firstFault, firstFaultTo}
+use Rattle.refusals.specs.Given.{ifGood}
 use Rattle.load.specs.declared.Identifier.{Identifier}
 use Rattle.load.specs.declared.BoxNumber.{BoxNumber}
 use Rattle.load.specs.declared.Step.{Step}
 use Rattle.load.specs.declared.Window.{Window}
-use Rattle.load.specs.declared.Row.{Row}
-use Rattle.load.specs.Load.{mostRows, mostSteps, mostWindows, noStep, noWindow, zeroRow}
+use Rattle.load.specs.Load.{mostRows, mostSteps, mostWindows, noStep, noWindow, zeroRow, zeroLoad}
 use Rattle.load_file.specs.declared.Reading.{Reading}
 use Rattle.load_file.specs.declared.read_row.RowReading.{RowReading}
 use Rattle.load_file.specs.Records.{Kind, stepKind, windowKind}
 use Rattle.load_file.specs.Places.{stepIn, windowIn, rowFrom, rowPlace, rowsSaid, loadIn}
-use Rattle.load_file.specs.Reading.{rowFaultAt, rowFaultIn, endTests, loadBeside}
+use Rattle.load_file.specs.Reading.{rowFaultAt, rowFaultIn, endTests}
 
 -- the kind of record with a mark and a size
 abbrev pub kindOf : List ℕ → ℕ → Kind
@@ -43,15 +42,13 @@ pub record RowsBefore (bs : List ℕ) (i : ℕ) (identifiers : List Identifier)
   pub boxes-are : boxes
       ≡ filled (λ k. rowFrom bs (rowPlace bs k) .«box_number») i mostRows (record { 0 = 0 })
 
--- the row beside a finding: a refused row is the row of zeros
-abbrev pub rowBeside : Checked → Row → Row
-rowBeside Good row = row
-rowBeside (Refused refusal) row = zeroRow
-
--- what reading row i at a place gives
+-- what reading row i at a place gives: a refused row is the row of zeros
 unfoldable pub readRow : List ℕ → ℕ → ℕ → RowReading
 readRow bs i at =
-    record { answer = rowFaultAt bs i at; row = rowBeside (rowFaultAt bs i at) (rowFrom bs at) }
+    record {
+      answer = rowFaultAt bs i at;
+      row = ifGood (rowFaultAt bs i at) (rowFrom bs at) zeroRow;
+    }
 
 -- what a file is refused for behind its header
 unfoldable pub rowsFault : List ℕ → Checked
@@ -63,4 +60,4 @@ rowsFault bs =
 
 -- what reading a file behind its header gives
 unfoldable pub readRows : List ℕ → Reading
-readRows bs = record { answer = rowsFault bs; load = loadBeside (rowsFault bs) (loadIn bs) }
+readRows bs = record { answer = rowsFault bs; load = ifGood (rowsFault bs) (loadIn bs) zeroLoad }

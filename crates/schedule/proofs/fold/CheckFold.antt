@@ -12,6 +12,7 @@ use Rattle.refusals.specs.declared.Refusal.{Refusal}
 use Rattle.refusals.specs.declared.Checked.{Checked}
 use Rattle.refusals.specs.declared.Checked.the-variants.{Good, Refused}
 use Rattle.refusals.specs.FirstMet.{andThen, firstFaultTo}
+use Rattle.refusals.specs.Given.{ifGood}
 use Rattle.refusals.proofs.FirstMetLaws.{good-refused, firstFaultTo-zero}
 use Rattle.load.specs.declared.Load.{Load}
 use Rattle.load.specs.Load.{mostRows, shown}
@@ -24,7 +25,7 @@ use Rattle.rules.specs.Slots.{mostSlots, slotAt}
 use Rattle.rules.specs.Check.{checkSlots, checkSchedule}
 use Rattle.schedule.specs.declared.seen.Seen.{Seen}
 use Rattle.schedule.specs.inner.Seen.{counted, begun, foundAt}
-use Rattle.schedule.specs.inner.SeenFold.{advanced, withFound, byFinding, nextSlot, stepSlot, seenOf, foldSlots}
+use Rattle.schedule.specs.inner.SeenFold.{advanced, withFound, nextSlot, stepSlot, seenOf, foldSlots}
 use Rattle.schedule.proofs.fold.SeenLaws.{testsAt, Before}
 use Rattle.schedule.proofs.fold.RightLaws.{tests-right}
 use Rattle.schedule.proofs.fold.StepLaws.{tests-same}
@@ -54,7 +55,7 @@ module _ (load : Load) (ok : Acceptable (viewOf load)) (placed : Placed load) (s
           let clean = sym (b .found-is) ∙ e in
           let f : found ≡ Refused r = tests-same load ok placed slots k seen (b .kept e) clean l ∙ q in
           let s : then ≡ withFound seen (Refused r) =
-          ap (λ c. byFinding c (withFound seen c) (advanced load seen (x .row) (x .step) (x .start))) f in
+          ap (λ c. ifGood c (advanced load seen (x .row) (x .step) (x .start)) (withFound seen c)) f in
           subst (Before L slots (suc k)) (sym s)
           (record {
             found-is = sym (ap₂ andThen clean q);
@@ -64,22 +65,22 @@ module _ (load : Load) (ok : Acceptable (viewOf load)) (placed : Placed load) (s
           let clean = sym (b .found-is) ∙ e in
           let f : found ≡ Good = tests-same load ok placed slots k seen (b .kept e) clean l ∙ q in
           let s : then ≡ advanced load seen (x .row) (x .step) (x .start) =
-          ap (λ c. byFinding c (withFound seen c) (advanced load seen (x .row) (x .step) (x .start))) f in
+          ap (λ c. ifGood c (advanced load seen (x .row) (x .step) (x .start)) (withFound seen c)) f in
           subst (Before L slots (suc k)) (sym s)
           (record {
             found-is = sym (ap₂ andThen clean q);
             kept = λ g. advanced-seen load ok placed slots k seen (b .kept e) clean (tests-right L slots k q);
           })
 
-      go : (c : Checked) → seen .found ≡ c → Before L slots (suc k) (byFinding (seen .found) seen then)
+      go : (c : Checked) → seen .found ≡ c → Before L slots (suc k) (ifGood (seen .found) then seen)
       go (Refused r) e =
-          subst (Before L slots (suc k)) (sym (ap (λ c. byFinding c seen then) e))
+          subst (Before L slots (suc k)) (sym (ap (λ c. ifGood c then seen) e))
           (record {
             found-is = e ∙ sym (ap (λ c. andThen c (testsAt L slots k)) (sym (b .found-is) ∙ e));
             kept = λ g. absurd (good-refused (seen .found) r g e);
           })
       go Good e =
-          subst (Before L slots (suc k)) (sym (ap (λ c. byFinding c seen then) e)) (goes e (testsAt L slots k) refl)
+          subst (Before L slots (suc k)) (sym (ap (λ c. ifGood c then seen) e)) (goes e (testsAt L slots k) refl)
 
   before-zero : begun load (length slots) .found ≡ Good → Before L slots 0 (begun load (length slots))
   unfolding begun
@@ -112,7 +113,7 @@ fold-refused : (load : Load) (slots : List Slot) (seen : Seen) (r : Refusal) →
 unfolding foldSlots stepSlot
 fold-refused load [] seen r e = refl
 fold-refused load (x ∷ rest) seen r e =
-    ap (foldSlots load rest) (ap (λ c. byFinding c seen (nextSlot load seen (x .row) (x .step) (x .start))) e)
+    ap (foldSlots load rest) (ap (λ c. ifGood c (nextSlot load seen (x .row) (x .step) (x .start)) seen) e)
     ∙ fold-refused load rest seen r e
 
 andThen-last : (c : Checked) → andThen c Good ≡ c

@@ -1,6 +1,6 @@
 -- What is gathered of at most 192 slots is the file: each slot's record stands behind those before it, and the file's
 -- bytes are the first of those gathered. Of more slots nothing is written.
-use Prim.Native.Nat.{ℕ, _+_, _*_, _%_, _≤_, _<_}
+use Prim.Native.Nat.{ℕ, _+_, _*_, _%_, _≤_}
 use mathlib.Core.List.{List, [], _∷_, _++_, append-nil, append-assoc}
 use mathlib.Core.Path.{_≡_, refl, ap, sym, _∙_, subst}
 use native.Mathlib.Decide.{decLt}
@@ -15,13 +15,13 @@ use Rattle.words.proofs.LittleEndianLaws.{littleEndian-length}
 use Rattle.words.proofs.OverwriteLaws.{sets-behind, sets-front}
 use Rattle.refusals.specs.declared.Refusal.the-variants.{OutOfRange}
 use Rattle.refusals.specs.declared.Checked.{Checked}
-use Rattle.refusals.specs.declared.Checked.the-variants.{Refused}
 use Rattle.refusals.specs.FirstMet.{firstMet}
-use Rattle.refusals.specs.Given.{Given, outputAfter}
+use Rattle.refusals.specs.Given.{Given}
+use Rattle.refusals.proofs.GivenLaws.{refused-alike}
 use Rattle.rules.specs.declared.Slot.{Slot}
 use Rattle.rules.specs.Slots.{mostSlots}
 use Rattle.schedule.specs.declared.write.Gathered.{Gathered}
-use Rattle.schedule.specs.ScheduleFile.{slotRecord, scheduleBytes}
+use Rattle.schedule.specs.ScheduleFile.{slotsFault, slotRecord, scheduleBytes}
 use Rattle.schedule.specs.inner.Gathered.{headBytes, headed, withSlot, gatheredOf, gathered}
 use Rattle.schedule.specs.Calls.{WriteSchedule}
 
@@ -89,18 +89,6 @@ gathered-bytes slots l =
     ∙ (take-at file (drop (length file) (replicate 1540 0)) (4 + 8 * n) sized
     ∙ ap (λ m. (0x53 ∷ 0x43 ∷ littleEndian 2 m) ++ joinIn slotRecord slots) small))
 
--- an answer that is not written does not matter
-refused-given : (answer other out : List ℕ) (r : Checked) (after : List ℕ) (n : ℕ) → mostSlots < n
-    → Given (firstMet ((ltb mostSlots n, OutOfRange) ∷ [])) answer out r after
-    → Given (firstMet ((ltb mostSlots n, OutOfRange) ∷ [])) other out r after
-refused-given answer other out r after n l g =
-    let many = lt-ltb mostSlots n l in
-    let e : r ≡ Refused OutOfRange = rw many at (g .finding-is) in
-    record {
-      finding-is = rw many e;
-      output-is = g .output-is ∙ (ap (λ c. outputAfter c answer out) e ∙ sym (ap (λ c. outputAfter c other out) e));
-    }
-
 pub gathered-given : (slots : List Slot) (out : List ℕ) (r : Checked) (after : List ℕ)
     → Given (firstMet ((ltb mostSlots (length slots), OutOfRange) ∷ []))
     (take (4 + 8 * length slots) (gathered slots (headed (length slots)) .bytes)) out r after
@@ -108,8 +96,9 @@ pub gathered-given : (slots : List Slot) (out : List ℕ) (r : Checked) (after :
 gathered-given slots out r after g =
     elim (decLt mostSlots (length slots)) [
       | yes l ↦
-          refused-given (take (4 + 8 * length slots) (gathered slots (headed (length slots)) .bytes))
-          (scheduleBytes slots) out r after (length slots) l g
+          refused-alike (slotsFault slots) OutOfRange
+          (take (4 + 8 * length slots) (gathered slots (headed (length slots)) .bytes)) (scheduleBytes slots)
+          out r after (rw (lt-ltb mostSlots (length slots) l)) g
       | no l ↦
           subst (λ answer. Given (firstMet ((ltb mostSlots (length slots), OutOfRange) ∷ [])) answer out r after)
           (gathered-bytes slots (omega arith)) g

@@ -5,7 +5,8 @@ use Prim.Native.Nat.{ℕ, _+_, _-_, _*_}
 use mathlib.Core.List.{List, [], _∷_}
 use lib.ListN.{set}
 use Rattle.refusals.specs.declared.Checked.{Checked}
-use Rattle.refusals.specs.declared.Checked.the-variants.{Good, Refused}
+use Rattle.refusals.specs.declared.Checked.the-variants.{Good}
+use Rattle.refusals.specs.Given.{ifGood}
 use Rattle.load.specs.declared.Load.{Load}
 use Rattle.load.specs.Load.{mostSteps, rowAt}
 use Rattle.rules.specs.declared.Slot.{Slot}
@@ -27,22 +28,17 @@ abbrev pub withFound : Seen → Checked → Seen
 withFound seen found =
     record { found = found; end = seen .end; next = seen .next; starts = seen .starts }
 
--- by a finding: the first where something is refused, the second where nothing is
-abbrev pub byFinding : Checked → Seen → Seen → Seen
-byFinding Good stays goes = goes
-byFinding (Refused refusal) stays goes = stays
-
 -- a slot's numbers, where nothing was refused yet
 abbrev pub nextSlot : Load → Seen → ℕ → ℕ → ℕ → Seen
 nextSlot load seen row step start =
-    byFinding (foundAt load seen row step start)
-    (withFound seen (foundAt load seen row step start))
+    ifGood (foundAt load seen row step start)
     (advanced load seen row step start)
+    (withFound seen (foundAt load seen row step start))
 
 -- a slot's numbers: the first refusal stays
 unfoldable pub stepSlot : Load → Seen → ℕ → ℕ → ℕ → Seen
 stepSlot load seen row step start =
-    byFinding (seen .found) seen (nextSlot load seen row step start)
+    ifGood (seen .found) (nextSlot load seen row step start) seen
 
 -- a slot
 abbrev pub seenOf : Load → Seen → Slot → Seen

@@ -2,8 +2,9 @@
 use native.Mathlib.Omega.{arith}
 use borrow.Author.Needs.{needs}
 use Rattle.words.specs.LittleEndian.{Bytes}
+use Rattle.load_file.proofs.CallLaws.{ReadLoad-accepted}
 use Rattle.lines.proofs.PutLaws.{put-same}
-use Rattle.lines.proofs.PrintedLaws.{read-accepted, printed-good, printed-refused}
+use Rattle.lines.proofs.PrintedLaws.{read-lines, read-refused}
 use Rattle.lines.proofs.gather.put_printed.Statement.{statement}
 use Rattle.lines.proofs.gather.put_printed.Tie as tie
 
@@ -14,13 +15,13 @@ bytes c at = omega (arith, c .shared-slice-known .given at)
 accepted : tie.Need-put-load-requires
 accepted c κs =
     let read = c .before .before .before in
-    read-accepted _ _ (read .read-load .ensures) (c .before .enum-told .given .1) (bytes (read .before))
+    ReadLoad-accepted _ _ (read .read-load .ensures) (bytes (read .before)) (c .before .enum-told .given .1)
 
 good : tie.Need-returns
 good c =
     let made = c .before .before in
     let told = made .before .before in
-    put-same (printed-good _ _ (told .before .before .read-load .ensures) (told .enum-told .given .1))
+    put-same (read-lines _ _ (told .before .before .read-load .ensures) (told .enum-told .given .1))
     (made .put-load .ensures)
 
 refused : tie.Need-returns-2
@@ -28,7 +29,7 @@ refused c =
     let made = c .before .before in
     let told = made .before .before in
     let read = told .before .before .before in
-    put-same (printed-refused _ _ (read .read-load .ensures) _ (told .before .answer .given .1))
+    put-same (read-refused _ _ (read .read-load .ensures) _ (told .before .answer .given .1))
     (made .put-refused .ensures)
 
 pub put-printed-spec : {M : Type 1} → statement M

@@ -1,7 +1,8 @@
 -- `check_slot` goes on where nothing was refused, and else stays.
 use mathlib.Core.Path.{ap, sym, _∙_}
 use borrow.Author.Needs.{needs}
-use Rattle.schedule.specs.inner.SeenFold.{byFinding, nextSlot, stepSlot}
+use Rattle.refusals.specs.Given.{ifGood}
+use Rattle.schedule.specs.inner.SeenFold.{nextSlot, stepSlot}
 use Rattle.schedule.proofs.found.check_slot.Statement.{statement}
 use Rattle.schedule.proofs.found.check_slot.Tie as tie
 
@@ -10,7 +11,7 @@ unfolding stepSlot
 goes c =
     let args = c .before .before .before .args in
     let then = nextSlot (args .load) (args .seen) (args .row) (args .step) (args .start) in
-    c .next-slot .ensures ∙ sym (ap (λ found. byFinding found (args .seen) then) (c .before .enum-told .given .1))
+    c .next-slot .ensures ∙ sym (ap (λ found. ifGood found then (args .seen)) (c .before .enum-told .given .1))
 
 stays : tie.Need-returns-2
 unfolding stepSlot
