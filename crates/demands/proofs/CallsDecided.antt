@@ -9,6 +9,7 @@ use Rattle.words.proofs.CallLaws.{
   NumberAt-unique,
   Overwrite-unique,
   LittleEndian-unique,
+  Complement-unique,
   DecimalOf-unique,
   SignedOf-unique,
 }
@@ -17,7 +18,7 @@ use Rattle.refusals.specs.declared.Checked.the-variants.{Good}
 use Rattle.refusals.specs.Refusals.{numberGiven}
 use Rattle.refusals.specs.FirstMet.{firstFault}
 use Rattle.refusals.specs.Given.{ifGood, written, roomFor, Given}
-use Rattle.refusals.proofs.CallLaws.{NumberOf-unique}
+use Rattle.refusals.proofs.CallLaws.{NumberOf-unique, NumberGiven-unique}
 use Rattle.load.specs.View.{View, viewOf}
 use Rattle.load.specs.Check.{checkLoad}
 use Rattle.load.proofs.CallLaws.{
@@ -83,9 +84,11 @@ sameness =
       overwrite = Overwrite-unique;
       bytes16 = LittleEndian-unique 2;
       bytes32 = LittleEndian-unique 4;
+      complement32 = Complement-unique 32;
       decimal-of = DecimalOf-unique;
       signed-of = SignedOf-unique;
       number-of = NumberOf-unique;
+      number-given = NumberGiven-unique;
       check-load = CheckLoad-unique;
       check-fields = CheckFields-unique;
       check-step = CheckStep-unique;
@@ -165,9 +168,11 @@ every-answer =
       overwrite = λ out at bytes. is _;
       bytes16 = λ n. is _;
       bytes32 = λ n. is _;
+      complement32 = λ z. is _;
       decimal-of = λ n. is _;
       signed-of = λ z. is _;
       number-of = λ refusal. is _;
+      number-given = λ found. is _;
       check-load = λ load. is _;
       check-fields = λ row. is _;
       check-step = λ row j. is _;

@@ -32,6 +32,8 @@ pub record Joined : Type 2 where
       (λ κs a r s. relation .bytes16 (a .0) .meets r)
   pub bytes32 : Says words.bytes32.ended (λ M. words.bytes32.spec)
       (λ κs a r s. relation .bytes32 (a .0) .meets r)
+  pub complement32 : Says words.complement32.ended (λ M. words.complement32.spec)
+      (λ κs a r s. relation .complement32 (a .0) .meets r)
   pub decimal-of : Says words.decimal_of.ended (λ M. words.decimal_of.spec)
       (λ κs a r s. relation .decimal-of (a .0) .meets r)
   pub signed-of : Says words.signed_of.ended (λ M. words.signed_of.spec)
@@ -39,6 +41,8 @@ pub record Joined : Type 2 where
   -- refusals
   pub number-of : Says refusals.number_of.ended (λ M. refusals.number_of.spec)
       (λ κs a r s. relation .number-of (a .0) .meets r)
+  pub number-given : Says refusals.number_given.ended (λ M. refusals.number_given.spec)
+      (λ κs a r s. relation .number-given (a .0) .meets r)
   -- load
   pub check-load : Says load.check_load.ended (λ M. load.check_load.spec)
       (λ κs a r s. relation .check-load (a .0) .meets r)

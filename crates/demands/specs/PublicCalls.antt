@@ -5,32 +5,20 @@ use mathlib.Core.Bool.{Bool}
 use mathlib.Core.List.{List}
 use lib.IntN.{ℤ}
 use Rattle.words.specs.declared.Word.{Word}
-use Rattle.words.specs.Calls.{ByteAt, NumberAt, Overwrite, LittleEndian, DecimalOf, SignedOf}
+use Rattle.words.specs.Calls.{ByteAt, NumberAt, Overwrite, LittleEndian, Complement}
+use Rattle.words.specs.Calls.{DecimalOf, SignedOf}
 use Rattle.refusals.specs.declared.Refusal.{Refusal}
 use Rattle.refusals.specs.declared.Checked.{Checked}
-use Rattle.refusals.specs.Calls.{NumberOf}
+use Rattle.refusals.specs.Calls.{NumberOf, NumberGiven}
 use Rattle.load.specs.declared.Identifier.{Identifier}
 use Rattle.load.specs.declared.BoxNumber.{BoxNumber}
 use Rattle.load.specs.declared.Step.{Step}
 use Rattle.load.specs.declared.Window.{Window}
 use Rattle.load.specs.declared.Row.{Row}
 use Rattle.load.specs.declared.Load.{Load}
-use Rattle.load.specs.Calls.{
-  CheckLoad,
-  CheckFields,
-  CheckStep,
-  CheckWindow,
-  IdentifierTaken,
-  BoxTaken,
-  RowAt,
-  StepAt,
-  WindowAt,
-  EmbeddedAt,
-  ChainBetween,
-  StepsIn,
-  ZeroRow,
-  ZeroLoad,
-}
+use Rattle.load.specs.Calls.{CheckLoad, CheckFields, CheckStep, CheckWindow}
+use Rattle.load.specs.Calls.{IdentifierTaken, BoxTaken, RowAt, StepAt, WindowAt, EmbeddedAt}
+use Rattle.load.specs.Calls.{ChainBetween, StepsIn, ZeroRow, ZeroLoad}
 use Rattle.load_file.specs.declared.Reading.{Reading}
 use Rattle.load_file.specs.Calls.{ReadLoad, WriteLoad}
 use Rattle.rules.specs.declared.Slot.{Slot}
@@ -66,10 +54,12 @@ pub record EveryCall {ℓ} (Claim : (A : Type 0) → (A → Type 0) → Type ℓ
   pub overwrite : (out : List ℕ) (at : ℕ) (bytes : List ℕ) → Claim (List ℕ) (Overwrite out at bytes)
   pub bytes16 : (number : ℕ) → Claim (List ℕ) (LittleEndian 2 number)
   pub bytes32 : (number : ℕ) → Claim (List ℕ) (LittleEndian 4 number)
+  pub complement32 : (number : ℤ) → Claim ℕ (Complement 32 number)
   pub decimal-of : (number : ℕ) → Claim Word (DecimalOf number)
   pub signed-of : (number : ℤ) → Claim Word (SignedOf number)
   -- refusals
   pub number-of : (refusal : Refusal) → Claim ℕ (NumberOf refusal)
+  pub number-given : (found : Checked) → Claim ℕ (NumberGiven found)
   -- load
   pub check-load : (load : Load) → Claim Checked (CheckLoad load)
   pub check-fields : (row : Row) → Claim Checked (CheckFields row)

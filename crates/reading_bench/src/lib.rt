@@ -9,24 +9,13 @@ use bound::verdict_of;
 use load_file::read_load;
 use refusals::Checked;
 use refusals::Refusal;
+use refusals::number_given;
 use refusals::number_of;
 use schedule::write_array;
 use words::bytes32;
 use words::overwrite;
-ghost use mathlib.Core.Path.{_≡_};
-ghost use Rattle.refusals.specs.Refusals.{numberGiven};
 ghost use Rattle.reading_bench.specs.Calls.{Numbered, BenchBound, BenchVerdict};
 ghost use Rattle.reading_bench.specs.Calls.{BenchMargins, BenchSchedule};
-
-// Gives the number of what was found: 0 where nothing is refused.
-fn number_given(found: Checked) -> u32
-    ensures { λ r. ⌜ r ≡ numberGiven found ⌝ }
-{
-    match found {
-        Checked::Good => 0,
-        Checked::Refused(refusal) => number_of(refusal),
-    }
-}
 
 // Gives what was found by its number; where that is nothing, writes the answer over the output's
 // front and gives 0, or gives 9 where there is no room for it. A refusal alters no byte, and bytes

@@ -5,10 +5,13 @@ use mathlib.Core.Path.{_≡_, sym, _∙_, ap}
 use Rattle.refusals.specs.declared.Refusal.{Refusal}
 use Rattle.refusals.specs.declared.Checked.{Checked}
 use Rattle.refusals.specs.Given.{ifGood, written, Given}
-use Rattle.refusals.specs.Calls.{NumberOf}
+use Rattle.refusals.specs.Calls.{NumberOf, NumberGiven}
 
 pub NumberOf-unique : (refusal : Refusal) (r s : ℕ) → NumberOf refusal r → NumberOf refusal s → r ≡ s
 NumberOf-unique refusal r s p q = p ∙ sym q
+
+pub NumberGiven-unique : (found : Checked) (r s : ℕ) → NumberGiven found r → NumberGiven found s → r ≡ s
+NumberGiven-unique found r s p q = p ∙ sym q
 
 module _ (finding : Checked) (answer out : List ℕ) (r s : Checked) (after later : List ℕ)
     (p : Given finding answer out r after) (q : Given finding answer out s later) where

@@ -1,5 +1,5 @@
 // What a call gives back when it does not do what it was asked: one refusal, with its number.
-ghost use Rattle.refusals.specs.Calls.{NumberOf};
+ghost use Rattle.refusals.specs.Calls.{NumberOf, NumberGiven};
 
 // The refusals, in the order of their numbers.
 pub enum Refusal {
@@ -50,5 +50,15 @@ pub fn number_of(refusal: Refusal) -> u32
         Refusal::SlotEarly => 15,
         Refusal::WindowLate => 16,
         Refusal::RowLate => 17,
+    }
+}
+
+// Gives the number of what a check finds; 0 where it refuses nothing.
+pub fn number_given(found: Checked) -> u32
+    ensures { λ r. ⌜ NumberGiven found r ⌝ }
+{
+    match found {
+        Checked::Good => 0,
+        Checked::Refused(refusal) => number_of(refusal),
     }
 }

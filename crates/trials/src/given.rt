@@ -5,11 +5,10 @@ use crate::input::read_things;
 use crate::input::read_whole;
 use crate::memory::LOAD_SIZE;
 use crate::memory::load_from;
-use crate::output::write_number;
+use crate::output::write_refusal;
 use load::Load;
 use load_file::read_load;
 use refusals::Checked;
-use refusals::number_of;
 
 // A load and what its reading found; not whole where the question is cut short, or the file too
 // long.
@@ -49,6 +48,6 @@ pub fn write_refused(found: Checked) -> bool {
     let Checked::Refused(refusal) = found else {
         return false;
     };
-    write_number(b"refused ", number_of(refusal));
+    write_refusal(refusal);
     true
 }

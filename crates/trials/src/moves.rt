@@ -7,12 +7,12 @@ use crate::given::Given;
 use crate::given::write_refused;
 use crate::input::read_whole;
 use crate::output::write_number;
+use crate::output::write_refusal;
 use crate::output::write_text;
 use bench::Bench;
 use bench::Moved;
 use bench::next_move;
 use load::MOST_ROWS;
-use refusals::number_of;
 use rules::Outcome;
 use words::byte_at;
 use words::number32_at;
@@ -54,7 +54,7 @@ fn write_outcome(outcome: Outcome) {
         }
         Outcome::Idle => write_text(b"idle"),
         Outcome::Done => write_text(b"done"),
-        Outcome::Refused(refusal) => write_number(b"refused ", number_of(refusal)),
+        Outcome::Refused(refusal) => write_refusal(refusal),
     }
 }
 

@@ -2,6 +2,8 @@
 use crate::input::front;
 use libc::STDOUT_FILENO;
 use refusals::Checked;
+use refusals::Refusal;
+use refusals::number_given;
 use refusals::number_of;
 use words::decimal_of;
 
@@ -18,13 +20,14 @@ pub fn write_number(text: &[u8], number: u32) {
     write_text(front(&digits, word.length));
 }
 
+// Writes `refused` and the number.
+pub fn write_refusal(refusal: Refusal) {
+    write_number(b"refused ", number_of(refusal));
+}
+
 // Writes a text and then the number of what was found, 0 for nothing.
 pub fn write_found(text: &[u8], found: Checked) {
-    let number = match found {
-        Checked::Good => 0,
-        Checked::Refused(refusal) => number_of(refusal),
-    };
-    write_number(text, number);
+    write_number(text, number_given(found));
 }
 
 // Writes a byte as two hexadecimal digits.

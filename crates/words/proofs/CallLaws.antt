@@ -9,6 +9,7 @@ use Rattle.words.specs.Calls.{
   NumberAt,
   Overwrite,
   LittleEndian,
+  Complement,
   DecimalOf,
   SignedOf,
 }
@@ -26,6 +27,9 @@ Overwrite-unique out at bytes after later p q = p ∙ sym q
 
 pub LittleEndian-unique : (width n : ℕ) (r s : List ℕ) → LittleEndian width n r → LittleEndian width n s → r ≡ s
 LittleEndian-unique width n r s p q = p ∙ sym q
+
+pub Complement-unique : (bits : ℕ) (z : ℤ) (r s : ℕ) → Complement bits z r → Complement bits z s → r ≡ s
+Complement-unique bits z r s p q = p ∙ sym q
 
 pub DecimalOf-unique : (n : ℕ) (r s : Word) → DecimalOf n r → DecimalOf n s → r ≡ s
 DecimalOf-unique n r s p q = p ∙ sym q

@@ -9,6 +9,7 @@ use lib.Seq.{sets}
 use Rattle.words.specs.declared.Word.{Word}
 use Rattle.words.specs.Decimal.{decimal, signedDecimal}
 use Rattle.words.specs.LittleEndian.{byteAt, numberAt, littleEndian}
+use Rattle.words.specs.TwosComplement.{twosComplement}
 
 -- byte_at(bs, at): the byte at a place
 abbrev pub ByteAt : List ℕ → ℕ → ℕ → Type 0
@@ -25,6 +26,10 @@ Overwrite out at bytes after = after ≡ sets out at bytes
 -- bytes16(number) and bytes32(number): the 2 and the 4 bytes of a number
 abbrev pub LittleEndian : ℕ → ℕ → List ℕ → Type 0
 LittleEndian width n r = r ≡ littleEndian width n
+
+-- complement32(number): the word of 32 bits of a whole number
+abbrev pub Complement : ℕ → ℤ → ℕ → Type 0
+Complement bits z r = r ≡ twosComplement bits z
 
 -- how many places a word has: a sign and ten digits
 abbrev pub wordPlaces : ℕ

@@ -1,5 +1,6 @@
 // Bytes and numbers: reading at any place, writing from any place on, the little-endian bytes of a
-// number and its decimal text. No call refuses: a byte past the end reads as 0, and is not written.
+// number, its two's complement and its decimal text. No call refuses: a byte past the end reads as
+// 0, and is not written.
 mod decimal;
 
 pub use decimal::decimal_of;
@@ -8,7 +9,7 @@ ghost use mathlib.Core.Path.{_≡_};
 ghost use Prim.Native.Nat.{_+_, _-_, _≤_, _<_};
 ghost use lib.ListN.{drop};
 ghost use Rattle.words.specs.LittleEndian.{byteAt};
-ghost use Rattle.words.specs.Calls.{ByteAt, NumberAt, Overwrite, LittleEndian};
+ghost use Rattle.words.specs.Calls.{ByteAt, NumberAt, Overwrite, LittleEndian, Complement};
 
 // How many places a word has: a sign and the ten digits that hold every number of 32 bits.
 pub const WORD_PLACES: usize = 11;
@@ -98,4 +99,12 @@ pub fn bytes32(number: u32) -> [u8; 4]
     let low = bytes16((number % 65536) as u16);
     let high = bytes16((number / 65536) as u16);
     [low[0], low[1], high[0], high[1]]
+}
+
+// The word of 32 bits in which a whole number is written, in two's complement.
+pub fn complement32(number: i32) -> u32
+    ensures { λ r. ⌜ Complement 32 number r ⌝ }
+{
+    let raised = number as i64 + 4294967296;
+    ((raised as u64) % 4294967296) as u32
 }

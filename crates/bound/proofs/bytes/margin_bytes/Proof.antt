@@ -58,7 +58,7 @@ written c =
     let start = turn .before .before in
     let fits = each-fits (start .args .t1) (start .good .0 .0) (turn .before .loop .i) (start .good .0 .1 .1) in
     c .bytes32 .ensures
-    ∙ ap (littleEndian 4) (c .before .margin-word .ensures ∙ ap (twosComplement 32) (toZ-ofZ fits))
+    ∙ ap (littleEndian 4) (c .before .complement32 .ensures ∙ ap (twosComplement 32) (toZ-ofZ fits))
 
 written-length : (c : tie.After-bytes32 Inv-loop μ-loop) → length (c .bytes32 .result) ≡ 4
 written-length c =

@@ -1,4 +1,4 @@
--- `margin_word` raises the margin by 2 ^ 32, so that it is not negative, and takes the lowest 32 bits.
+-- `words::complement32` raises the number by 2 ^ 32, so that it is not negative, and takes the lowest 32 bits.
 use Prim.Native.Nat.{_^_, _<_}
 use mathlib.Core.Path.{_≡_}
 use native.Mathlib.Omega.{arith}
@@ -8,9 +8,9 @@ use lib.Signed.{mag}
 use mir.Facts.{toZ-ofZ, sfits-widen}
 use mir.Syntax.{w32, w64}
 use mir.Val.{toZ, ofZ, SFits}
-use Rattle.bound.proofs.SignLaws.{raised, raised-is, raised-lt, raised-word}
-use Rattle.bound.proofs.bytes.margin_word.Statement.{statement}
-use Rattle.bound.proofs.bytes.margin_word.Tie as tie
+use Rattle.words.proofs.SignLaws.{raised, raised-is, raised-lt, raised-word}
+use Rattle.words.proofs.complement32.Statement.{statement}
+use Rattle.words.proofs.complement32.Tie as tie
 
 module _ (z : ℤ) (h : SFits w32 z) where
   narrow : toZ w32 (ofZ w32 z) ≡ z
@@ -29,25 +29,25 @@ module _ (z : ℤ) (h : SFits w32 z) where
   kept = toZ-ofZ raised-fits
 
 cast-raised : tie.Need-cast-raised
-cast-raised c = let h = c .fits .margin in rw (narrow _ h) (sfits-widen tt h)
+cast-raised c = let h = c .fits .number in rw (narrow _ h) (sfits-widen tt h)
 
 add-raised : tie.Need-add-raised
 add-raised c =
-    let h = c .fits .margin in
-    rw (narrow _ h, wide _ h, raised-is 32 (c .args .margin) (narrower _ h)) (raised-fits _ h)
+    let h = c .fits .number in
+    rw (narrow _ h, wide _ h, raised-is 32 (c .args .number) (narrower _ h)) (raised-fits _ h)
 
 cast-result : tie.Need-cast-result
 cast-result c =
-    let h = c .fits .margin in
-    rw (narrow _ h, wide _ h, raised-is 32 (c .args .margin) (narrower _ h), kept _ h)
-    (tt, omega (arith, raised-lt 32 (c .args .margin) (narrower _ h)))
+    let h = c .fits .number in
+    rw (narrow _ h, wide _ h, raised-is 32 (c .args .number) (narrower _ h), kept _ h)
+    (tt, omega (arith, raised-lt 32 (c .args .number) (narrower _ h)))
 
 returns : tie.Need-returns
 returns c =
-    let h = c .fits .margin in
-    rw (narrow _ h, wide _ h, raised-is 32 (c .args .margin) (narrower _ h), kept _ h)
-    (raised-word 32 (c .args .margin) (narrower _ h))
+    let h = c .fits .number in
+    rw (narrow _ h, wide _ h, raised-is 32 (c .args .number) (narrower _ h), kept _ h)
+    (raised-word 32 (c .args .number) (narrower _ h))
 
-pub margin-word-spec : {M : Type 1} → statement M
-margin-word-spec =
+pub complement32-spec : {M : Type 1} → statement M
+complement32-spec =
     tie.close (tie.spec cast-raised add-raised cast-result (λ c. search needs) returns)
