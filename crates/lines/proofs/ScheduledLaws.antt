@@ -1,12 +1,13 @@
 -- Slots in places, the first of which are the schedule of an accepted load: each of them names a step of the load, the
 -- last of them ends when the schedule does, and their lines are the schedule's.
 use Prim.Native.Nat.{ℕ, zero, suc, _-_, _≤_, _<_}
-use mathlib.Core.List.{List, [], _∷_, _++_, append-assoc, append-nil}
+use mathlib.Core.List.{List, [], _∷_, _++_, append-nil}
 use mathlib.Core.Path.{_≡_, refl, ap, ap₂, sym, _∙_}
 use native.Mathlib.Omega.{arith}
 use lib.ListN.{length, take}
 use lib.Seq.{take-suc, getD-take}
 use Rattle.counting.specs.Lists.{joinTo, joinIn}
+use Rattle.counting.proofs.lists.ListLaws.{joinIn-append}
 use Rattle.load.specs.declared.Load.{Load}
 use Rattle.load.specs.Load.{mostRows}
 use Rattle.load.specs.View.{View, viewOf}
@@ -35,12 +36,6 @@ lastEnd-taken L slots n l h =
     ap (λ k. lastEnd L (take k slots)) e
     ∙ ap (lastEnd L) (take-suc slots (n - 1) noSlot (omega arith))
     ∙ lastEnd-last L (take (n - 1) slots) (slotAt slots (n - 1))
-
-joinIn-append : (f : Slot → List ℕ) (xs ys : List Slot) → joinIn f (xs ++ ys) ≡ joinIn f xs ++ joinIn f ys
-unfolding joinIn
-joinIn-append f [] ys = refl
-joinIn-append f (x ∷ xs) ys =
-    ap (λ l. f x ++ l) (joinIn-append f xs ys) ∙ sym (append-assoc (f x) (joinIn f xs) (joinIn f ys))
 
 -- what is made of the slots at the first places is made of the first slots
 pub joinIn-taken : (f : Slot → List ℕ) (slots : List Slot) (n : ℕ) → n ≤ length slots

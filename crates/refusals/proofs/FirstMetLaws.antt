@@ -26,6 +26,11 @@ andThen-good-second (Refused r) b e = cc
 pub andThen-both : (a b : Checked) → a ≡ Good → b ≡ Good → andThen a b ≡ Good
 andThen-both a b p q = rw (p, q)
 
+-- nothing behind a finding
+pub andThen-last : (c : Checked) → andThen c Good ≡ c
+andThen-last Good = refl
+andThen-last (Refused r) = refl
+
 -- one test that is not met, and the others
 pub firstMet-good-first : (t : Bool × Refusal) (ts : List (Bool × Refusal)) → firstMet (t ∷ ts) ≡ Good → t .0 ≡ false
 firstMet-good-first t ts e = go (t .0) refl e

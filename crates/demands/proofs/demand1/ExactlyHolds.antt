@@ -15,6 +15,7 @@ use Rattle.refusals.specs.declared.Refusal.the-variants.{StateShape, ClockFull,
 use Rattle.refusals.specs.declared.Checked.{Checked}
 use Rattle.refusals.specs.declared.Checked.the-variants.{Good, Refused}
 use Rattle.refusals.specs.Refusals.{numberOf, numberGiven}
+use Rattle.refusals.proofs.FirstMetLaws.{andThen-last}
 use Rattle.load.specs.declared.Load.{Load}
 use Rattle.load.specs.View.{viewOf}
 use Rattle.load.specs.Check.{checkLoad}
@@ -29,7 +30,6 @@ use Rattle.rules.specs.Check.{checkSlots, checkSchedule}
 use Rattle.rules.specs.FirstBroken.{refusalFor}
 use Rattle.rules.proofs.moves.MoveRefused.{shape-refused, clock-refused}
 use Rattle.rules.proofs.check.BrokenSlot.{numbered-range}
-use Rattle.rules.proofs.check.SlotsPass.{andThen-last}
 use Rattle.rules.proofs.check.CheckGiven.{count-given, rule-given}
 use Rattle.bench.specs.declared.Bench.{Bench}
 use Rattle.bench.specs.declared.Moved.{Moved}

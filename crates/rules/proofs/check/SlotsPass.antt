@@ -11,7 +11,7 @@ use Rattle.refusals.specs.declared.Refusal.the-variants.{RowLate}
 use Rattle.refusals.specs.declared.Checked.{Checked}
 use Rattle.refusals.specs.declared.Checked.the-variants.{Good, Refused}
 use Rattle.refusals.specs.FirstMet.{firstFaultTo, andThen}
-use Rattle.refusals.proofs.FirstMetLaws.{good-firstFaultTo}
+use Rattle.refusals.proofs.FirstMetLaws.{andThen-last, good-firstFaultTo}
 use Rattle.load.specs.View.{View, stepsInAll}
 use Rattle.load.specs.Acceptable.{windowOf as windowAt}
 use Rattle.rules.specs.declared.Slot.{Slot}
@@ -30,11 +30,6 @@ firstFaultTo-late f (suc n) h = go (firstFaultTo-late f n (λ k l. h k (omega ar
     go (late e) q = late (ap (λ c. andThen c (f n)) e)
     go (good e) (late q) = late (ap₂ andThen e q)
     go (good e) (good q) = good (ap₂ andThen e q)
-
--- nothing behind a finding
-pub andThen-last : (c : Checked) → andThen c Good ≡ c
-andThen-last Good = refl
-andThen-last (Refused refusal) = refl
 
 -- with as many slots as steps, the check goes slot by slot
 pub checkSlots-counted : (L : View) (slots : List Slot) → length slots ≡ stepsInAll L

@@ -13,7 +13,7 @@ use Rattle.refusals.specs.declared.Checked.{Checked}
 use Rattle.refusals.specs.declared.Checked.the-variants.{Good, Refused}
 use Rattle.refusals.specs.FirstMet.{andThen, firstFaultTo}
 use Rattle.refusals.specs.Given.{ifGood}
-use Rattle.refusals.proofs.FirstMetLaws.{good-refused, firstFaultTo-zero}
+use Rattle.refusals.proofs.FirstMetLaws.{good-refused, andThen-last, firstFaultTo-zero}
 use Rattle.load.specs.declared.Load.{Load}
 use Rattle.load.specs.Load.{mostRows, shown}
 use Rattle.load.specs.View.{View, viewOf}
@@ -22,11 +22,11 @@ use Rattle.load.specs.Check.{checkLoad}
 use Rattle.load.proofs.AcceptableLaws.{check-acceptable, check-placed}
 use Rattle.rules.specs.declared.Slot.{Slot}
 use Rattle.rules.specs.Slots.{mostSlots, slotAt}
-use Rattle.rules.specs.Check.{checkSlots, checkSchedule}
+use Rattle.rules.specs.Check.{slotFault, checkSlots, checkSchedule}
 use Rattle.schedule.specs.declared.seen.Seen.{Seen}
 use Rattle.schedule.specs.inner.Seen.{counted, begun, foundAt}
 use Rattle.schedule.specs.inner.SeenFold.{advanced, withFound, nextSlot, stepSlot, seenOf, foldSlots}
-use Rattle.schedule.proofs.fold.SeenLaws.{testsAt, Before}
+use Rattle.schedule.proofs.fold.SeenLaws.{Before}
 use Rattle.schedule.proofs.fold.RightLaws.{tests-right}
 use Rattle.schedule.proofs.fold.StepLaws.{tests-same}
 use Rattle.schedule.proofs.fold.KeepLaws.{advanced-seen}
@@ -50,7 +50,7 @@ module _ (load : Load) (ok : Acceptable (viewOf load)) (placed : Placed load) (s
       found : Checked
       found = foundAt load seen (x .row) (x .step) (x .start)
 
-      goes : seen .found ≡ Good → (c : Checked) → testsAt L slots k ≡ c → Before L slots (suc k) then
+      goes : seen .found ≡ Good → (c : Checked) → slotFault L slots k ≡ c → Before L slots (suc k) then
       goes e (Refused r) q =
           let clean = sym (b .found-is) ∙ e in
           let f : found ≡ Refused r = tests-same load ok placed slots k seen (b .kept e) clean l ∙ q in
@@ -76,17 +76,17 @@ module _ (load : Load) (ok : Acceptable (viewOf load)) (placed : Placed load) (s
       go (Refused r) e =
           subst (Before L slots (suc k)) (sym (ap (λ c. ifGood c then seen) e))
           (record {
-            found-is = e ∙ sym (ap (λ c. andThen c (testsAt L slots k)) (sym (b .found-is) ∙ e));
+            found-is = e ∙ sym (ap (λ c. andThen c (slotFault L slots k)) (sym (b .found-is) ∙ e));
             kept = λ g. absurd (good-refused (seen .found) r g e);
           })
       go Good e =
-          subst (Before L slots (suc k)) (sym (ap (λ c. ifGood c then seen) e)) (goes e (testsAt L slots k) refl)
+          subst (Before L slots (suc k)) (sym (ap (λ c. ifGood c then seen) e)) (goes e (slotFault L slots k) refl)
 
   before-zero : begun load (length slots) .found ≡ Good → Before L slots 0 (begun load (length slots))
   unfolding begun
   before-zero e =
       record {
-        found-is = e ∙ sym (firstFaultTo-zero (testsAt L slots));
+        found-is = e ∙ sym (firstFaultTo-zero (slotFault L slots));
         kept = λ _. record {
           counts = λ i l.
               getD-replicate mostRows i 0 0 l ∙ sym (sumTo-zero (λ h. bit (eqb (slotAt slots h .row) (shown i))));
@@ -98,11 +98,11 @@ module _ (load : Load) (ok : Acceptable (viewOf load)) (placed : Placed load) (s
       }
 
   fold-from : (m k : ℕ) (seen : Seen) → k + m ≡ length slots → Before L slots k seen
-      → foldSlots load (drop k slots) seen .found ≡ firstFaultTo (testsAt L slots) (length slots)
+      → foldSlots load (drop k slots) seen .found ≡ firstFaultTo (slotFault L slots) (length slots)
   fold-from zero k seen e b =
       let k-is : k ≡ length slots = omega arith in
       ap (λ (s : Seen). s .found) (foldSlots-end load slots k seen (omega arith))
-      ∙ (b .found-is ∙ ap (firstFaultTo (testsAt L slots)) k-is)
+      ∙ (b .found-is ∙ ap (firstFaultTo (slotFault L slots)) k-is)
   fold-from (suc m) k seen e b =
       ap (λ (s : Seen). s .found) (foldSlots-next load slots k seen (omega arith))
       ∙ fold-from m (suc k) (seenOf load seen (slotAt slots k)) (omega arith) (before-next k seen b (omega arith))
@@ -116,10 +116,6 @@ fold-refused load (x ∷ rest) seen r e =
     ap (foldSlots load rest) (ap (λ c. ifGood c (nextSlot load seen (x .row) (x .step) (x .start)) seen) e)
     ∙ fold-refused load rest seen r e
 
-andThen-last : (c : Checked) → andThen c Good ≡ c
-andThen-last Good = refl
-andThen-last (Refused r) = refl
-
 pub fold-checks : (load : Load) (slots : List Slot)
     → foldSlots load slots (begun load (length slots)) .found ≡ checkSchedule load slots
 unfolding begun checkSlots checkSchedule
@@ -129,7 +125,7 @@ fold-checks load slots = go (checkLoad load) refl (counted load (length slots)) 
     start = begun load (length slots)
 
     tests : Checked
-    tests = firstFaultTo (testsAt (viewOf load) slots) (length slots)
+    tests = firstFaultTo (slotFault (viewOf load) slots) (length slots)
 
     refused : (r : Refusal) → start .found ≡ Refused r → foldSlots load slots start .found ≡ Refused r
     refused r e = ap (λ (s : Seen). s .found) (fold-refused load slots start r e) ∙ e

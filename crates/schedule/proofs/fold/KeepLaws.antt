@@ -19,18 +19,19 @@ use Rattle.load.specs.View.{viewOf}
 use Rattle.load.specs.Acceptable.{Acceptable, Placed}
 use Rattle.rules.specs.declared.Slot.{Slot}
 use Rattle.rules.specs.Slots.{mostSlots, slotAt, rowOf}
+use Rattle.rules.specs.Check.{slotFault}
 use Rattle.rules.proofs.slots.SlotLaws.{ofRow}
 use Rattle.rules.proofs.slots.NextLaws.{ofRow-lt}
 use Rattle.schedule.specs.declared.seen.Seen.{Seen}
 use Rattle.schedule.specs.inner.Seen.{startAt, withStart}
 use Rattle.schedule.specs.inner.SeenFold.{advanced}
-use Rattle.schedule.proofs.fold.SeenLaws.{testsAt, placeOf, SeenTo}
+use Rattle.schedule.proofs.fold.SeenLaws.{placeOf, SeenTo}
 use Rattle.schedule.proofs.fold.RightLaws.{Right}
 use Rattle.schedule.proofs.fold.StepLaws.{right}
 
 module _ (load : Load) (ok : Acceptable (viewOf load)) (placed : Placed load) (slots : List Slot) (k : ℕ) (seen : Seen)
     (kept : SeenTo (viewOf load) slots k seen)
-    (clean : firstFaultTo (testsAt (viewOf load) slots) k ≡ Good)
+    (clean : firstFaultTo (slotFault (viewOf load) slots) k ≡ Good)
     (mine : Right (viewOf load) slots k (slotAt slots k)) where
   abbrev x : Slot
   x = slotAt slots k

@@ -12,9 +12,8 @@ use Rattle.load.specs.View.{View}
 use Rattle.load.specs.Faults.{outside}
 use Rattle.rules.specs.declared.Slot.{Slot}
 use Rattle.rules.specs.Slots.{slotAt, rowOf}
-use Rattle.rules.specs.Check.{slotTests as ruleTests}
+use Rattle.rules.specs.Check.{slotTests as ruleTests, slotFault}
 use Rattle.rules.proofs.slots.SlotLaws.{ofRow}
-use Rattle.schedule.proofs.fold.SeenLaws.{testsAt}
 
 -- a slot names a step, and the row's next one
 pub record Right (L : View) (slots : List Slot) (k : ℕ) (x : Slot) : Type 0 where
@@ -25,7 +24,7 @@ pub record Right (L : View) (slots : List Slot) (k : ℕ) (x : Slot) : Type 0 wh
   pub next : x .step ≡ shown (ofRow slots (x .row) k)
 
 -- a slot whose tests are not met is right
-pub tests-right : (L : View) (slots : List Slot) (k : ℕ) → testsAt L slots k ≡ Good
+pub tests-right : (L : View) (slots : List Slot) (k : ℕ) → slotFault L slots k ≡ Good
     → Right L slots k (slotAt slots k)
 unfolding ruleTests
 tests-right L slots k e =

@@ -15,14 +15,14 @@ use Rattle.counting.proofs.tests.TestLaws.{true-anyTo, false-anyTo}
 use Rattle.counting.proofs.lists.MemberLaws.{anyIn-true, anyIn-false}
 use Rattle.refusals.specs.declared.Checked.{Checked}
 use Rattle.refusals.specs.declared.Checked.the-variants.{Good}
-use Rattle.refusals.specs.FirstMet.{firstMet, firstFaultTo}
+use Rattle.refusals.specs.FirstMet.{firstFaultTo}
 use Rattle.refusals.proofs.FirstFaultLaws.{firstMet-good}
 use Rattle.load.specs.declared.Load.{Load}
 use Rattle.load.specs.Load.{mostRows, mostSteps, shown}
 use Rattle.load.specs.View.{View}
 use Rattle.rules.specs.declared.Slot.{Slot}
 use Rattle.rules.specs.Slots.{mostSlots, slotAt, rowOf, stepOf, slotEnd}
-use Rattle.rules.specs.Check.{slotTests as ruleTests}
+use Rattle.rules.specs.Check.{slotFault}
 use Rattle.rules.proofs.slots.SlotLaws.{ofRow}
 use Rattle.schedule.specs.declared.seen.Seen.{Seen}
 use Rattle.schedule.specs.inner.Seen.{startAt, foundAt, slotTests}
@@ -72,10 +72,6 @@ abbrev pub endBefore : View → List Slot → ℕ → ℕ
 endBefore L slots zero = 0
 endBefore L slots (suc h) = slotEnd L (slotAt slots h)
 
--- the tests of the slot at place k
-abbrev pub testsAt : View → List Slot → ℕ → Checked
-testsAt L slots k = firstMet (ruleTests L slots k (slotAt slots k))
-
 -- the place of a slot's start in the table
 abbrev pub placeOf : Slot → ℕ
 placeOf slot = rowOf slot * mostSteps + stepOf slot
@@ -90,5 +86,5 @@ pub record SeenTo (L : View) (slots : List Slot) (k : ℕ) (seen : Seen) : Type 
   pub starts-there : length (seen .starts) ≡ mostSlots
 
 pub record Before (L : View) (slots : List Slot) (k : ℕ) (seen : Seen) : Type 0 where
-  pub found-is : seen .found ≡ firstFaultTo (testsAt L slots) k
+  pub found-is : seen .found ≡ firstFaultTo (slotFault L slots) k
   pub kept : seen .found ≡ Good → SeenTo L slots k seen

@@ -30,22 +30,30 @@ use Rattle.load.proofs.AcceptableLaws.{window-is}
 use Rattle.rules.specs.declared.Slot.{Slot}
 use Rattle.rules.specs.Ready.{release}
 use Rattle.rules.specs.Slots.{noSlot, slotAt, rowOf, stepOf, slotEnd, isFor, slotFor}
-use Rattle.rules.specs.Check.{slotTests as ruleTests, overlaps, notNext, startsEarly, endsWindowLate, endsRowLate}
+use Rattle.rules.specs.Check.{
+  slotTests as ruleTests,
+  slotFault,
+  overlaps,
+  notNext,
+  startsEarly,
+  endsWindowLate,
+  endsRowLate,
+}
 use Rattle.rules.proofs.slots.SlotLaws.{ofRow}
 use Rattle.rules.proofs.slots.NextLaws.{Ranked, countTo-ranked}
 use Rattle.schedule.specs.declared.seen.Seen.{Seen}
 use Rattle.schedule.specs.inner.Seen.{startAt, started, releasedAt, endAt, lateWindow, stepTests, foundAt}
 use Rattle.schedule.proofs.fold.RightLaws.{Right, tests-right}
-use Rattle.schedule.proofs.fold.SeenLaws.{rest-ext, names-ext, anyIn-take, endBefore, testsAt, placeOf, SeenTo}
+use Rattle.schedule.proofs.fold.SeenLaws.{rest-ext, names-ext, anyIn-take, endBefore, placeOf, SeenTo}
 
 module _ (load : Load) (ok : Acceptable (viewOf load)) (placed : Placed load) (slots : List Slot) (k : ℕ) (seen : Seen)
     (kept : SeenTo (viewOf load) slots k seen)
-    (clean : firstFaultTo (testsAt (viewOf load) slots) k ≡ Good) where
+    (clean : firstFaultTo (slotFault (viewOf load) slots) k ≡ Good) where
   abbrev L : View
   L = viewOf load
 
   pub right : (h : ℕ) → h < k → Right L slots h (slotAt slots h)
-  right h l = tests-right L slots h (firstFaultTo-good (testsAt L slots) k clean h l)
+  right h l = tests-right L slots h (firstFaultTo-good (slotFault L slots) k clean h l)
 
   -- a step of a row that stands before place k is looked up there, and the table has its start
   record There (i j : ℕ) : Type 0 where
@@ -218,7 +226,7 @@ module _ (load : Load) (ok : Acceptable (viewOf load)) (placed : Placed load) (s
           is-next e =
               eqb-true (x .step) (shown n) (not-false (eqb (x .step) (shown n)) (sym next-same ∙ e))
 
-    pub tests-same : foundAt load seen (x .row) (x .step) (x .start) ≡ testsAt L slots k
+    pub tests-same : foundAt load seen (x .row) (x .step) (x .start) ≡ slotFault L slots k
     unfolding stepTests ruleTests viewOf
     tests-same =
         names-ext (ltb (x .row) 1) (ltb (load .rows) (x .row)) (ltb mostRows (x .row)) (ltb (x .step) 1)
