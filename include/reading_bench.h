@@ -60,9 +60,9 @@ extern "C" {
  *
  * Stack: so many bytes are enough for a call, from its return address down. A program that binds
  *   names at their first use needs some 4 KiB more for its loader, once.
- * Time: bound, verdict and margins took at most 0.2 ms on every load measured. So did the schedule
- *   without windows; with them it took up to 6 ms, and on the worst load known a quarter of a
- *   second.
+ * Time: bound and margins together took at most 0.2 ms on every load measured; the verdict takes
+ *   what the margins take. The schedule without windows took as little; with them it took up to
+ *   6 ms, and on the worst load known a quarter of a second.
  */
 #define BENCH_BOUND_STACK 8192
 #define BENCH_VERDICT_STACK 10240
