@@ -66,6 +66,14 @@ def rows(text):
             yield Row(number, table, heading, dict(zip(tops, cells)))
 
 
+def sentence_findings(page, text, sentences):
+    """Each sentence stands in the page, however it is wrapped."""
+    plain = ' '.join(re.sub(r'(?m)^ \*', ' ', text).split()) + ' '
+    for sentence in sentences:
+        if sentence not in plain:
+            yield Finding(page, 1, f'should say: {sentence.strip()}')
+
+
 # What declares a name: in antt, in Rattle, in C.
 ANTT_NAMES = (re.compile(rf'^\s*(?:(?:pub|abbrev|unfoldable)\s+)*({NAME})\s+:\s', re.M),
               re.compile(rf'\b(?:record|data)\s+({NAME})'))
