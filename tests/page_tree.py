@@ -15,6 +15,9 @@ NAME = r'[^\s(){}.;,@"«»]+'
 SPAN = re.compile(r'`([^`\n]+)`')
 BLOCK = re.compile(r'^( *)(```|~~~).*?^ *\2[^\n]*$|(?:(?<=\n\n)|\A)(?: {4}[^\n]*\n)+', re.M | re.S)
 
+FENCED = re.compile(r'^( *)```[^\n]*\n(?P<text>.*?)^ *```[^\n]*$', re.M | re.S)
+INDENTED = re.compile(r'(?:(?<=\n\n)|\A)(?P<text>(?: {4}[^\n]*\n|\n(?= {4}))+)')
+
 
 class Finding(NamedTuple):
     path: str
@@ -34,6 +37,24 @@ def line_at(text, place):
 def blanked(pattern, text):
     """The text with what the pattern matches made blank, so that every place stays where it was."""
     return pattern.sub(lambda match: re.sub(r'[^\n]', ' ', match.group()), text)
+
+
+def lines_of(match, text):
+    """The lines of a block, without their indentation, and the number of the first."""
+    lines = match['text'].rstrip('\n').split('\n')
+    indent = min(len(line) - len(line.lstrip()) for line in lines if line.strip())
+    return line_at(text, match.start('text')), [line[indent:] for line in lines]
+
+
+def indented_blocks(text):
+    """The indented blocks of a page: the number of the first line, and the lines."""
+    plain = FENCED.sub(lambda match: re.sub(r'[^\n]', '', match.group()), text)
+    return [lines_of(match, plain) for match in INDENTED.finditer(plain)]
+
+
+def blocks(text):
+    """The blocks of a page, fenced and indented: the number of the first line, and the lines."""
+    return [lines_of(match, text) for match in FENCED.finditer(text)] + indented_blocks(text)
 
 
 def page_texts(root):
