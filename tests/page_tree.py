@@ -14,7 +14,7 @@ NAME = r'[^\s(){}.;,@"«»]+'
 # What stands in code letters; and blocks, in which nothing is looked up.
 SPAN = re.compile(r'`([^`\n]+)`')
 BLOCK = re.compile(r'^( *)(```|~~~).*?^ *\2[^\n]*$|(?:(?<=\n\n)|\A)(?: {4}[^\n]*\n)+', re.M | re.S)
-
+# The blocks by their kind, to read what stands in them.
 FENCED = re.compile(r'^( *)```[^\n]*\n(?P<text>.*?)^ *```[^\n]*$', re.M | re.S)
 INDENTED = re.compile(r'(?:(?<=\n\n)|\A)(?P<text>(?: {4}[^\n]*\n|\n(?= {4}))+)')
 
@@ -95,12 +95,13 @@ def sentence_findings(page, text, sentences):
             yield Finding(page, 1, f'should say: {sentence.strip()}')
 
 
-# What declares a name: in antt, in Rattle, in C.
-ANTT_NAMES = (re.compile(rf'^\s*(?:(?:pub|abbrev|unfoldable)\s+)*({NAME})\s+:\s', re.M),
-              re.compile(rf'\b(?:record|data)\s+({NAME})'))
+# What declares a name: in antt, in Rattle, in C. What a law declares for itself alone, and what C only calls, does not.
+MARKS = r'(?:(?:abbrev|unfoldable)\s+)*'
+PUBLIC = re.compile(rf'^\s*{MARKS}pub\s+({NAME})\s+:\s', re.M)
+ANTT_NAMES = (PUBLIC, re.compile(rf'^{MARKS}({NAME})\s+:\s', re.M), re.compile(rf'\b(?:record|data)\s+({NAME})'))
 RATTLE_NAMES = (re.compile(r'\b(?:fn|struct|enum|const|mod)\s+(\w+)'), re.compile(r'^\s+(?:pub\s+)?(\w+):', re.M),
                 re.compile(r'^\s+([A-Z]\w*)(?:\([^)]*\))?,$', re.M))
-C_NAMES = (re.compile(r'#define\s+(\w+)'), re.compile(r'\b(\w+)\('))
+C_NAMES = (re.compile(r'#define\s+(\w+)'), re.compile(r'^[A-Za-z_][\w ]*[ *](\w+)\(', re.M))
 COMMENT = re.compile(r'(?<!\S)(?:--|//)[^\n]*')
 FUNCTION = re.compile(r'\bpub\s+(?:extern\s+"C"\s+)?fn\s+(?P<name>\w+)\s*\((?P<given>[^)]*)\)')
 IMPLEMENTATION = re.compile(r'^impl\s+(\w+)[^{]*\{(.*?)^\}', re.M | re.S)
@@ -127,6 +128,7 @@ class Tree:
         source = re.compile(r'(crates/[^/]+/(specs|proofs|src)|include|second|host)/.*\.(antt|rt|h|c)$')
         texts = {path: read(root, path) for path in self.paths if source.match(path)}
         self.declared = {path: names_in(path, text) for path, text in texts.items()}
+        self.public = {name for path, text in texts.items() if path.endswith('.antt') for name in PUBLIC.findall(text)}
         self.comments = {path: only_comments(text) for path, text in texts.items()}
         self.below = self.names_below()
         self.names = set().union(*self.below.values())
