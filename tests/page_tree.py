@@ -98,6 +98,7 @@ def sentence_findings(page, text, sentences):
 # What declares a name: in antt, in Rattle, in C. What a law declares for itself alone, and what C only calls, does not.
 MARKS = r'(?:(?:abbrev|unfoldable)\s+)*'
 PUBLIC = re.compile(rf'^\s*{MARKS}pub\s+({NAME})\s+:\s', re.M)
+FIELD = re.compile(rf'^ +pub\s+({NAME})\s+:\s', re.M)
 ANTT_NAMES = (PUBLIC, re.compile(rf'^{MARKS}({NAME})\s+:\s', re.M), re.compile(rf'\b(?:record|data)\s+({NAME})'))
 RATTLE_NAMES = (re.compile(r'\b(?:fn|struct|enum|const|mod)\s+(\w+)'), re.compile(r'^\s+(?:pub\s+)?(\w+):', re.M),
                 re.compile(r'^\s+([A-Z]\w*)(?:\([^)]*\))?,$', re.M))
@@ -114,6 +115,12 @@ def names_in(path, text):
     return {name for pattern in patterns for name in pattern.findall(text)}
 
 
+def laws_in(path, text):
+    """The public laws of a proof, and the promises of a statement: the fields of its records."""
+    pattern = PUBLIC if '/proofs/' in path else FIELD
+    return pattern.findall(blanked(COMMENT, text)) if path.endswith('.antt') else []
+
+
 def only_comments(text):
     """The comments of a text, each on its line."""
     return '\n'.join(''.join(COMMENT.findall(line)) for line in text.split('\n'))
@@ -128,7 +135,7 @@ class Tree:
         source = re.compile(r'(crates/[^/]+/(specs|proofs|src)|include|second|host)/.*\.(antt|rt|h|c)$')
         texts = {path: read(root, path) for path in self.paths if source.match(path)}
         self.declared = {path: names_in(path, text) for path, text in texts.items()}
-        self.public = {name for path, text in texts.items() if path.endswith('.antt') for name in PUBLIC.findall(text)}
+        self.laws = {name for path, text in texts.items() for name in laws_in(path, text)}
         self.comments = {path: only_comments(text) for path, text in texts.items()}
         self.below = self.names_below()
         self.names = set().union(*self.below.values())
