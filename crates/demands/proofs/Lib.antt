@@ -1,4 +1,6 @@
 -- Why the promises hold.
+pub mod contracts
+pub mod calls
 pub mod CallsDecided
 pub mod Joined
 pub mod JoinedHolds

@@ -14,7 +14,7 @@ use contract.Monad.{Fun, fact}
 use denote.Triple.Clauses.{Ended, AtExit, closing}
 use denote.Triple.Entry.{Args, Res}
 use denote.Triple.Spec.{Spec}
-use Rattle.demands.specs.PublicCalls.{Wrote}
+use Rattle.demands.specs.FileCalls.{Wrote}
 
 -- what may be promised: of what a call is given (a), of what it gives back (r), and of what was
 -- lent to it, afterwards (s)

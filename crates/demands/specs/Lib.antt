@@ -1,4 +1,11 @@
 -- What is promised, over the very definitions that the contracts cite, and document 01's loads.
+pub mod WordCalls
+pub mod LoadCalls
+pub mod FileCalls
+pub mod BoundCalls
+pub mod BenchCalls
+pub mod ScheduleCalls
+pub mod HostCalls
 pub mod PublicCalls
 pub mod Sameness
 pub mod JoinedContract

@@ -1,0 +1,45 @@
+-- The calls on bounds and margins: each contract is its relation in BoundCalls, which a result meets, and one only.
+use mathlib.Core.Path.{refl}
+use Rattle.bound.proofs.CallLaws.{BoundOf-unique, MarginsOf-unique, VerdictOf-unique, MarginBytes-unique}
+use Rattle.demands.specs.BoundCalls.{EveryBoundCall}
+use Rattle.demands.specs.Sameness.{OneResult}
+use Rattle.demands.specs.JoinedContract.{Relation}
+use Rattle.demands.specs.Demand1.{Answer}
+use Rattle.demands.proofs.contracts.BoundContracts.{BoundContracts}
+use Rattle.demands.proofs.calls.CallAnswers.{listed, is}
+
+abbrev pub bound-relations : EveryBoundCall Relation
+bound-relations =
+    record {
+      bound-of = λ load. listed;
+      margins-of = λ load. listed;
+      verdict-of = λ load. listed;
+      margin-bytes = λ margins. listed;
+    }
+
+pub bound-contracts : BoundContracts bound-relations
+bound-contracts =
+    record {
+      bound-of = refl;
+      margins-of = refl;
+      verdict-of = refl;
+      margin-bytes = refl;
+    }
+
+pub bound-same : EveryBoundCall OneResult
+bound-same =
+    record {
+      bound-of = BoundOf-unique;
+      margins-of = MarginsOf-unique;
+      verdict-of = VerdictOf-unique;
+      margin-bytes = MarginBytes-unique;
+    }
+
+pub bound-answers : EveryBoundCall Answer
+bound-answers =
+    record {
+      bound-of = λ load. is _;
+      margins-of = λ load. is _;
+      verdict-of = λ load. is _;
+      margin-bytes = λ margins. is _;
+    }

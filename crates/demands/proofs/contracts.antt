@@ -1,0 +1,8 @@
+-- The statement that contracts and relations are one, a file a layer.
+pub mod WordContracts
+pub mod LoadContracts
+pub mod FileContracts
+pub mod BoundContracts
+pub mod BenchContracts
+pub mod ScheduleContracts
+pub mod HostContracts

@@ -1,0 +1,18 @@
+-- "What the contracts have to say": every public call on bounds and margins, once.
+-- To be read after the Calls of the crates that it names.
+use Prim.Native.Nat.{ℕ}
+use mathlib.Core.List.{List}
+use lib.IntN.{ℤ}
+use Rattle.load.specs.declared.Load.{Load}
+use Rattle.bound.specs.declared.Bounded.{Bounded}
+use Rattle.bound.specs.declared.Margined.{Margined}
+use Rattle.bound.specs.declared.Judged.{Judged}
+use Rattle.bound.specs.Calls.{BoundOf, MarginsOf, VerdictOf, MarginBytes}
+
+-- what is claimed of the relation of each call on bounds and margins, for all that it is given
+pub record EveryBoundCall {ℓ} (Claim : (A : Type 0) → (A → Type 0) → Type ℓ) : Type ℓ where
+  -- bound
+  pub bound-of : (load : Load) → Claim Bounded (BoundOf load)
+  pub margins-of : (load : Load) → Claim Margined (MarginsOf load)
+  pub verdict-of : (load : Load) → Claim Judged (VerdictOf load)
+  pub margin-bytes : (margins : List ℤ) → Claim (List ℕ) (MarginBytes margins)
