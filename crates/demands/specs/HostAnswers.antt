@@ -1,7 +1,7 @@
 -- "It lends a load file's bytes and gets the bound, margins, verdict or schedule file": what C and
 -- the program get, over any results of the calls and of the reading. To be read after PublicCalls.
 -- Rests on D47 and D49.
-use Prim.Native.Nat.{ℕ, _≤_}
+use Prim.Native.Nat.{ℕ, _+_, _≤_}
 use mathlib.Core.List.{List, [], _∷_}
 use mathlib.Core.Path.{_≡_}
 use lib.ListN.{length, take}
@@ -13,6 +13,7 @@ use Rattle.refusals.specs.Refusals.{numberOf}
 use Rattle.refusals.specs.Given.{ifGood, Given}
 use Rattle.load.specs.View.{View, viewOf}
 use Rattle.load_file.specs.declared.Reading.{Reading}
+use Rattle.load_file.specs.Records.{mostFileBytes}
 use Rattle.load_file.specs.Calls.{ReadLoad}
 use Rattle.rules.specs.Bound.{bound}
 use Rattle.rules.specs.Margins.{marginBytes, verdict}
@@ -27,7 +28,7 @@ use Rattle.reading_bench.specs.Calls.{
 }
 use Rattle.lines.specs.declared.Printed.{Printed}
 use Rattle.lines.specs.declared.Text.{Text}
-use Rattle.lines.specs.Lines.{printed, filePlaces}
+use Rattle.lines.specs.Lines.{printed}
 use Rattle.lines.specs.Calls.{textPlaces, TextOf, PrintLines}
 
 -- a call for C: of a file that is read as a load, it refuses nothing but the room, and gives that
@@ -65,7 +66,7 @@ pub record HostAnswers : Type 0 where
   -- it fits the text's places, whatever the bytes are
   pub texts-fit : (bs : List ℕ) → Bytes bs → length (printed bs) ≤ textPlaces
   -- which the first bytes decide: one more than the longest load file has
-  pub fronts : (bs : List ℕ) (r : Text) → TextOf (take filePlaces bs) r → TextOf bs r
+  pub fronts : (bs : List ℕ) (r : Text) → TextOf (take (mostFileBytes + 1) bs) r → TextOf bs r
   -- the program's lines stand in the output, and so many bytes of them are counted
   pub lines : (bs out : List ℕ) (r : Printed) (after : List ℕ) → PrintLines bs out r after
       → Given Good (printed bs) out (r .answer) after

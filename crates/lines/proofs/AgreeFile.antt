@@ -1,5 +1,6 @@
--- Two files that agree in their first 2,217 bytes, and are at least as long: a row that is Good takes at most 92 bytes,
--- so row by row no record that is due stands past these bytes, and the first faulty row is refused for the same number.
+-- Two files that agree in one byte more than the longest file has, and are at least as long: a row that is Good takes
+-- at most `mostRowBytes`, so row by row no record that is due stands past these bytes, and the first faulty row is
+-- refused for the same number.
 use Prim.Native.Nat.{ℕ, zero, suc, _+_, _*_, _≤_, _<_}
 use mathlib.Core.List.{List, [], _∷_, _++_}
 use mathlib.Core.Path.{_≡_, refl, ap, ap₂, sym, _∙_}
@@ -20,7 +21,7 @@ use Rattle.refusals.proofs.FirstMetLaws.{
 use Rattle.load.specs.declared.Row.{Row}
 use Rattle.load.specs.Load.{mostRows, mostSteps, mostWindows, rowAt}
 use Rattle.load.specs.Faults.{takenTests, stepTests, windowTests}
-use Rattle.load_file.specs.Records.{rowKind, stepKind, windowKind}
+use Rattle.load_file.specs.Records.{rowKind, stepKind, windowKind, mostRowBytes, mostFileBytes}
 use Rattle.load_file.specs.Places.{
   stepsSaid,
   windowsSaid,
@@ -47,7 +48,6 @@ use Rattle.load_file.proofs.faults.ReadingLaws.{
   own-steps-le,
   own-windows-le,
 }
-use Rattle.lines.specs.Lines.{filePlaces}
 use Rattle.lines.proofs.AgreeLaws.{
   Agree,
   dueTests-agree,
@@ -76,9 +76,9 @@ firstFaultTo-agree f g (suc m) h =
 -- where row i stands is the same, and how far that is
 pub record Placed (bs cs : List ℕ) (i : ℕ) : Type 0 where
   pub place-same : rowPlace bs i ≡ rowPlace cs i
-  pub place-le : rowPlace bs i ≤ 4 + 92 * i
+  pub place-le : rowPlace bs i ≤ 4 + mostRowBytes * i
 
-module _ (bs cs : List ℕ) (a : Agree filePlaces bs cs) where
+module _ (bs cs : List ℕ) (a : Agree (mostFileBytes + 1) bs cs) where
   pub said : rowsSaid bs ≡ rowsSaid cs
   said = a .same 3 (omega arith)
 
@@ -90,8 +90,8 @@ module _ (bs cs : List ℕ) (a : Agree filePlaces bs cs) where
       let own = andThen-good-first (ownFault bs i at) _ (sym (rowFaultAt-parts bs at i) ∙ good) in
       let steps = own-steps-le bs at i own in
       let windows = own-windows-le bs at i own in
-      let same-steps = stepsSaid-agree filePlaces bs cs a at (omega arith) in
-      let same-windows = windowsSaid-agree filePlaces bs cs a at (omega arith) in
+      let same-steps = stepsSaid-agree _ bs cs a at (omega arith) in
+      let same-windows = windowsSaid-agree _ bs cs a at (omega arith) in
       record {
         place-same =
             ap₂ (λ s w. at + 20 + 6 * s + 6 * w) same-steps same-windows
@@ -127,7 +127,7 @@ module _ (bs cs : List ℕ) (a : Agree filePlaces bs cs) where
           let e = earlier k h in
           let le = e .place-le in
           ap (λ (row : Row). row .identifier) (rowAt-read bs k (omega arith))
-          ∙ identifier-agree filePlaces bs cs a (rowPlace bs k) (omega arith)
+          ∙ identifier-agree _ bs cs a (rowPlace bs k) (omega arith)
           ∙ ap (λ p. rowFrom cs p .identifier) (e .place-same)
           ∙ sym (ap (λ (row : Row). row .identifier) (rowAt-read cs k (omega (arith, said))))
 
@@ -136,7 +136,7 @@ module _ (bs cs : List ℕ) (a : Agree filePlaces bs cs) where
           let e = earlier k h in
           let le = e .place-le in
           ap (λ (row : Row). row .«box_number») (rowAt-read bs k (omega arith))
-          ∙ box-agree filePlaces bs cs a (rowPlace bs k) (omega arith)
+          ∙ box-agree _ bs cs a (rowPlace bs k) (omega arith)
           ∙ ap (λ p. rowFrom cs p .«box_number») (e .place-same)
           ∙ sym (ap (λ (row : Row). row .«box_number») (rowAt-read cs k (omega (arith, said))))
 
@@ -148,17 +148,17 @@ module _ (bs cs : List ℕ) (a : Agree filePlaces bs cs) where
           (anyTo-ext _ _ i
           (λ k h.
           ap₂ (λ x y. eqb (x .0) (y .0)) (identifier-earlier k h)
-          (identifier-agree filePlaces bs cs a at (omega arith))))
+          (identifier-agree _ bs cs a at (omega arith))))
           (anyTo-ext _ _ i
-          (λ k h. ap₂ (λ x y. eqb (x .0) (y .0)) (box-earlier k h) (box-agree filePlaces bs cs a at (omega arith))))
+          (λ k h. ap₂ (λ x y. eqb (x .0) (y .0)) (box-earlier k h) (box-agree _ bs cs a at (omega arith))))
 
       own-agree : ownFault bs i at ≡ ownFault cs i at
       unfolding ownFault at
       own-agree =
           let le = here .place-le in
           ap₂ (λ d t. firstMet (d ++ t))
-          (ap₂ _++_ (dueTests-agree filePlaces bs cs a rowKind at (omega arith) (omega arith))
-          (rowTests-agree filePlaces bs cs a at (omega arith)))
+          (ap₂ _++_ (dueTests-agree _ bs cs a rowKind at (omega arith) (omega arith))
+          (rowTests-agree _ bs cs a at (omega arith)))
           taken-agree
 
       -- the steps and windows of a row whose own record is Good
@@ -169,12 +169,12 @@ module _ (bs cs : List ℕ) (a : Agree filePlaces bs cs) where
         windows-most : windowsSaid bs at ≤ mostWindows
         windows-most = own-windows-le bs at i good
 
-        whole : at + 92 ≤ filePlaces
+        whole : at + mostRowBytes ≤ mostFileBytes + 1
         unfolding at
         whole = let le = here .place-le in omega arith
 
         row-agree : rowFrom bs at ≡ rowFrom cs at
-        row-agree = rowFrom-agree filePlaces bs cs a at whole steps-most windows-most
+        row-agree = rowFrom-agree _ bs cs a at whole steps-most windows-most
 
         steps-agree : stepsFault bs at ≡ stepsFault cs at
         unfolding stepFaultIn
@@ -184,8 +184,8 @@ module _ (bs cs : List ℕ) (a : Agree filePlaces bs cs) where
             firstFaultTo-ext (stepFaultIn bs at) (stepFaultIn cs at) (stepsSaid bs at)
             (λ j h.
             ap₂ (λ d row. firstMet (d ++ stepTests row j))
-            (dueTests-agree filePlaces bs cs a stepKind (stepPlace at j) (omega arith) (omega arith)) row-agree)
-            ∙ ap (firstFaultTo (stepFaultIn cs at)) (stepsSaid-agree filePlaces bs cs a at (omega arith))
+            (dueTests-agree _ bs cs a stepKind (stepPlace at j) (omega arith) (omega arith)) row-agree)
+            ∙ ap (firstFaultTo (stepFaultIn cs at)) (stepsSaid-agree _ bs cs a at (omega arith))
 
         windows-agree : windowsFault bs at ≡ windowsFault cs at
         unfolding windowFaultIn
@@ -196,10 +196,10 @@ module _ (bs cs : List ℕ) (a : Agree filePlaces bs cs) where
             firstFaultTo-ext (windowFaultIn bs at) (windowFaultIn cs at) (windowsSaid bs at)
             (λ k h.
             ap₂ (λ d row. firstMet (d ++ windowTests row k))
-            (dueTests-agree filePlaces bs cs a windowKind (windowPlace bs at k) (omega arith) (omega arith)
-            ∙ ap (dueTests windowKind cs) (windowPlace-agree filePlaces bs cs a at whole steps-most windows-most k))
+            (dueTests-agree _ bs cs a windowKind (windowPlace bs at k) (omega arith) (omega arith)
+            ∙ ap (dueTests windowKind cs) (windowPlace-agree _ bs cs a at whole steps-most windows-most k))
             row-agree)
-            ∙ ap (firstFaultTo (windowFaultIn cs at)) (windowsSaid-agree filePlaces bs cs a at (omega arith))
+            ∙ ap (firstFaultTo (windowFaultIn cs at)) (windowsSaid-agree _ bs cs a at (omega arith))
 
       pub row-fault-agree : rowFaultIn bs i ≡ rowFaultIn cs i
       unfolding at

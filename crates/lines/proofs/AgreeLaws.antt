@@ -17,7 +17,7 @@ use Rattle.load.specs.declared.Window.{Window}
 use Rattle.load.specs.declared.Row.{Row}
 use Rattle.load.specs.Load.{mostSteps, mostWindows, noStep, noWindow}
 use Rattle.load.specs.Faults.{rowTests}
-use Rattle.load_file.specs.Records.{Kind}
+use Rattle.load_file.specs.Records.{Kind, mostRowBytes}
 use Rattle.load_file.specs.Places.{
   stepIn,
   windowIn,
@@ -107,7 +107,7 @@ module _ (n : ℕ) (bs cs : List ℕ) (a : Agree n bs cs) where
       (numberAt-agree 2 (at + 4) (omega arith))
 
   -- a row that announces no more steps and windows than a row has
-  module _ (at : ℕ) (whole : at + 92 ≤ n) (steps : stepsSaid bs at ≤ mostSteps)
+  module _ (at : ℕ) (whole : at + mostRowBytes ≤ n) (steps : stepsSaid bs at ≤ mostSteps)
       (windows : windowsSaid bs at ≤ mostWindows) where
     pub windowPlace-agree : (k : ℕ) → windowPlace bs at k ≡ windowPlace cs at k
     windowPlace-agree k = ap (λ s. stepPlace at s + 6 * k) (stepsSaid-agree at (omega arith))

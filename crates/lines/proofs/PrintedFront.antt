@@ -1,5 +1,5 @@
--- What is printed for a file is what is printed for its first 2,217 bytes: a file of 2,217 bytes or more is refused,
--- and for the number for which these bytes are. So the program need not read further.
+-- What is printed for a file is what is printed for its first bytes, one more than the longest file has: a file of so
+-- many or more is refused, and for the number for which these bytes are. So the program need not read further.
 use Prim.Native.Nat.{ℕ, _+_, _≤_, _<_}
 use mathlib.Core.Bool.{not}
 use mathlib.Core.List.{List, [], _∷_, _++_}
@@ -26,12 +26,12 @@ use Rattle.refusals.proofs.FirstMetLaws.{
 use Rattle.refusals.proofs.FirstFaultLaws.{firstMet-good}
 use Rattle.load.specs.Load.{mostRows}
 use Rattle.load.specs.View.{viewOf, stepsInAll}
-use Rattle.load_file.specs.Records.{headerKind, endKind, version}
+use Rattle.load_file.specs.Records.{headerKind, endKind, version, mostFileBytes}
 use Rattle.load_file.specs.Places.{stepsSaid, rowPlace, rowsSaid, loadIn}
 use Rattle.load_file.specs.Reading.{dueTests, headerTests, rowFaultIn, endTests, fileFault}
 use Rattle.load_file.proofs.faults.ReadingLaws.{stepsInAll-read}
 use Rattle.load_file.proofs.faults.ReadingRowsLaws.{header-rows-le}
-use Rattle.lines.specs.Lines.{printed, filePlaces}
+use Rattle.lines.specs.Lines.{printed}
 use Rattle.lines.proofs.PrintedLaws.{printed-refused}
 use Rattle.lines.proofs.AgreeLaws.{Agree, numberAt-agree, dueTests-agree, stepsSaid-agree}
 use Rattle.lines.proofs.AgreeFile.{
@@ -43,12 +43,12 @@ use Rattle.lines.proofs.AgreeFile.{
   row-fault-agree,
 }
 
-module _ (bs cs : List ℕ) (a : Agree filePlaces bs cs) where
+module _ (bs cs : List ℕ) (a : Agree (mostFileBytes + 1) bs cs) where
   header-agree : headerTests bs ≡ headerTests cs
   unfolding headerTests
   header-agree =
       ap (λ due. due ++ (not (eqb (byteAt bs 2) version), MarkDiffers) ∷ (ltb mostRows (rowsSaid bs), OutOfRange) ∷ [])
-      (dueTests-agree filePlaces bs cs a headerKind 0 (omega arith) (omega arith))
+      (dueTests-agree _ bs cs a headerKind 0 (omega arith) (omega arith))
       ∙ ap₂
       (λ v r. dueTests headerKind cs 0 ++ (not (eqb v version), MarkDiffers) ∷ (ltb mostRows r, OutOfRange) ∷ [])
       (a .same 2 (omega arith)) (said bs cs a)
@@ -79,7 +79,7 @@ module _ (bs cs : List ℕ) (a : Agree filePlaces bs cs) where
             (λ j h. firstFaultTo-good (rowFaultIn bs) (rowsSaid bs) good j (omega arith)) in
             let p = placed bs cs a i (omega arith) so-far in
             let le = p .place-le in
-            stepsSaid-agree filePlaces bs cs a (rowPlace bs i) (omega arith) ∙ ap (stepsSaid cs) (p .place-same)
+            stepsSaid-agree _ bs cs a (rowPlace bs i) (omega arith) ∙ ap (stepsSaid cs) (p .place-same)
 
     ends-agree : endTests bs (rowPlace bs (rowsSaid bs)) ≡ endTests cs (rowPlace cs (rowsSaid cs))
     unfolding endTests
@@ -91,8 +91,8 @@ module _ (bs cs : List ℕ) (a : Agree filePlaces bs cs) where
         let count = stepsInAll (viewOf (loadIn bs)) in
         let more = ltb (at + 4) (length bs) in
         ap₂ (λ due n. due ++ (not (eqb n count), EndDiffers) ∷ (more, EndDiffers) ∷ [])
-        (dueTests-agree filePlaces bs cs a endKind at (omega arith) (omega arith))
-        (numberAt-agree filePlaces bs cs a 2 (at + 2) (omega arith))
+        (dueTests-agree _ bs cs a endKind at (omega arith) (omega arith))
+        (numberAt-agree _ bs cs a 2 (at + 2) (omega arith))
         ∙ ap₂
         (λ n t. dueTests endKind cs at ++ (not (eqb (numberAt 2 cs (at + 2)) n), EndDiffers) ∷ (t, EndDiffers) ∷ [])
         counts-agree (first-more ∙ sym second-more)
@@ -130,14 +130,14 @@ module _ (bs cs : List ℕ) (a : Agree filePlaces bs cs) where
       go (Refused refusal) e =
           printed-refused bs refusal e ∙ sym (printed-refused cs refusal (sym file-agree ∙ e))
 
--- the first 2,217 bytes are enough
-pub printed-front : (bs : List ℕ) → printed bs ≡ printed (take filePlaces bs)
+-- one byte more than the longest file has is enough
+pub printed-front : (bs : List ℕ) → printed bs ≡ printed (take (mostFileBytes + 1) bs)
 printed-front bs =
-    elim (decLt filePlaces (length bs)) [
-      | yes l ↦ printed-agree bs (take filePlaces bs) (record {
-        same = λ k h. sym (getD-take filePlaces bs k 0 h);
+    elim (decLt mostFileBytes (length bs)) [
+      | yes l ↦ printed-agree bs (take (mostFileBytes + 1) bs) (record {
+        same = λ k h. sym (getD-take (mostFileBytes + 1) bs k 0 h);
         first-long = omega arith;
-        second-long = omega (arith, length-take-le filePlaces bs (omega arith));
+        second-long = omega (arith, length-take-le (mostFileBytes + 1) bs (omega arith));
       })
-      | no l ↦ ap printed (sym (take-all filePlaces bs (omega arith)))
+      | no l ↦ ap printed (sym (take-all (mostFileBytes + 1) bs (omega arith)))
     ]

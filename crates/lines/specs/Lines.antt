@@ -1,5 +1,5 @@
 -- "The program": the lines that it prints for a load file, as bytes. Rests on D24.
-use Prim.Native.Nat.{ℕ, _+_, _*_}
+use Prim.Native.Nat.{ℕ}
 use Prim.Native.String.{String}
 use mathlib.Core.Bool.{Bool, cond}
 use mathlib.Core.List.{List, [], _∷_, _++_}
@@ -11,9 +11,8 @@ use Rattle.refusals.specs.declared.Checked.the-variants.{Good, Refused}
 use Rattle.refusals.specs.Refusals.{numberOf}
 use Rattle.load.specs.declared.Row.{Row}
 use Rattle.load.specs.declared.Load.{Load}
-use Rattle.load.specs.Load.{mostRows, mostSteps, mostWindows, rowAt, shown}
+use Rattle.load.specs.Load.{rowAt, shown}
 use Rattle.load.specs.View.{View, viewOf, stepsInAll}
-use Rattle.load_file.specs.Records.{headerKind, rowKind, stepKind, windowKind, endKind}
 use Rattle.load_file.specs.Places.{loadIn}
 use Rattle.load_file.specs.Reading.{fileFault}
 use Rattle.rules.specs.declared.Slot.{Slot}
@@ -79,12 +78,3 @@ refusedLine refusal = line "refused" (decimal (numberOf refusal) ∷ [])
 unfoldable pub printed : List ℕ → List ℕ
 printed bs =
     elim (fileFault bs) [ Good ↦ loadLines (loadIn bs) | Refused refusal ↦ refusedLine refusal ]
-
--- how many bytes of a file decide what is printed: one more than the longest load file has, that of
--- 24 rows with 8 steps and 4 windows each
-abbrev pub filePlaces : ℕ
-filePlaces =
-    headerKind .size
-    + mostRows * (rowKind .size + mostSteps * stepKind .size + mostWindows * windowKind .size)
-    + endKind .size
-    + 1

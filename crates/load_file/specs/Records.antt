@@ -1,11 +1,12 @@
 -- "Load file", the table: the mark that opens each record, how long the record is, and the bytes of
 -- each record.
-use Prim.Native.Nat.{ℕ}
+use Prim.Native.Nat.{ℕ, _+_, _*_}
 use mathlib.Core.List.{List, [], _∷_, _++_}
 use Rattle.words.specs.LittleEndian.{littleEndian}
 use Rattle.load.specs.declared.Step.{Step}
 use Rattle.load.specs.declared.Window.{Window}
 use Rattle.load.specs.declared.Row.{Row}
+use Rattle.load.specs.Load.{mostRows, mostSteps, mostWindows}
 
 -- a mark of two bytes, and how many bytes its record has, the mark counted
 pub record Kind : Type 0 where
@@ -36,6 +37,14 @@ endKind = record { mark₁ = 0x45; mark₂ = 0x4E; size = 4 }
 -- the version that files have
 abbrev pub version : ℕ
 version = 1
+
+-- the most bytes that a row has with its steps and its windows
+abbrev pub mostRowBytes : ℕ
+mostRowBytes = rowKind .size + mostSteps * stepKind .size + mostWindows * windowKind .size
+
+-- the most bytes that a load file has: 4 + 24 x (20 + 8 x 6 + 4 x 6) + 4
+abbrev pub mostFileBytes : ℕ
+mostFileBytes = headerKind .size + mostRows * mostRowBytes + endKind .size
 
 -- a record: its mark, then its fields
 abbrev pub recordOf : Kind → List ℕ → List ℕ

@@ -8,6 +8,7 @@ mod writing;
 
 use load::Load;
 pub use read::read_load;
+pub use records::MOST_FILE_BYTES;
 use refusals::Checked;
 pub use writing::write_load;
 

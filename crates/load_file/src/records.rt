@@ -1,5 +1,8 @@
 // The records of a load file: the mark that opens each, how long it is, and its bytes. No call
 // refuses.
+use load::MOST_ROWS;
+use load::MOST_STEPS;
+use load::MOST_WINDOWS;
 use load::Row;
 use load::Step;
 use load::Window;
@@ -33,6 +36,12 @@ pub const STEP_SIZE: usize = 6;
 pub const WINDOW_SIZE: usize = 6;
 
 pub const END_SIZE: usize = 4;
+
+// The most bytes that a row has with its steps and its windows.
+pub const MOST_ROW_BYTES: usize = ROW_SIZE + MOST_STEPS * STEP_SIZE + MOST_WINDOWS * WINDOW_SIZE;
+
+// The most bytes that a load file has.
+pub const MOST_FILE_BYTES: usize = HEADER_SIZE + MOST_ROWS * MOST_ROW_BYTES + END_SIZE;
 
 // The version that files have.
 pub const VERSION: u8 = 1;

@@ -21,7 +21,12 @@ ghost use lib.Seq.{sets};
 ghost use Rattle.counting.specs.Lists.{joinTo};
 ghost use Rattle.load.specs.Load.{mostSteps, mostWindows, rowAt, stepAt, windowAt};
 ghost use Rattle.load.specs.Check.{checkLoad};
-ghost use Rattle.load_file.specs.Records.{headerKind, stepRecord, windowRecord};
+ghost use Rattle.load_file.specs.Records.{
+  headerKind,
+  mostFileBytes,
+  stepRecord,
+  windowRecord,
+};
 ghost use Rattle.load_file.specs.Writing.{rowBytes, loadBytes};
 ghost use Rattle.load_file.specs.Calls.{WriteLoad};
 
@@ -53,7 +58,7 @@ fn write_windows(out: &mut [u8], at: usize, row: Row)
 
 // Writes a row with its steps and then its windows from a place on.
 fn write_row(out: &mut [u8], at: usize, row: Row)
-    requires { ⌜ (at ≤ 2216) × (row .steps ≤ mostSteps) × (row .windows ≤ mostWindows) ⌝ }
+    requires { ⌜ (at ≤ mostFileBytes) × (row .steps ≤ mostSteps) × (row .windows ≤ mostWindows) ⌝ }
     ensures { λ _. ⌜ now (out .exit) ≡ sets (now (out .entry)) at (rowBytes row) ⌝ }
 {
     let record = row_record(row);

@@ -5,13 +5,14 @@ use libc::STDIN_FILENO;
 use libc::STDOUT_FILENO;
 use lines::Text;
 use lines::text_of;
+use load_file::MOST_FILE_BYTES;
 ghost use Prim.Native.Nat.{_≤_};
 ghost use lib.ListN.{length};
 ghost use Rattle.report.specs.Program.{Answer};
 
 // One byte more than the longest load file has: for a longer file the same is printed as for so
 // many of its bytes.
-const FILE_PLACES: usize = 2217;
+const FILE_PLACES: usize = MOST_FILE_BYTES + 1;
 
 // Gives all that is printed for the input of which so many first bytes were read.
 fn answer(file: [u8; FILE_PLACES], size: usize) -> Text

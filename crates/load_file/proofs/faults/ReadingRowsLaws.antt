@@ -29,6 +29,7 @@ use Rattle.load.specs.declared.Row.{Row}
 use Rattle.load.specs.Load.{mostRows, mostSteps, mostWindows, zeroRow, zeroLoad}
 use Rattle.load.specs.View.{viewOf, stepsInAll}
 use Rattle.load_file.specs.declared.read_row.RowReading.{RowReading}
+use Rattle.load_file.specs.Records.{mostRowBytes}
 use Rattle.load_file.specs.Places.{
   stepsSaid,
   windowsSaid,
@@ -51,7 +52,7 @@ pub record RowsRead (bs : List ℕ) (i : ℕ) (identifiers : List Identifier) (b
   pub before : RowsBefore bs i identifiers boxes
   pub rows-are : rows ≡ filled (λ k. rowFrom bs (rowPlace bs k)) i mostRows zeroRow
   pub place-is : at ≡ rowPlace bs i
-  pub place-le : at ≤ 4 + 92 * i
+  pub place-le : at ≤ 4 + mostRowBytes * i
   pub steps-are : steps ≡ sumTo (λ k. stepsSaid bs (rowPlace bs k)) i
   pub steps-le : steps ≤ 8 * i
 

@@ -25,6 +25,8 @@ use Rattle.load.specs.declared.Load.{Load}
 use Rattle.load.specs.Load.{rowAt, stepAt, windowAt}
 use Rattle.load.specs.View.{viewOf, stepsInAll}
 use Rattle.load_file.specs.Records.{
+  mostRowBytes,
+  mostFileBytes,
   headerRecord,
   rowRecord,
   stepRecord,
@@ -140,12 +142,12 @@ loadBytes-length load =
 -- a load whose check refuses nothing has at most 24 rows of at most 8 steps and 4 windows
 pub loadBytes-length-le : (load : Load) → load .rows ≤ 24
     → ((i : ℕ) → i < load .rows → (rowAt load i .steps ≤ 8) × (rowAt load i .windows ≤ 4))
-    → length (loadBytes load) ≤ 2216
+    → length (loadBytes load) ≤ mostFileBytes
 loadBytes-length-le load few small =
-    let row-le : (i : ℕ) → i < load .rows → rowSize (rowAt load i) ≤ 92 =
+    let row-le : (i : ℕ) → i < load .rows → rowSize (rowAt load i) ≤ mostRowBytes =
     λ i l. omega (arith, small i l .0, small i l .1) in
-    let sum-le : sumTo (λ i. rowSize (rowAt load i)) (load .rows) ≤ load .rows * 92 =
-    sumTo-le (λ i. rowSize (rowAt load i)) (load .rows) 92 row-le in
+    let sum-le : sumTo (λ i. rowSize (rowAt load i)) (load .rows) ≤ load .rows * mostRowBytes =
+    sumTo-le (λ i. rowSize (rowAt load i)) (load .rows) mostRowBytes row-le in
     omega (arith, loadBytes-length load)
 
 -- the next row stands behind a row's bytes, where the counts that are read are the row's

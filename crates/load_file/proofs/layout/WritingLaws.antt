@@ -16,7 +16,14 @@ use Rattle.load.specs.declared.Load.{Load}
 use Rattle.load.specs.Load.{mostRows, mostSteps, mostWindows, rowAt, stepAt, windowAt}
 use Rattle.load.specs.View.{viewOf, stepsInAll}
 use Rattle.load.specs.Check.{checkLoad}
-use Rattle.load_file.specs.Records.{headerRecord, rowRecord, stepRecord, windowRecord, endRecord}
+use Rattle.load_file.specs.Records.{
+  mostRowBytes,
+  headerRecord,
+  rowRecord,
+  stepRecord,
+  windowRecord,
+  endRecord,
+}
 use Rattle.load_file.specs.Writing.{rowBytes, loadBytes}
 use Rattle.load_file.proofs.layout.FieldLaws.{rowRecord-length, stepRecord-length, endRecord-length}
 use Rattle.load_file.proofs.layout.PlaceLaws.{rowBytes-length}
@@ -52,13 +59,13 @@ module _ (load : Load) (good : checkLoad load ≡ Good) where
     pub windows-le : rowAt load i .windows ≤ mostWindows
     windows-le = fields-windows-le (rowAt load i) (checkLoad-good load good .each-row-good i l .fields-good)
 
-    pub rowBytes-length-le : length (rowBytes (rowAt load i)) ≤ 92
+    pub rowBytes-length-le : length (rowBytes (rowAt load i)) ≤ mostRowBytes
     rowBytes-length-le = omega (arith, rowBytes-length (rowAt load i), steps-le, windows-le)
 
-  pub rowsBytes-length-le : (n : ℕ) → n ≤ load .rows → length (rowsBytes load n) ≤ n * 92
+  pub rowsBytes-length-le : (n : ℕ) → n ≤ load .rows → length (rowsBytes load n) ≤ n * mostRowBytes
   rowsBytes-length-le n h =
       rw joinTo-length
-      (sumTo-le (λ i. length (rowBytes (rowAt load i))) n 92 (λ i l. rowBytes-length-le i (omega arith)))
+      (sumTo-le (λ i. length (rowBytes (rowAt load i))) n mostRowBytes (λ i l. rowBytes-length-le i (omega arith)))
 
 -- a row's own record, its steps and its windows, written one behind the other
 pub row-written : (row : Row) (out after-own after-steps after : List ℕ) (at : ℕ)

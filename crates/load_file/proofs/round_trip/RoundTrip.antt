@@ -1,6 +1,6 @@
 -- Demand 2 for load files: the witness of the round trip, and what follows from it. An accepted file reads to one
--- load, which is written back to the same bytes; a written load reads back as itself; and a file has at most 2,216
--- bytes.
+-- load, which is written back to the same bytes; a written load reads back as itself; and a file has at most
+-- `mostFileBytes` bytes.
 use Prim.Native.Nat.{ℕ, _≤_}
 use mathlib.Core.List.{List}
 use mathlib.Core.Path.{_≡_, refl, ap, sym, _∙_}
@@ -10,6 +10,7 @@ use Rattle.refusals.specs.declared.Checked.the-variants.{Good}
 use Rattle.load.specs.declared.Load.{Load}
 use Rattle.load.specs.Load.{rowAt}
 use Rattle.load.specs.Check.{checkLoad}
+use Rattle.load_file.specs.Records.{mostFileBytes}
 use Rattle.load_file.specs.Writing.{loadBytes}
 use Rattle.load_file.specs.Places.{loadIn}
 use Rattle.load_file.specs.Reading.{fileFault, readLoad}
@@ -88,7 +89,7 @@ write-read load held good =
     round-trip .write-read (loadBytes load) load (record { held = held; good = good; file = refl }) .reads
 
 -- the longest file: 24 rows of 8 steps and 4 windows
-pub loadBytes-le : (load : Load) → checkLoad load ≡ Good → length (loadBytes load) ≤ 2216
+pub loadBytes-le : (load : Load) → checkLoad load ≡ Good → length (loadBytes load) ≤ mostFileBytes
 loadBytes-le load h =
     let g = checkLoad-good load h in
     loadBytes-length-le load (g .few-rows)

@@ -1,11 +1,13 @@
--- `report::answer` makes the text of the bytes that were read. An input of which they are the first 2,217 has the same
--- text.
+-- `report::answer` makes the text of the bytes that were read. An input of which they are the first, one more than the
+-- longest load file has, has the same text.
+use Prim.Native.Nat.{_+_}
 use mathlib.Core.Path.{_≡_, ap, sym, _∙_}
 use native.Mathlib.Omega.{arith}
 use borrow.Author.Needs.{needs}
 use lib.ListN.{length, take}
 use lib.Seq.{length-take-le}
-use Rattle.lines.specs.Lines.{printed, filePlaces}
+use Rattle.load_file.specs.Records.{mostFileBytes}
+use Rattle.lines.specs.Lines.{printed}
 use Rattle.lines.specs.Calls.{textHolding}
 use Rattle.lines.proofs.PrintedFront.{printed-front}
 use Rattle.report.proofs.answer.Statement.{statement}
@@ -17,7 +19,7 @@ counted c = sym (length-take-le _ _ (search needs))
 returns : tie.Need-returns
 returns c input first =
     let file = c .before .before .args .t1 in
-    let enough : length file ≡ filePlaces = omega arith in
+    let enough : length file ≡ mostFileBytes + 1 = omega arith in
     c .text-of .ensures
     ∙ ap textHolding (ap printed (first ∙ ap (λ n. take n input) enough) ∙ sym (printed-front input))
 
