@@ -34,11 +34,11 @@ use Rattle.bench.specs.declared.Board.{Board}
 use Rattle.bench.specs.Held.{stateOf}
 use Rattle.bench.specs.inner.Looks.{further}
 use Rattle.bench.specs.inner.Boards.{lookIn, Wide, Shows}
-use Rattle.bench.specs.inner.Stacks.{planBy}
+use Rattle.bench.specs.inner.Stacks.{planIn}
 use Rattle.bench.specs.inner.Choices.{belowIn, candidateIn, openingIn, openAfter, passesIn, ChosenIn}
 use Rattle.bench.proofs.shown.StoreLaws.{stored}
 use Rattle.bench.proofs.choice.JoinLaws.{
-  planBy-is,
+  planIn-is,
   rows-are,
   finished-same,
   steps-same,
@@ -126,12 +126,12 @@ module _ (load : Load) (bench : Bench) (board : Board) (shows : Shows load bench
     pub passes-same : rows ≤ 24 → passesIn board (bench .clock) rows i ≡ passes L s i
     unfolding passesIn passes
     passes-same most =
-        ap (λ t. planBy (record { waiting = openAfter board i; time = t })
+        ap (λ t. planIn (record { waiting = openAfter board i; time = t })
         (set (board .release) i (t + lookIn board i .wait))
         (set (board .left) i (lookIn board i .rest))
         (set (board .due) i (opening + lookIn board i .limit))
         rows) end-is
-        ∙ planBy-is L after rows (rows-are load bench board shows)
+        ∙ planIn-is L after rows (rows-are load bench board shows)
         (openAfter board i)
         (set (board .release) i (after .clock + lookIn board i .wait))
         (set (board .left) i (lookIn board i .rest))
@@ -139,7 +139,7 @@ module _ (load : Load) (bench : Bench) (board : Board) (shows : Shows load bench
         (open-after most)
         (λ k b. stored 0 (λ k a. a ≡ released L after k) (board .release) i _ (omega (arith, wide .release-length))
         (ap₂ _+_ (started-clock L s i cost) (wait-same load bench board shows i l) ∙ sym (released-same L s i cost)) k
-        (λ ne. release-same load bench board shows k b ∙ sym (job-other L s i cost k ne .released-same)))
+        (λ ne. release-same load bench board shows k b ∙ sym (job-other L s i cost k ne .release-same)))
         (λ k b. stored 0 (λ k a. a ≡ windowLeft L after k) (board .left) i _ (omega (arith, wide .left-length))
         rest-after k
         (λ ne. left-same load bench board shows k b ∙ sym (job-other L s i cost k ne .left-same)))

@@ -2,26 +2,22 @@
 -- its bench has of a row is, number by number, what the rules say of it.
 use Prim.Native.Nat.{ℕ, _<_}
 use mathlib.Core.Bool.{Bool}
-use mathlib.Core.List.{List, [], _∷_}
+use mathlib.Core.List.{List}
 use mathlib.Core.Path.{_≡_, refl, ap, sym, _∙_}
 use Rattle.counting.specs.Lists.{memberAt, isMarked}
-use Rattle.counting.proofs.sorting.SortLaws.{Every}
-use Rattle.counting.proofs.sorting.KeyLaws.{sorted-same}
 use Rattle.load.specs.declared.Load.{Load}
 use Rattle.load.specs.View.{View, viewOf}
 use Rattle.rules.specs.State.{State, isOpen, openWindow}
 use Rattle.rules.specs.Ready.{released}
-use Rattle.rules.specs.Plan.{due, stack, windowLeft, finish, inTime, planPasses}
-use Rattle.rules.proofs.plan.PlanLaws.{inTime-next, inTime-none}
-use Rattle.rules.proofs.plan.StackLaws.{every-stack}
+use Rattle.rules.specs.Plan.{planBy, due, windowLeft, jobs, planPasses}
+use Rattle.rules.proofs.plan.StackLaws.{planBy-ext}
 use Rattle.bench.specs.declared.Bench.{Bench}
 use Rattle.bench.specs.declared.Look.{Look}
 use Rattle.bench.specs.declared.Board.{Board}
 use Rattle.bench.specs.Held.{stateOf}
 use Rattle.bench.specs.inner.Looks.{further, lookOf}
 use Rattle.bench.specs.inner.Boards.{lookIn, Shows}
-use Rattle.bench.specs.inner.Stacks.{inTimeBy, stackBy, planBy}
-use Rattle.bench.proofs.choice.StackLaws.{inTimeBy-none, inTimeBy-next}
+use Rattle.bench.specs.inner.Stacks.{jobsIn, planIn}
 
 -- the plan over lists that agree with a state is the plan of that state
 module _ (L : View) (s : State) (rows : ℕ) (rows-are : L .rows ≡ rows)
@@ -30,24 +26,16 @@ module _ (L : View) (s : State) (rows : ℕ) (rows-are : L .rows ≡ rows)
     (releases : (k : ℕ) → k < rows → memberAt release k ≡ released L s k)
     (lefts : (k : ℕ) → k < rows → memberAt left k ≡ windowLeft L s k)
     (dues : (k : ℕ) → k < rows → memberAt due′ k ≡ due L s k) where
-  along : (t : ℕ) (list : List ℕ) → Every (λ k. k < rows) list
-      → inTimeBy (memberAt release) (memberAt left) (memberAt due′) t list ≡ inTime L s t list
-  along t [] e = inTimeBy-none (memberAt release) (memberAt left) (memberAt due′) t ∙ sym (inTime-none L s t)
-  along t (i ∷ rest) e =
-      inTimeBy-next (memberAt release) (memberAt left) (memberAt due′) t i rest
-      ∙ rw (releases i (e .0), lefts i (e .0), dues i (e .0), along (finish L s t i) rest (e .1))
-      (sym (inTime-next L s t i rest))
-
-  pub planBy-is : (t : ℕ) → planBy (record { waiting = waiting; time = t }) release left due′ rows ≡ planPasses L s t
-  unfolding stack
-  planBy-is t =
-      ap (inTimeBy (memberAt release) (memberAt left) (memberAt due′) t) stacks
-      ∙ along t (stack L s) (every-stack L s (λ k. k < rows) (λ i l o. rw (sym rows-are) l))
-    where
-      stacks : stackBy (isMarked waiting) (memberAt due′) rows ≡ stack L s
-      stacks =
-          sorted-same (memberAt due′) (due L s) (isMarked waiting) (isOpen L s) rows opens (λ i l o. dues i l)
-          ∙ ap (stackBy (isOpen L s) (due L s)) (sym rows-are)
+  pub planIn-is : (t : ℕ) → planIn (record { waiting = waiting; time = t }) release left due′ rows ≡ planPasses L s t
+  planIn-is t =
+      planBy-ext (isMarked waiting) (isOpen L s) (jobsIn release left due′) (jobs L s) rows t opens
+      (λ k l o. record {
+        key-same = dues k l;
+        release-same = releases k l;
+        left-same = lefts k l;
+        due-same = dues k l;
+      })
+      ∙ ap (λ n. planBy (isOpen L s) (jobs L s) n t) (sym rows-are)
 
 module _ (load : Load) (bench : Bench) (board : Board) (shows : Shows load bench board) where
   abbrev L : View

@@ -12,7 +12,7 @@ use Rattle.bench.specs.declared.Look.{Look}
 use Rattle.bench.specs.declared.Board.{Board}
 use Rattle.bench.specs.inner.Looks.{Modest}
 use Rattle.bench.specs.inner.Boards.{lookIn, Wide}
-use Rattle.bench.specs.inner.Stacks.{planBy}
+use Rattle.bench.specs.inner.Stacks.{planIn}
 
 -- row k has finished all its steps below place j
 abbrev pub belowIn : Board → ℕ → ℕ → Bool
@@ -48,7 +48,7 @@ openAfter board i = set (board .opened) i (lookIn board i .stays)
 -- the plan at the end of row i's next step passes: the row is seen as it will be then
 unfoldable pub passesIn : Board → ℕ → ℕ → ℕ → Bool
 passesIn board clock rows i =
-    planBy (record { waiting = openAfter board i; time = clock + lookIn board i .cost })
+    planIn (record { waiting = openAfter board i; time = clock + lookIn board i .cost })
     (set (board .release) i (clock + lookIn board i .cost + lookIn board i .wait))
     (set (board .left) i (lookIn board i .rest))
     (set (board .due) i (openingIn board clock i + lookIn board i .limit))

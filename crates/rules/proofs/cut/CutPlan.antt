@@ -13,12 +13,12 @@ use Rattle.load.proofs.WindowLaws.{opensAt-embedded}
 use Rattle.rules.specs.Cut.{kept, cut}
 use Rattle.rules.specs.State.{State, isOpen}
 use Rattle.rules.specs.Ready.{release, finishedBelow, isAllowed}
-use Rattle.rules.specs.Plan.{planPasses}
+use Rattle.rules.specs.Plan.{due, jobs, planPasses}
 use Rattle.rules.specs.Move.{started}
 use Rattle.rules.proofs.cut.CutLaws.{firstKept-le, kept-le, kept-embedded, wait-of-cut}
 use Rattle.rules.proofs.invariant.Runnable.{Runnable}
 use Rattle.rules.proofs.plan.PlanLaws.{SameJob}
-use Rattle.rules.proofs.plan.StackLaws.{due-is, windowLeft-is, plan-ext}
+use Rattle.rules.proofs.plan.StackLaws.{due-is, windowLeft-is, planBy-ext}
 use Rattle.rules.proofs.cut.CutWindows.{embedded-same, embedded-in-cut, leftAt-same, limitAt-same}
 
 pub cost-of-cut : (L : View) (m i j : ℕ) → cut L m .cost i j ≡ L .cost i j
@@ -39,22 +39,25 @@ module _ (L : View) (m : ℕ) (g : Runnable L) (s : State)
   pub opensAt-same : (i f : ℕ) → i < L .rows → f ≤ kept L m i → opensAt K i f ≡ opensAt L i f
   opensAt-same i f l h = opensAt-embedded K i f ∙ (embedded-same L m g i f l h ∙ sym (opensAt-embedded L i f))
 
-  job-same : (i : ℕ) → i < L .rows → isOpen K s i ≡ true → SameJob K L s s i
+  job-same : (i : ℕ) → i < L .rows → isOpen K s i ≡ true → SameJob (jobs K s) (jobs L s) i
   job-same i l o =
       let e : embedded K i (s .finished i) ≡ true = sym (opensAt-embedded K i (s .finished i)) ∙ o in
+      let same : due K s i ≡ due L s i =
+      due-is K s i ∙ (ap (λ x. s .opening i + x) (limitAt-same L m g i (s .finished i) l e) ∙ sym (due-is L s i)) in
       record {
-        released-same =
+        key-same = same;
+        release-same =
             release-of-cut L m i (s .finished i) (s .end i) (embedded-in-cut L m g i (s .finished i) l e .below);
         left-same =
             windowLeft-is K s i ∙ (leftAt-same L m g i (s .finished i) l e ∙ sym (windowLeft-is L s i));
-        due-same =
-            due-is K s i ∙ (ap (λ x. s .opening i + x) (limitAt-same L m g i (s .finished i) l e) ∙ sym (due-is L s i));
+        due-same = same;
       }
 
   pub plan-same : (t : ℕ) → planPasses K s t ≡ planPasses L s t
   unfolding cut
   plan-same t =
-      plan-ext K L s s t refl (λ i l. opensAt-same i (s .finished i) l (inside i l)) job-same
+      planBy-ext (isOpen K s) (isOpen L s) (jobs K s) (jobs L s) (L .rows) t
+      (λ i l. opensAt-same i (s .finished i) l (inside i l)) job-same
 
   pub started-same : (k long : ℕ) → k < L .rows → s .finished k < kept L m k → started K s k long ≡ started L s k long
   unfolding started

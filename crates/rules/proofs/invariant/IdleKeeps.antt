@@ -19,15 +19,15 @@ use Rattle.counting.proofs.sums.ChangeLaws.{changed-same, changed-other, sumTo-
 use Rattle.load.specs.View.{View, embedded, isFree}
 use Rattle.load.proofs.WindowLaws.{opensAt-embedded}
 use Rattle.rules.specs.Bound.{largestPhase, largestW}
-use Rattle.rules.specs.State.{State}
+use Rattle.rules.specs.State.{State, isOpen}
 use Rattle.rules.specs.Ready.{release, released}
-use Rattle.rules.specs.Plan.{stack, planPasses}
+use Rattle.rules.specs.Plan.{due, stack, planPasses}
 use Rattle.rules.specs.Move.{ticked}
 use Rattle.rules.proofs.bound.TightBound.{minima}
 use Rattle.rules.proofs.invariant.Runnable.{Runnable}
 use Rattle.rules.proofs.moves.MoveLaws.{CanStart}
 use Rattle.rules.proofs.plan.PlanLaws.{FirstWaits}
-use Rattle.rules.proofs.plan.StackLaws.{stack-every, tick-passes}
+use Rattle.rules.proofs.plan.StackLaws.{stackBy-every, tick-passes}
 use Rattle.rules.proofs.plan.StartPasses.{head-there, head-embedded, head-passes, free-passes}
 use Rattle.rules.proofs.moves.ShapeLaws.{ticked-keeps-shape}
 use Rattle.rules.proofs.invariant.Invariant.{
@@ -86,7 +86,7 @@ module _ (L : View) (s : State) (g : Runnable L) {E P : ℕ} {F : ℕ → ℕ} (
       record {
         shape = ticked-keeps-shape L s (v .shape);
         clock-sum = omega (arith, v .clock-sum, tick-spent L s);
-        plan = tick-passes L s (subst (FirstWaits L s (s .clock)) (sym first) waits) (v .plan);
+        plan = tick-passes L s (subst (FirstWaits (released L s) (s .clock)) (sym first) waits) (v .plan);
         open-ticks =
             omega (
               arith,
@@ -117,7 +117,7 @@ module _ (L : View) (s : State) (g : Runnable L) {E P : ℕ} {F : ℕ → ℕ} (
         go false e = refl
         go true e =
             absurd
-            (stack-every L s (λ k. ⊥) (subst (Every (λ k. ⊥)) (sym shut) tt) i l
+            (stackBy-every (isOpen L s) (due L s) (L .rows) (λ k. ⊥) (subst (Every (λ k. ⊥)) (sym shut) tt) i l
             (opensAt-embedded L i (s .finished i) ∙ e))
 
     not-ready : (i : ℕ) → i < L .rows → s .finished i < L .steps i
@@ -139,7 +139,7 @@ module _ (L : View) (s : State) (g : Runnable L) {E P : ℕ} {F : ℕ → ℕ} (
         ]
 
     tick-plan : planPasses L (ticked s) (ticked s .clock) ≡ true
-    tick-plan = tick-passes L s (subst (FirstWaits L s (s .clock)) (sym shut) tt) (v .plan)
+    tick-plan = tick-passes L s (subst (FirstWaits (released L s) (s .clock)) (sym shut) tt) (v .plan)
 
     -- a row with its first step to come
     pub idle-phase : (i : ℕ) → i < L .rows → s .finished i < L .steps i → s .finished i ≡ 0

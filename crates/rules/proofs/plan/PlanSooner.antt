@@ -2,18 +2,18 @@
 -- so a plan that passed at the full cost passes at any shorter length.
 use Prim.Native.Nat.{ℕ, _≤_}
 use mathlib.Core.Bool.{true}
-use mathlib.Core.Path.{_≡_, refl, ap, sym, _∙_}
+use mathlib.Core.Path.{_≡_, ap, sym, _∙_}
 use native.Mathlib.Decide.{ℕ-discrete}
 use native.Mathlib.Omega.{arith}
 use Rattle.load.specs.View.{View}
 use Rattle.rules.specs.State.{State, isOpen}
-use Rattle.rules.specs.Plan.{due, stack, inTime, planPasses}
+use Rattle.rules.specs.Plan.{inTimeBy, due, jobs, stack, planPasses}
 use Rattle.rules.specs.Move.{started, passes}
 use Rattle.rules.proofs.moves.MoveLaws.{started-clock}
-use Rattle.rules.proofs.plan.PlanLaws.{EasierJob, inTime-sooner}
+use Rattle.rules.proofs.plan.PlanLaws.{EasierJob, inTimeBy-sooner}
 use Rattle.rules.proofs.plan.StackLaws.{
-  every-stack,
-  stack-ext,
+  every-stackBy,
+  stackBy-ext,
   isOpen-other,
   isOpen-same,
   job-other,
@@ -43,13 +43,13 @@ module _ (L : View) (s : State) (k long full : ℕ) (shorter : long ≤ full) wh
         | no e ↦ job-other L s k full i e .due-same ∙ sym (job-other L s k long i e .due-same)
       ]
 
-  easier : (i : ℕ) → EasierJob L L late early i
+  easier : (i : ℕ) → EasierJob (jobs L late) (jobs L early) i
   easier i =
       elim (ℕ-discrete i k) [
         | yes e ↦
             rw e
             (record {
-              released-le = omega (arith, released-same L s k full, released-same L s k long);
+              release-le = omega (arith, released-same L s k full, released-same L s k long);
               left-le = omega (arith, windowLeft-same L s k full, windowLeft-same L s k long);
               due-le = omega (arith, due-same L s k full, due-same L s k long);
             })
@@ -57,7 +57,7 @@ module _ (L : View) (s : State) (k long full : ℕ) (shorter : long ≤ full) wh
             (let a = job-other L s k full i e in
             let b = job-other L s k long i e in
             record {
-              released-le = omega (arith, a .released-same, b .released-same);
+              release-le = omega (arith, a .release-same, b .release-same);
               left-le = omega (arith, a .left-same, b .left-same);
               due-le = omega (arith, a .due-same, b .due-same);
             })
@@ -65,10 +65,12 @@ module _ (L : View) (s : State) (k long full : ℕ) (shorter : long ≤ full) wh
 
   pub plan-sooner : planPasses L late (late .clock) ≡ true → planPasses L early (early .clock) ≡ true
   plan-sooner p =
-      ap (inTime L early (early .clock))
-      (sym (stack-ext L L late early refl (λ i l. open-alike i) (λ i l o. due-alike i)))
-      ∙ inTime-sooner L L late early (late .clock) (early .clock) (stack L late)
-      (every-stack L late (EasierJob L L late early) (λ i l o. easier i))
+      ap (inTimeBy (jobs L early) (early .clock))
+      (sym (stackBy-ext (isOpen L late) (isOpen L early) (due L late) (due L early) (L .rows) (λ i l. open-alike i)
+      (λ i l o. due-alike i)))
+      ∙ inTimeBy-sooner (jobs L late) (jobs L early) (late .clock) (early .clock) (stack L late)
+      (every-stackBy (isOpen L late) (due L late) (L .rows) (EasierJob (jobs L late) (jobs L early))
+      (λ i l o. easier i))
       (omega (arith, started-clock L s k long, started-clock L s k full)) p
 
 -- a candidate that passes at its cost passes at any length up to it

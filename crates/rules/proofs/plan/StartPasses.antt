@@ -18,17 +18,17 @@ use Rattle.load.specs.View.{View, embedded, opensAt}
 use Rattle.load.proofs.WindowLaws.{opensAt-embedded}
 use Rattle.rules.specs.State.{State, fresh, isOpen}
 use Rattle.rules.specs.Ready.{released}
-use Rattle.rules.specs.Plan.{due, stack, finish, inTime, planPasses}
+use Rattle.rules.specs.Plan.{stackBy, finish, inTimeBy, due, jobs, stack, planPasses}
 use Rattle.rules.specs.Move.{started, startedFull, passes}
 use Rattle.rules.proofs.invariant.Runnable.{Runnable}
 use Rattle.rules.proofs.moves.MoveLaws.{started-clock, openingAfter-kept, openingAfter-new}
-use Rattle.rules.proofs.plan.PlanLaws.{SameJob, inTime-ext, inTime-next, inTime-none}
+use Rattle.rules.proofs.plan.PlanLaws.{SameJob, inTimeBy-ext, inTimeBy-next, inTimeBy-none}
 use Rattle.rules.proofs.plan.StackLaws.{
   due-is,
   windowLeft-is,
-  every-stack,
-  stack-ext,
-  stack-none,
+  every-stackBy,
+  stackBy-ext,
+  stackBy-none,
   isOpen-other,
   isOpen-same,
   job-other,
@@ -42,18 +42,18 @@ pub head-there : (L : View) (s : State) (r : ℕ) (rest : List ℕ) → stack L 
     → (r < L .rows) × (isOpen L s r ≡ true)
 head-there L s r rest first =
     subst (Every (λ i. (i < L .rows) × (isOpen L s i ≡ true))) first
-    (every-stack L s (λ i. (i < L .rows) × (isOpen L s i ≡ true)) (λ i l o. (l, o)))
+    (every-stackBy (isOpen L s) (due L s) (L .rows) (λ i. (i < L .rows) × (isOpen L s i ≡ true)) (λ i l o. (l, o)))
     .0
 
 -- and stands in it once
 head-once : (L : View) (s : State) (r : ℕ) (rest : List ℕ) → stack L s ≡ r ∷ rest → Every (λ i. i ≢ r) rest
-unfolding stack
+unfolding stackBy
 head-once L s r rest first = sorted-first-once (due L s) (isOpen L s) (L .rows) r rest first
 
 -- where its start closes its window the stack is the rest
 stack-rest : (L : View) (s : State) (r : ℕ) (rest : List ℕ) (long : ℕ) → stack L s ≡ r ∷ rest
     → opensAt L r (suc (s .finished r)) ≡ false → stack L (started L s r long) ≡ rest
-unfolding stack
+unfolding stackBy
 stack-rest L s r rest long first shut =
     sorted-same (due L s′) (due L s) (isOpen L s′) (isOpen L s′) (L .rows) (λ i l. refl)
     (λ i l o. job-other L s r long i (λ e. true-false (isOpen L s′ r) (rw e at o) gone) .due-same)
@@ -95,18 +95,19 @@ module _ (L : View) (s : State) (g : Runnable L) (r : ℕ) (rest : List ℕ) (fi
       was = head-there L s r rest first .1
 
       t : ℕ
-      t = finish L s (s .clock) r
+      t = finish (jobs L s) (s .clock) r
 
-      both : (leb t (due L s r) && inTime L s t rest) ≡ true
-      both = sym (inTime-next L s (s .clock) r rest) ∙ (sym (ap (inTime L s (s .clock)) first) ∙ p)
+      both : (leb t (due L s r) && inTimeBy (jobs L s) t rest) ≡ true
+      both = sym (inTimeBy-next (jobs L s) (s .clock) r rest) ∙ (sym (ap (inTimeBy (jobs L s) (s .clock)) first) ∙ p)
 
-      others : (u : ℕ) → inTime L s′ u rest ≡ inTime L s u rest
+      others : (u : ℕ) → inTimeBy (jobs L s′) u rest ≡ inTimeBy (jobs L s) u rest
       others u =
-          inTime-ext L L s′ s u rest
-          (Every-map (λ i. i ≢ r) (SameJob L L s′ s) rest (job-other L s r c) (head-once L s r rest first))
+          inTimeBy-ext (jobs L s′) (jobs L s) u rest
+          (Every-map (λ i. i ≢ r) (SameJob (jobs L s′) (jobs L s)) rest (job-other L s r c)
+          (head-once L s r rest first))
 
-      tail : inTime L s′ t rest ≡ true
-      tail = others t ∙ and-right (leb t (due L s r)) (inTime L s t rest) both
+      tail : inTimeBy (jobs L s′) t rest ≡ true
+      tail = others t ∙ and-right (leb t (due L s r)) (inTimeBy (jobs L s) t rest) both
 
       now : s′ .clock ≡ s .clock + c
       now = started-clock L s r c
@@ -116,8 +117,11 @@ module _ (L : View) (s : State) (g : Runnable L) (r : ℕ) (rest : List ℕ) (fi
           let shut : opensAt L r (suc f) ≡ false = opensAt-embedded L r (suc f) ∙ e in
           let q : s′ .clock ≡ t =
           omega (arith, now, windowLeft-is L s r, g .left-last r f there inside e) in
-          ap (inTime L s′ (s′ .clock)) (stack-rest L s r rest c first shut) ∙ ap (λ u. inTime L s′ u rest) q ∙ tail
-      go true e = ap (inTime L s′ (s′ .clock)) (same ∙ first) ∙ (inTime-next L s′ (s′ .clock) r rest ∙ on)
+          ap (inTimeBy (jobs L s′) (s′ .clock)) (stack-rest L s r rest c first shut)
+          ∙ ap (λ u. inTimeBy (jobs L s′) u rest) q
+          ∙ tail
+      go true e =
+          ap (inTimeBy (jobs L s′) (s′ .clock)) (same ∙ first) ∙ (inTimeBy-next (jobs L s′) (s′ .clock) r rest ∙ on)
         where
           opened : opensAt L r (suc f) ≡ true
           opened = opensAt-embedded L r (suc f) ∙ e
@@ -134,14 +138,14 @@ module _ (L : View) (s : State) (g : Runnable L) (r : ℕ) (rest : List ℕ) (fi
 
           same : stack L s′ ≡ stack L s
           same =
-              stack-ext L L s′ s refl
+              stackBy-ext (isOpen L s′) (isOpen L s) (due L s′) (due L s) (L .rows)
               (λ i l. elim (ℕ-discrete i r) [
                 | yes q ↦ rw q (isOpen-same L s r c ∙ (opened ∙ sym was))
                 | no q ↦ isOpen-other L s r c i q
               ])
               (λ i l o. elim (ℕ-discrete i r) [ yes q ↦ rw q kept | no q ↦ job-other L s r c i q .due-same ])
 
-          ends : finish L s′ (s′ .clock) r ≡ t
+          ends : finish (jobs L s′) (s′ .clock) r ≡ t
           ends =
               omega (
                 arith,
@@ -152,16 +156,17 @@ module _ (L : View) (s : State) (g : Runnable L) (r : ℕ) (rest : List ℕ) (fi
                 g .left-more r f there inside e,
               )
 
-          on : (leb (finish L s′ (s′ .clock) r) (due L s′ r) && inTime L s′ (finish L s′ (s′ .clock) r) rest) ≡ true
+          on : (leb (finish (jobs L s′) (s′ .clock) r) (due L s′ r)
+              && inTimeBy (jobs L s′) (finish (jobs L s′) (s′ .clock) r) rest) ≡ true
           on =
               rw (ends, kept)
-              (and-both (leb t (due L s r)) (inTime L s′ t rest)
-              (and-left (leb t (due L s r)) (inTime L s t rest) both) tail)
+              (and-both (leb t (due L s r)) (inTimeBy (jobs L s′) t rest)
+              (and-left (leb t (due L s r)) (inTimeBy (jobs L s) t rest) both) tail)
 
 -- one window alone
 stack-one : (L : View) (s : State) (k : ℕ) → k < L .rows → ((i : ℕ) → i < L .rows → i ≢ k → isOpen L s i ≡ false)
     → isOpen L s k ≡ true → stack L s ≡ k ∷ []
-unfolding stack sorted inserted
+unfolding stackBy sorted inserted
 stack-one L s k l h o =
     ap (sorted (byKey (due L s)))
     (numbersWhere-one (isOpen L s) (L .rows) k l h ∙ ap (λ b. cond b (k ∷ []) []) o)
@@ -193,11 +198,12 @@ free-passes L s k g l none = go (embedded L k (suc (s .finished k))) refl
     go : (b : Bool) → embedded L k (suc f) ≡ b → planPasses L s′ (s′ .clock) ≡ true
     go false e =
         let q : stack L s′ ≡ [] =
-        stack-none L s′ (λ i li. elim (ℕ-discrete i k) [ yes z ↦ rw z (own ∙ e) | no z ↦ other i li z ]) in
-        ap (inTime L s′ (s′ .clock)) q ∙ inTime-none L s′ (s′ .clock)
+        stackBy-none (isOpen L s′) (due L s′) (L .rows)
+        (λ i li. elim (ℕ-discrete i k) [ yes z ↦ rw z (own ∙ e) | no z ↦ other i li z ]) in
+        ap (inTimeBy (jobs L s′) (s′ .clock)) q ∙ inTimeBy-none (jobs L s′) (s′ .clock)
     go true e =
         let opened : opensAt L k (suc f) ≡ true = opensAt-embedded L k (suc f) ∙ e in
-        let fits : finish L s′ (s′ .clock) k ≤ due L s′ k =
+        let fits : finish (jobs L s′) (s′ .clock) k ≤ due L s′ k =
         omega (
           arith,
           started-clock L s k c,
@@ -207,15 +213,17 @@ free-passes L s k g l none = go (embedded L k (suc (s .finished k))) refl
           openingAfter-new L s k (shut k l) opened,
           g .chain-fits k f l (none k l) e,
         ) in
-        ap (inTime L s′ (s′ .clock)) (stack-one L s′ k l other (own ∙ e))
-        ∙ (inTime-next L s′ (s′ .clock) k []
-        ∙ and-both (leb (finish L s′ (s′ .clock) k) (due L s′ k)) (inTime L s′ (finish L s′ (s′ .clock) k) [])
-        (le-leb (finish L s′ (s′ .clock) k) (due L s′ k) fits)
-        (inTime-none L s′ (finish L s′ (s′ .clock) k)))
+        ap (inTimeBy (jobs L s′) (s′ .clock)) (stack-one L s′ k l other (own ∙ e))
+        ∙ (inTimeBy-next (jobs L s′) (s′ .clock) k []
+        ∙ and-both (leb (finish (jobs L s′) (s′ .clock) k) (due L s′ k))
+        (inTimeBy (jobs L s′) (finish (jobs L s′) (s′ .clock) k) [])
+        (le-leb (finish (jobs L s′) (s′ .clock) k) (due L s′ k) fits)
+        (inTimeBy-none (jobs L s′) (finish (jobs L s′) (s′ .clock) k)))
 
 -- and fresh passes
 pub fresh-passes : (L : View) → Runnable L → planPasses L fresh 0 ≡ true
 unfolding fresh
 fresh-passes L g =
-    ap (inTime L fresh 0) (stack-none L fresh (λ i l. opensAt-embedded L i 0 ∙ g .first-free i l))
-    ∙ inTime-none L fresh 0
+    ap (inTimeBy (jobs L fresh) 0)
+    (stackBy-none (isOpen L fresh) (due L fresh) (L .rows) (λ i l. opensAt-embedded L i 0 ∙ g .first-free i l))
+    ∙ inTimeBy-none (jobs L fresh) 0
