@@ -26,11 +26,11 @@ pub record Moved : Type 0 where
   pub lamps : ℕ
   pub count : ℕ
 
--- row i's opening once its next step has been started: kept while its window stays open, the clock
--- where the step opens one, else 0
-abbrev pub openingAfter : View → State → ℕ → ℕ
-openingAfter L s i =
-    cond (opensAt L i (suc (s .finished i))) (cond (isOpen L s i) (s .opening i) (s .clock)) 0
+-- row i's opening once its next step, started at a moment, is over: kept while its window stays
+-- open, that start where the step opens one, else 0
+abbrev pub openingAfter : View → State → ℕ → ℕ → ℕ
+openingAfter L s i start =
+    cond (opensAt L i (suc (s .finished i))) (cond (isOpen L s i) (s .opening i) start) 0
 
 -- the state once row i's next step, started now, has taken so long: the clock moves to its end
 unfoldable pub started : View → State → ℕ → ℕ → State
@@ -39,7 +39,7 @@ started L s i long =
       clock = s .clock + long;
       finished = changed (s .finished) i (suc (s .finished i));
       end = changed (s .end) i (s .clock + long);
-      opening = changed (s .opening) i (openingAfter L s i);
+      opening = changed (s .opening) i (openingAfter L s i (s .clock));
     }
 
 -- the state once row i's next step has been started and has taken its cost

@@ -105,7 +105,7 @@ module _ (load : Load) (bench : Bench) (board : Board) (shows : Shows load bench
         ∙ windowLeft-is L (further s) i
         ∙ sym (windowLeft-same L s i cost)
 
-    pub opening-after : openingIn board (bench .clock) i ≡ openingAfter L s i
+    pub opening-after : openingIn board (bench .clock) i ≡ openingAfter L s i (bench .clock)
     opening-after =
         rw (
           stays-same load bench board shows i l,

@@ -107,7 +107,7 @@ module _ (bench : Bench) (size : HeldBench bench) where
 
   module _ (L : View) (i long : ℕ) (inside : i < 24) where
     abbrev after : Bench
-    after = benchStarted bench i long (openingAfter L (stateOf bench) i)
+    after = benchStarted bench i long (openingAfter L (stateOf bench) i (bench .clock))
 
     pub benchStarted-state : stateOf after ≡ started L (stateOf bench) i long
     unfolding started
@@ -115,11 +115,12 @@ module _ (bench : Bench) (size : HeldBench bench) where
         rw (
           set-changed (bench .finished) i (memberAt (bench .finished) i + 1) (omega (arith, size .finished-places)),
           set-changed (bench .end) i (bench .clock + long) (omega (arith, size .end-places)),
-          set-changed (bench .opening) i (openingAfter L (stateOf bench) i) (omega (arith, size .opening-places)),
+          set-changed (bench .opening) i (openingAfter L (stateOf bench) i (bench .clock))
+              (omega (arith, size .opening-places)),
           add-one,
         )
 
     pub benchStarted-is : after ≡ benchOf (started L (stateOf bench) i long)
     benchStarted-is =
-        sym (benchOf-stateOf after (benchStarted-held i long (openingAfter L (stateOf bench) i)))
+        sym (benchOf-stateOf after (benchStarted-held i long (openingAfter L (stateOf bench) i (bench .clock))))
         ∙ ap benchOf benchStarted-state

@@ -56,13 +56,13 @@ module _ (L : View) (s : State) (k long : ℕ) where
   unfolding started
   started-end-other i ne = changed-other (s .end) k (s .clock + long) i ne
 
-  pub started-opening-same : started L s k long .opening k ≡ openingAfter L s k
+  pub started-opening-same : started L s k long .opening k ≡ openingAfter L s k (s .clock)
   unfolding started
-  started-opening-same = changed-same (s .opening) k (openingAfter L s k)
+  started-opening-same = changed-same (s .opening) k (openingAfter L s k (s .clock))
 
   pub started-opening-other : (i : ℕ) → i ≢ k → started L s k long .opening i ≡ s .opening i
   unfolding started
-  started-opening-other i ne = changed-other (s .opening) k (openingAfter L s k) i ne
+  started-opening-other i ne = changed-other (s .opening) k (openingAfter L s k (s .clock)) i ne
 
   pub started-finished-le : (i : ℕ) → s .finished i ≤ started L s k long .finished i
   started-finished-le i =
@@ -72,15 +72,16 @@ module _ (L : View) (s : State) (k long : ℕ) where
       ]
 
 -- the opening after a start: kept, new, or none
-module _ (L : View) (s : State) (k : ℕ) where
+module _ (L : View) (s : State) (k start : ℕ) where
   pub openingAfter-kept : isOpen L s k ≡ true → opensAt L k (suc (s .finished k)) ≡ true
-      → openingAfter L s k ≡ s .opening k
+      → openingAfter L s k start ≡ s .opening k
   openingAfter-kept a b = rw (b, a)
 
-  pub openingAfter-new : isOpen L s k ≡ false → opensAt L k (suc (s .finished k)) ≡ true → openingAfter L s k ≡ s .clock
+  pub openingAfter-new : isOpen L s k ≡ false → opensAt L k (suc (s .finished k)) ≡ true
+      → openingAfter L s k start ≡ start
   openingAfter-new a b = rw (b, a)
 
-  pub openingAfter-none : opensAt L k (suc (s .finished k)) ≡ false → openingAfter L s k ≡ 0
+  pub openingAfter-none : opensAt L k (suc (s .finished k)) ≡ false → openingAfter L s k start ≡ 0
   openingAfter-none b = rw b
 
 -- a candidate that passes

@@ -80,21 +80,21 @@ ticked-keeps-shape L s h =
 
 module _ (L : View) (s : State) (k long : ℕ) (g : Runnable L) (h : RowsShaped L s) (there : k < L .rows)
     (more : s .finished k < L .steps k) where
-  own-opening-le : embedded L k (suc (s .finished k)) ≡ true → openingAfter L s k ≤ s .clock + long
+  own-opening-le : embedded L k (suc (s .finished k)) ≡ true → openingAfter L s k (s .clock) ≤ s .clock + long
   own-opening-le e = go (isOpen L s k) refl
     where
       opened : opensAt L k (suc (s .finished k)) ≡ true
       opened = opensAt-embedded L k (suc (s .finished k)) ∙ e
 
-      go : (b : Bool) → isOpen L s k ≡ b → openingAfter L s k ≤ s .clock + long
+      go : (b : Bool) → isOpen L s k ≡ b → openingAfter L s k (s .clock) ≤ s .clock + long
       go true o =
           omega (
             arith,
-            openingAfter-kept L s k o opened,
+            openingAfter-kept L s k (s .clock) o opened,
             h .opening-le k there (sym (opensAt-embedded L k (s .finished k)) ∙ o),
             h .end-le k there,
           )
-      go false o = omega (arith, openingAfter-new L s k o opened)
+      go false o = omega (arith, openingAfter-new L s k (s .clock) o opened)
 
   pub started-keeps-shape : RowsShaped L (started L s k long)
   started-keeps-shape =
@@ -153,6 +153,6 @@ module _ (L : View) (s : State) (k long : ℕ) (g : Runnable L) (h : RowsShaped 
       own-zero : {i : ℕ} → embedded L i (s′ .finished i) ≡ false → i ≡ k → s′ .opening k ≡ 0
       own-zero z e =
           started-opening-same L s k long
-          ∙ openingAfter-none L s k
+          ∙ openingAfter-none L s k (s .clock)
           (opensAt-embedded L k (suc (s .finished k))
           ∙ (sym (ap (embedded L k) (started-finished-same L s k long)) ∙ rw e at z))

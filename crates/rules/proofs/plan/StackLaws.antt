@@ -106,7 +106,7 @@ module _ (L : View) (s : State) (k long : ℕ) where
   pub windowLeft-same : windowLeft L (started L s k long) k ≡ leftAt L k (suc (s .finished k))
   windowLeft-same = windowLeft-is L (started L s k long) k ∙ ap (leftAt L k) (started-finished-same L s k long)
 
-  pub due-same : due L (started L s k long) k ≡ openingAfter L s k + limitAt L k (suc (s .finished k))
+  pub due-same : due L (started L s k long) k ≡ openingAfter L s k (s .clock) + limitAt L k (suc (s .finished k))
   due-same =
       due-is L (started L s k long) k
       ∙ ap₂ (λ o f. o + limitAt L k f) (started-opening-same L s k long) (started-finished-same L s k long)

@@ -132,7 +132,7 @@ module _ (L : View) (s : State) (g : Runnable L) (r : ℕ) (rest : List ℕ) (fi
                 arith,
                 due-same L s r c,
                 due-is L s r,
-                openingAfter-kept L s r was opened,
+                openingAfter-kept L s r (s .clock) was opened,
                 g .one-limit r f there inside e,
               )
 
@@ -210,7 +210,7 @@ free-passes L s k g l none = go (embedded L k (suc (s .finished k))) refl
           windowLeft-same L s k c,
           released-same L s k c,
           due-same L s k c,
-          openingAfter-new L s k (shut k l) opened,
+          openingAfter-new L s k (s .clock) (shut k l) opened,
           g .chain-fits k f l (none k l) e,
         ) in
         ap (inTimeBy (jobs L s′) (s′ .clock)) (stack-one L s′ k l other (own ∙ e))

@@ -191,7 +191,7 @@ module _ (L : View) (s : State) (i : ℕ) (slots : List Slot) (g : Runnable L) (
           rw e
           (ap (s′ .opening) er
           ∙ (started-opening-same L s i d
-          ∙ (openingAfter-kept L s i o (stays er)
+          ∙ (openingAfter-kept L s i (s .clock) o (stays er)
           ∙ (ap (s .opening) (sym er) ∙ m .opened h r p q lr lp row′ step′ was now))))
       go (new q e) dec =
           let row′ : shown i ≡ shown r = rw e at row in
@@ -201,7 +201,7 @@ module _ (L : View) (s : State) (i : ℕ) (slots : List Slot) (g : Runnable L) (
           opensAt-embedded L i f
           ∙ subst (λ y. embedded L y f ≡ false) er (g .window-first r p f lr lp (omega arith)) in
           rw e
-          (ap (s′ .opening) er ∙ (started-opening-same L s i d ∙ openingAfter-new L s i shut (stays er)))
+          (ap (s′ .opening) er ∙ (started-opening-same L s i d ∙ openingAfter-new L s i (s .clock) shut (stays er)))
 
   pub start-made : Made L (startedFull L s i) (slots ++ nextSlot s i ∷ [])
   start-made =
