@@ -21,7 +21,7 @@ use Rattle.load_file.specs.Reading.{
   fileFault,
 }
 use Rattle.rules.specs.State.{fresh}
-use Rattle.rules.specs.Run.{starts, schedule}
+use Rattle.rules.specs.Run.{startsBy, scheduleBy}
 use Rattle.rules.proofs.worked.WorkedComputing.{computing}
 use Rattle.schedule.specs.ScheduleFile.{scheduleBytes}
 use Rattle.reading_bench.specs.Calls.{Numbered}
@@ -30,7 +30,7 @@ use Rattle.reading_bench.specs.WorkedCalls.{WorkedCalls}
 -- to open this is to open all that its line names
 unfoldable reading : ℕ
 unfolding computing numberAt zeroLoad rowWith rowFrom rowPlace loadIn headerTests ownFault stepFaultIn windowFaultIn
-    rowFaultAt endTests fileFault fresh starts schedule scheduleBytes
+    rowFaultAt endTests fileFault fresh startsBy scheduleBy scheduleBytes
 reading = 0
 
 told : {finding : Checked} {answer out : List ℕ} {r : ℕ} {after : List ℕ} (found : Checked)

@@ -1,6 +1,7 @@
--- "One move of the bench": Start, Idle, Done, and refusals 10 and 11. How long the step takes that
--- starts is an argument of `started`; here it is its cost. To be read after Ready, Plan and Lamps.
--- Rests on D12, D14 to D16.
+-- "One move of the bench": Start, Idle, Done, and refusals 10 and 11. `move` is document 01's, each
+-- step at full cost. The length of a step, by row and place, is an argument of the definitions that
+-- it rests on, since a step may end before its cost is over (2026-09); what is tested is the cost.
+-- To be read after Ready, Plan and Lamps. Rests on D12, D14 to D16 and D66.
 use Prim.Native.Nat.{ℕ, suc, _+_}
 use mathlib.Core.Bool.{Bool, true, false, cond}
 use lib.Dec.{leb}
@@ -76,22 +77,32 @@ handedBack L s outcome =
 abbrev pub refusedMove : State → Refusal → Moved
 refusedMove s refusal = record { then = s; outcome = Refused refusal; lamps = 0; count = 0 }
 
--- Start where a candidate was chosen, else Idle
+-- Start where a candidate was chosen, its next step taking its length, else Idle
+abbrev pub startOrIdleBy : (ℕ → ℕ → ℕ) → View → State → Found → Moved
+startOrIdleBy long L s (at i) =
+    handedBack L (started L s i (long i (s .finished i))) (Start (nextSlot s i))
+startOrIdleBy long L s none = handedBack L (ticked s) Idle
+
+-- each step at full cost
 abbrev pub startOrIdle : View → State → Found → Moved
-startOrIdle L s (at i) = handedBack L (startedFull L s i) (Start (nextSlot s i))
-startOrIdle L s none = handedBack L (ticked s) Idle
+startOrIdle L s choice = startOrIdleBy (L .cost) L s choice
 
 -- one move of a bench whose state has the load's shape
-unfoldable pub shapedMove : View → State → Moved
-shapedMove L s =
+unfoldable pub shapedMoveBy : (ℕ → ℕ → ℕ) → View → State → Moved
+shapedMoveBy long L s =
     elim (allFinished L s) [
       | true ↦ handedBack L s Done
       | false ↦ elim (leb lastMoment (s .clock)) [
         | true ↦ refusedMove s ClockFull
-        | false ↦ startOrIdle L s (chosen L s)
+        | false ↦ startOrIdleBy long L s (chosen L s)
       ]
     ]
 
--- one move of the bench
-unfoldable pub move : View → State → Moved
-move L s = elim (shaped L s) [ true ↦ shapedMove L s | false ↦ refusedMove s StateShape ]
+-- one move of a bench whose steps have these lengths
+unfoldable pub moveBy : (ℕ → ℕ → ℕ) → View → State → Moved
+moveBy long L s =
+    elim (shaped L s) [ true ↦ shapedMoveBy long L s | false ↦ refusedMove s StateShape ]
+
+-- one move of the bench, each step at full cost
+abbrev pub move : View → State → Moved
+move L s = moveBy (L .cost) L s

@@ -6,7 +6,6 @@ use mathlib.Core.List.{List}
 use mathlib.Core.Path.{_≡_, ap, ap₂, sym, _∙_}
 use native.Mathlib.Decide.{decLt}
 use native.Mathlib.Omega.{arith}
-use borrow.Author.Tests.{le-leb}
 use lib.Dec.{leb}
 use Rattle.counting.specs.Sums.{allTo, bit, countTo}
 use Rattle.counting.specs.Lists.{isMarked}
@@ -25,18 +24,8 @@ use Rattle.rules.specs.declared.Outcome.{Outcome}
 use Rattle.rules.specs.declared.Outcome.the-variants.{Start, Idle, Done}
 use Rattle.rules.specs.State.{State, isOpen, shaped}
 use Rattle.rules.specs.Lamps.{lampWord, lampCount}
-use Rattle.rules.specs.Move.{
-  startedFull,
-  ticked,
-  allFinished,
-  chosen,
-  nextSlot,
-  refusedMove,
-  startOrIdle,
-  shapedMove,
-  move,
-}
-use Rattle.rules.proofs.moves.MoveLaws.{move-done, move-goes}
+use Rattle.rules.specs.Move.{startedFull, ticked, allFinished, chosen, nextSlot, startOrIdle, move}
+use Rattle.rules.proofs.moves.MoveLaws.{move-unshaped, move-done, move-full, move-goes}
 use Rattle.bench.specs.declared.Bench.{Bench}
 use Rattle.bench.specs.declared.Board.{Board}
 use Rattle.bench.specs.declared.Moved.{Moved}
@@ -77,22 +66,13 @@ module _ (L : View) (s : State) (rows : ℕ) (rows-are′ : L .rows ≡ rows) (l
       ∙ sym (sumTo-ext (λ i. bit (isMarked lit i)) (λ i. bit (isOpen L s i)) rows (λ i l. ap bit (opens i l)))
 
 -- the refusals of a move, 10 and 11
-move-unshaped : (L : View) (s : State) → shaped L s ≡ false → move L s ≡ refusedMove s StateShape
-unfolding move
-move-unshaped L s e = rw (e, move)
-
-move-full : (L : View) (s : State) → shaped L s ≡ true → allFinished L s ≡ false → lastMoment ≤ s .clock
-    → move L s ≡ refusedMove s ClockFull
-unfolding move shapedMove
-move-full L s e d h = rw (e, move) (rw (d, shapedMove) (rw (le-leb lastMoment (s .clock) h)))
-
 pub unshaped-move : (bench : Bench) (L : View) → shaped L (stateOf bench) ≡ false
     → handedOn bench (move L (stateOf bench)) ≡ refusedWith bench StateShape
-unshaped-move bench L e = ap (handedOn bench) (move-unshaped L (stateOf bench) e)
+unshaped-move bench L e = ap (handedOn bench) (move-unshaped (L .cost) L (stateOf bench) e)
 
 pub full-move : (bench : Bench) (L : View) → shaped L (stateOf bench) ≡ true → allFinished L (stateOf bench) ≡ false
     → lastMoment ≤ bench .clock → handedOn bench (move L (stateOf bench)) ≡ refusedWith bench ClockFull
-full-move bench L e d h = ap (handedOn bench) (move-full L (stateOf bench) e d h)
+full-move bench L e d h = ap (handedOn bench) (move-full (L .cost) L (stateOf bench) e d h)
 
 -- what is handed back, from its parts
 abbrev movedBy : Outcome → Bench → ℕ → ℕ → Moved
@@ -121,7 +101,7 @@ module _ (load : Load) (bench : Bench) (board : Board) (shows : Shows load bench
   pub done-move : shaped L s ≡ true → allFinished L s ≡ true
       → handedOn bench (move L s) ≡ handedWith bench Done (board .opened) (load .rows)
   done-move e d =
-      ap (handedOn bench) (move-done L s e d)
+      ap (handedOn bench) (move-done (L .cost) L s e d)
       ∙ movedBy-ext Done (benchOf s) bench _ _ _ _ (benchOf-stateOf bench size)
       (word-is L s (load .rows) (rows-are load bench board shows) (board .opened) (opened-same load bench board shows))
       (count-is L s (load .rows) (rows-are load bench board shows) (board .opened) (opened-same load bench board shows))
@@ -134,7 +114,7 @@ module _ (load : Load) (bench : Bench) (board : Board) (shows : Shows load bench
     idle-move : chosen L s ≡ none
         → handedOn bench (move L s) ≡ handedWith (benchAt bench (bench .clock + 1)) Idle (board .opened) (load .rows)
     idle-move q =
-        ap (handedOn bench) (move-goes L s e d h ∙ ap (startOrIdle L s) q)
+        ap (handedOn bench) (move-goes (L .cost) L s e d h ∙ ap (startOrIdle L s) q)
         ∙ movedBy-ext Idle (benchOf (ticked s)) (benchAt bench (bench .clock + 1)) _ _ _ _ (sym (ticked-is bench size))
         (word-is L (ticked s) (load .rows) (rows-are load bench board shows) (board .opened) open-ticked)
         (count-is L (ticked s) (load .rows) (rows-are load bench board shows) (board .opened) open-ticked)
@@ -143,7 +123,7 @@ module _ (load : Load) (bench : Bench) (board : Board) (shows : Shows load bench
         → handedOn bench (move L s) ≡ startedIn bench board (load .rows) i
     unfolding startedIn
     start-move i l q =
-        ap (handedOn bench) (move-goes L s e d h ∙ ap (startOrIdle L s) q)
+        ap (handedOn bench) (move-goes (L .cost) L s e d h ∙ ap (startOrIdle L s) q)
         ∙ movedBy-ext (Start (nextSlot s i)) (benchOf after)
         (benchStarted bench i (lookIn board i .cost) opening) _ _ _ _ bench-is
         (word-is L after (load .rows) (rows-are load bench board shows) lit lit-are)

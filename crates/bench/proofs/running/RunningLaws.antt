@@ -21,7 +21,7 @@ use Rattle.rules.specs.declared.Slot.{Slot}
 use Rattle.rules.specs.State.{State, fresh, shaped}
 use Rattle.rules.specs.Slots.{noSlot, slotPlaces, slotAt}
 use Rattle.rules.specs.Move.{allFinished, chosen}
-use Rattle.rules.specs.Run.{starts, enoughMoves, schedule}
+use Rattle.rules.specs.Run.{starts, enoughMoves, scheduleBy, schedule}
 use Rattle.rules.proofs.invariant.Runnable.{Runnable}
 use Rattle.rules.proofs.invariant.RunnableLaws.{acceptable-runnable}
 use Rattle.rules.proofs.invariant.MoveKeeps.{Accounted, fresh-accounted, accounted-early, accounted-shaped}
@@ -71,7 +71,7 @@ module _ (load : Load) (accepted : checkLoad load ≡ Good) (most : load .rows �
   -- before the first move
   pub running-fresh : (board : Board) → Shows load (benchOf fresh) board
       → Running load board 0 0 (replicate slotPlaces noSlot)
-  unfolding schedule fresh benchOf
+  unfolding scheduleBy fresh benchOf
   running-fresh board shows =
       record {
         bench = benchOf fresh;

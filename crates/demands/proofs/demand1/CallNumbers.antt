@@ -1,10 +1,10 @@
 -- The numbers that a load, a file, a schedule and a move can be refused with: each definition is a list of tests, and
 -- those are looked through.
 use Prim.Native.Nat.{ℕ}
-use mathlib.Core.Bool.{Bool, true, false, not}
+use mathlib.Core.Bool.{Bool, not}
 use mathlib.Core.List.{List, [], _∷_, _++_}
 use mathlib.Core.Path.{_≡_, refl}
-use lib.Dec.{eqb, leb, ltb}
+use lib.Dec.{eqb, ltb}
 use lib.ListN.{length}
 use Rattle.counting.specs.Sums.{allFrom}
 use Rattle.counting.specs.Lists.{anyIn}
@@ -16,7 +16,7 @@ use Rattle.refusals.specs.Refusals.{numberOf, numberGiven}
 use Rattle.refusals.specs.FirstMet.{firstMet}
 use Rattle.load.specs.declared.Row.{Row}
 use Rattle.load.specs.declared.Load.{Load}
-use Rattle.load.specs.Load.{lastMoment, mostRows, rowAt}
+use Rattle.load.specs.Load.{mostRows, rowAt}
 use Rattle.load.specs.View.{View, viewOf, stepsInAll}
 use Rattle.load.specs.Faults.{rowTests, takenTests, stepTests, windowTests}
 use Rattle.load.specs.Check.{
@@ -56,10 +56,11 @@ use Rattle.rules.specs.declared.Slot.{Slot}
 use Rattle.rules.specs.declared.Outcome.{Outcome}
 use Rattle.rules.specs.declared.Outcome.the-variants.{Refused}
 use Rattle.rules.specs.Outcomes.{toldBy}
-use Rattle.rules.specs.State.{State, shaped}
-use Rattle.rules.specs.Move.{startOrIdle, allFinished, chosen, shapedMove, move}
+use Rattle.rules.specs.State.{State}
+use Rattle.rules.specs.Move.{startOrIdle, chosen, move}
 use Rattle.rules.specs.Slots.{slotAt}
 use Rattle.rules.specs.Check.{slotTests, checkSlots, checkSchedule}
+use Rattle.rules.proofs.moves.MoveLaws.{Way, unshaped, finished, full, goes, move-way}
 use Rattle.bench.specs.declared.Bench.{Bench}
 use Rattle.bench.specs.Held.{stateOf, nextMove}
 use Rattle.bench.proofs.choice.NextLaws.{nextMove-good, nextMove-refused}
@@ -163,23 +164,15 @@ unfolding anyIn
 choice-gives L s (at i) = refl
 choice-gives L s none = refl
 
-shaped-gives : (L : View) (s : State) → OneOf ofMove (numberIn (shapedMove L s .outcome))
-unfolding shapedMove anyIn
-shaped-gives L s = go (allFinished L s) (leb lastMoment (s .clock)) refl refl
-  where
-    go : (isDone isFull : Bool) → allFinished L s ≡ isDone → leb lastMoment (s .clock) ≡ isFull
-        → OneOf ofMove (numberIn (shapedMove L s .outcome))
-    go true isFull d f = rw (d, shapedMove)
-    go false true d f = rw (d, shapedMove) (rw f)
-    go false false d f = rw (d, shapedMove) (rw f (choice-gives L s (chosen L s)))
-
 rules-give : (L : View) (s : State) → OneOf ofMove (numberIn (move L s .outcome))
-unfolding move anyIn
-rules-give L s = go (shaped L s) refl
+unfolding anyIn
+rules-give L s = go (move-way (L .cost) L s)
   where
-    go : (isShaped : Bool) → shaped L s ≡ isShaped → OneOf ofMove (numberIn (move L s .outcome))
-    go true q = rw (q, move) (shaped-gives L s)
-    go false q = rw (q, move)
+    go : Way (L .cost) L s → OneOf ofMove (numberIn (move L s .outcome))
+    go (unshaped e q) = rw q
+    go (finished e q) = rw q
+    go (full e d l q) = rw q
+    go (goes e q) = rw q (choice-gives L s (chosen L s))
 
 pub move-gives : (load : Load) (bench : Bench) → OneOf ofMove (numberIn (nextMove load bench .outcome))
 unfolding nextMove anyIn

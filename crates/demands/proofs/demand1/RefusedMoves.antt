@@ -1,23 +1,21 @@
 -- A refused move is refused alone: it hands back the state it was given, with lamp word and count 0, whichever of the
 -- load's numbers, 10 and 11 it is refused with.
 use Prim.Native.Nat.{ℕ}
-use mathlib.Core.Bool.{Bool, true, false}
 use mathlib.Core.Path.{_≡_, refl, ap, sym, _∙_}
 use native.Mathlib.Omega.{arith}
-use lib.Dec.{leb}
 use Rattle.counting.specs.Searches.{Found, at, none}
 use Rattle.refusals.specs.declared.Refusal.{Refusal}
 use Rattle.refusals.specs.declared.Refusal.the-variants.{StateShape, ClockFull}
 use Rattle.refusals.specs.declared.Checked.{Checked}
 use Rattle.refusals.specs.declared.Checked.the-variants as finding
 use Rattle.load.specs.declared.Load.{Load}
-use Rattle.load.specs.Load.{lastMoment}
 use Rattle.load.specs.View.{View, viewOf}
 use Rattle.load.specs.Check.{checkLoad}
 use Rattle.rules.specs.declared.Outcome.{Outcome}
 use Rattle.rules.specs.declared.Outcome.the-variants.{Start, Idle, Done, Refused}
-use Rattle.rules.specs.State.{State, shaped}
-use Rattle.rules.specs.Move.{Moved as Move, refusedMove, startOrIdle, allFinished, chosen, shapedMove, move}
+use Rattle.rules.specs.State.{State}
+use Rattle.rules.specs.Move.{Moved as Move, refusedMove, startOrIdle, chosen, move}
+use Rattle.rules.proofs.moves.MoveLaws.{Way, unshaped, finished, full, goes, move-way}
 use Rattle.bench.specs.declared.Bench.{Bench}
 use Rattle.bench.specs.declared.Moved.{Moved}
 use Rattle.bench.specs.Held.{stateOf, handedOn, refusedWith, nextMove}
@@ -41,23 +39,14 @@ choice-alone : (L : View) (s : State) (choice : Found) → Alone s (startOrIdle 
 choice-alone L s (at i) refusal e = absurd (let z : _≡_ {A = ℕ} 0 1 = cc in omega arith)
 choice-alone L s none refusal e = absurd (let z : _≡_ {A = ℕ} 0 1 = cc in omega arith)
 
-shaped-alone : (L : View) (s : State) → Alone s (shapedMove L s)
-unfolding shapedMove
-shaped-alone L s = go (allFinished L s) (leb lastMoment (s .clock)) refl refl
-  where
-    go : (isDone isFull : Bool) → allFinished L s ≡ isDone → leb lastMoment (s .clock) ≡ isFull
-        → Alone s (shapedMove L s)
-    go true isFull d f = rw (d, shapedMove) (λ refusal e. absurd (let z : _≡_ {A = ℕ} 0 1 = cc in omega arith))
-    go false true d f = rw (d, shapedMove) (rw f (refused-alone s ClockFull))
-    go false false d f = rw (d, shapedMove) (rw f (choice-alone L s (chosen L s)))
-
 pub move-alone : (L : View) (s : State) → Alone s (move L s)
-unfolding move
-move-alone L s = go (shaped L s) refl
+move-alone L s = go (move-way (L .cost) L s)
   where
-    go : (isShaped : Bool) → shaped L s ≡ isShaped → Alone s (move L s)
-    go true q = rw (q, move) (shaped-alone L s)
-    go false q = rw (q, move) (refused-alone s StateShape)
+    go : Way (L .cost) L s → Alone s (move L s)
+    go (unshaped e q) = rw q (refused-alone s StateShape)
+    go (finished e q) = rw q (λ refusal r. absurd (let z : _≡_ {A = ℕ} 0 1 = cc in omega arith))
+    go (full e d l q) = rw q (refused-alone s ClockFull)
+    go (goes e q) = rw q (choice-alone L s (chosen L s))
 
 pub bench-kept : (load : Load) (bench : Bench) (refusal : Refusal) → nextMove load bench .outcome ≡ Refused refusal
     → nextMove load bench ≡ refusedWith bench refusal

@@ -17,7 +17,7 @@ use Rattle.load_file.specs.Reading.{
   readLoad,
 }
 use Rattle.rules.specs.State.{fresh}
-use Rattle.rules.specs.Run.{stateAfter, starts, schedule}
+use Rattle.rules.specs.Run.{stateAfterBy, startsBy, scheduleBy}
 use Rattle.rules.specs.Slots.{lastEnd}
 use Rattle.rules.proofs.worked.WorkedComputing.{computing as computingRules}
 use Rattle.schedule.specs.ScheduleFile.{scheduleBytes}
@@ -36,8 +36,8 @@ use Rattle.demands.specs.Notation.{pairs, hex, bytesOf, linesOf}
 
 -- to open this is to open all that its line names
 unfoldable pub computing : ℕ
-unfolding computingRules numberAt text decimalTo zeroLoad rowBytes loadBytes rowWith rowFrom rowPlace loadIn headerTests
-    stepFaultIn windowFaultIn ownFault rowFaultAt endTests fileFault readLoad fresh stateAfter starts schedule lastEnd
-    scheduleBytes spaced firstLineOf loadLine rowLineOf rowLine slotLine loadLines refusedLine printed pairs hex
-    bytesOf linesOf
+unfolding computingRules numberAt text decimalTo zeroLoad rowBytes loadBytes rowWith rowFrom rowPlace loadIn
+    headerTests stepFaultIn windowFaultIn ownFault rowFaultAt endTests fileFault readLoad fresh stateAfterBy startsBy
+    scheduleBy lastEnd scheduleBytes spaced firstLineOf loadLine rowLineOf rowLine slotLine loadLines refusedLine
+    printed pairs hex bytesOf linesOf
 computing = 0

@@ -1,18 +1,22 @@
 -- A move leaves nothing past the 24 places of memory where nothing stood before it.
 use Prim.Native.Nat.{ℕ, _≤_, _<_}
-use mathlib.Core.Bool.{Bool, true, false}
 use mathlib.Core.Path.{_≡_, refl, _∙_}
 use native.Mathlib.Omega.{arith}
-use lib.Dec.{leb}
 use Rattle.counting.specs.Searches.{Found, at, none}
-use Rattle.load.specs.Load.{lastMoment, mostRows}
+use Rattle.load.specs.Load.{mostRows}
 use Rattle.load.specs.View.{View}
-use Rattle.rules.specs.State.{State, shaped}
-use Rattle.rules.specs.Move.{started, ticked, startOrIdle, allFinished, chosen, shapedMove, move}
+use Rattle.rules.specs.State.{State}
+use Rattle.rules.specs.Move.{started, ticked, startOrIdle, chosen, move}
 use Rattle.rules.proofs.moves.MoveLaws.{
   started-finished-other,
   started-end-other,
   started-opening-other,
+  Way,
+  unshaped,
+  finished,
+  full,
+  goes,
+  move-way,
   chosen-at,
 }
 use Rattle.bench.proofs.shown.HeldLaws.{Ends}
@@ -37,20 +41,11 @@ module _ (L : View) (s : State) (few : L .rows ≤ mostRows) (ends : Ends s) whe
   choice-ends (at k) e = started-ends k (L .cost k (s .finished k)) (chosen-at L s k e .there)
   choice-ends none e = ticked-ends
 
-  shaped-ends : Ends (shapedMove L s .then)
-  unfolding shapedMove
-  shaped-ends = go (allFinished L s) (leb lastMoment (s .clock)) refl refl
-    where
-      go : (isDone isFull : Bool) → allFinished L s ≡ isDone → leb lastMoment (s .clock) ≡ isFull
-          → Ends (shapedMove L s .then)
-      go true isFull d f = rw (d, shapedMove) ends
-      go false true d f = rw (d, shapedMove) (rw f ends)
-      go false false d f = rw (d, shapedMove) (rw f (choice-ends (chosen L s) refl))
-
   pub move-ends : Ends (move L s .then)
-  unfolding move
-  move-ends = go (shaped L s) refl
+  move-ends = go (move-way (L .cost) L s)
     where
-      go : (isShaped : Bool) → shaped L s ≡ isShaped → Ends (move L s .then)
-      go true q = rw (q, move) shaped-ends
-      go false q = rw (q, move) ends
+      go : Way (L .cost) L s → Ends (move L s .then)
+      go (unshaped e q) = rw q ends
+      go (finished e q) = rw q ends
+      go (full e d l q) = rw q ends
+      go (goes e q) = rw q (choice-ends (chosen L s) refl)

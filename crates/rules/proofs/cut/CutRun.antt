@@ -12,7 +12,7 @@ use Rattle.rules.specs.Cut.{kept, cut}
 use Rattle.rules.specs.Margins.{rowBound}
 use Rattle.rules.specs.State.{State, fresh}
 use Rattle.rules.specs.Move.{Moved, ticked, chosen, allFinished, startOrIdle, move}
-use Rattle.rules.specs.Run.{stateAfter}
+use Rattle.rules.specs.Run.{stateAfterBy, stateAfter}
 use Rattle.rules.proofs.bound.TightBound.{tightBound, tightBound-le}
 use Rattle.rules.proofs.cut.CutLaws.{firstKept-le, steps-of-cut}
 use Rattle.rules.proofs.invariant.Runnable.{Runnable}
@@ -41,7 +41,7 @@ move-stays : (L : View) (s : State) (z : ℕ) → Runnable L → Accounted L s �
 unfolding ticked
 move-stays L s z g v h = go (allFinished L s) refl
   where
-    by : Turn L s → Stays s (move L s .then) z
+    by : Turn (L .cost) L s → Stays s (move L s .then) z
     by (starts i c e) =
         let ne : z ≢ i = λ q. omega (arith, c .more, ap (L .steps) q, ap (s .finished) q) in
         let d = L .cost i (s .finished i) in
@@ -101,7 +101,7 @@ module _ (L : View) (g : Runnable L) (z : ℕ) (lz : z < L .rows) where
     over : L .steps z ≤ stateAfter L t fresh .finished z → stateAfter L t fresh .end z ≤ tightBound K
 
   start-race : Race 0
-  unfolding stateAfter fresh
+  unfolding stateAfterBy fresh
   start-race = record { still = λ _. refl; over = λ _. omega arith }
 
   next-race : (t : ℕ) → Race t → Race (suc t)

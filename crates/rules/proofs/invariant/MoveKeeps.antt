@@ -194,19 +194,21 @@ module _ (L : View) (s : State) (g : Runnable L) (v : Accounted L s) where
       )
 
   pub accounted-done : allFinished L s ≡ true → move L s ≡ handedBack L s Done
-  accounted-done = move-done L s accounted-shaped
+  accounted-done = move-done (L .cost) L s accounted-shaped
 
-  pub accounted-turn : allFinished L s ≡ false → Turn L s
-  accounted-turn nd = move-turn L s accounted-shaped nd (omega (arith, accounted-early nd, tightBound-fits L g))
+  pub accounted-turn : allFinished L s ≡ false → Turn (L .cost) L s
+  accounted-turn nd =
+      move-turn (L .cost) L s accounted-shaped nd (omega (arith, accounted-early nd, tightBound-fits L g))
 
   pub accounted-goes : allFinished L s ≡ false → move L s ≡ startOrIdle L s (chosen L s)
-  accounted-goes nd = move-goes L s accounted-shaped nd (omega (arith, accounted-early nd, tightBound-fits L g))
+  accounted-goes nd =
+      move-goes (L .cost) L s accounted-shaped nd (omega (arith, accounted-early nd, tightBound-fits L g))
 
-  turn-accounted : allFinished L s ≡ false → Turn L s → Accounted L (move L s .then)
+  turn-accounted : allFinished L s ≡ false → Turn (L .cost) L s → Accounted L (move L s .then)
   turn-accounted nd (starts i c e) = rw e (start-accounted i c)
   turn-accounted nd (idles none e) = rw e (idle-accounted nd none)
 
-  turn-later : Turn L s → s .clock < move L s .then .clock
+  turn-later : Turn (L .cost) L s → s .clock < move L s .then .clock
   unfolding ticked
   turn-later (starts i c e) =
       rw e

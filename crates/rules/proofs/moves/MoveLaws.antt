@@ -1,10 +1,10 @@
--- What a start and a tick change, and the three ways of a move that is not refused: Start of a candidate that passes,
--- Idle where none passes, Done. The order of the candidates is not used.
+-- What a start and a tick change, and the ways of a move, whatever lengths its steps have: two refusals, Done, Start of
+-- a candidate that passes, Idle where none passes. The order of the candidates is not used.
 use Prim.Native.Nat.{ℕ, suc, _+_, _≤_, _<_}
 use mathlib.Core.Bool.{Bool, true, false, _&&_}
 use mathlib.Core.Logic.{_≢_}
 use mathlib.Core.Path.{_≡_, refl, ap, _∙_}
-use native.Mathlib.Decide.{ℕ-discrete}
+use native.Mathlib.Decide.{ℕ-discrete, decLt}
 use native.Mathlib.Omega.{arith}
 use lib.Dec.{leb, ltb}
 use borrow.Author.Tests.{ltb-true, leb-true, lt-ltb, le-leb, lt-leb}
@@ -15,6 +15,7 @@ use Rattle.counting.proofs.tests.TestLaws.{and-left, and-right, true-false}
 use Rattle.counting.proofs.sorting.SortLaws.{Every-sorted}
 use Rattle.counting.proofs.lists.EveryLaws.{every-numbersWhere, numbersWhere-every, sorted-every, found-at, found-none}
 use Rattle.counting.proofs.sums.ChangeLaws.{changed-same, changed-other}
+use Rattle.refusals.specs.declared.Refusal.the-variants.{StateShape, ClockFull}
 use Rattle.load.specs.Load.{lastMoment}
 use Rattle.load.specs.View.{View, opensAt}
 use Rattle.rules.specs.declared.Outcome.the-variants.{Start, Idle, Done}
@@ -23,16 +24,16 @@ use Rattle.rules.specs.Ready.{released, isReady, isAllowed, wouldEnd, is
 use Rattle.rules.specs.Move.{
   openingAfter,
   started,
-  startedFull,
   ticked,
   passes,
   chosen,
   allFinished,
   nextSlot,
   handedBack,
-  startOrIdle,
-  shapedMove,
-  move,
+  refusedMove,
+  startOrIdleBy,
+  shapedMoveBy,
+  moveBy,
 }
 
 module _ (L : View) (s : State) (k long : ℕ) where
@@ -128,18 +129,49 @@ canStart-isCandidate L s i c =
       le-leb (wouldEnd L s i) lastMoment (c .in-time),
     )
 
--- the ways of a move
-pub data Turn (L : View) (s : State) : Type 0 where
-  starts : (i : ℕ) → CanStart L s i → move L s ≡ handedBack L (startedFull L s i) (Start (nextSlot s i)) → Turn L s
-  idles : ((i : ℕ) → CanStart L s i → ⊥) → move L s ≡ handedBack L (ticked s) Idle → Turn L s
+-- how a move goes, by its three tests
+module _ (long : ℕ → ℕ → ℕ) (L : View) (s : State) where
+  pub move-unshaped : shaped L s ≡ false → moveBy long L s ≡ refusedMove s StateShape
+  unfolding moveBy
+  move-unshaped h = rw (h, moveBy)
 
-move-shaped : (L : View) (s : State) → shaped L s ≡ true → move L s ≡ shapedMove L s
-unfolding move
-move-shaped L s h = rw (h, move)
+  move-shaped : shaped L s ≡ true → moveBy long L s ≡ shapedMoveBy long L s
+  unfolding moveBy
+  move-shaped h = rw (h, moveBy)
 
-pub move-done : (L : View) (s : State) → shaped L s ≡ true → allFinished L s ≡ true → move L s ≡ handedBack L s Done
-unfolding shapedMove
-move-done L s h d = move-shaped L s h ∙ rw (d, shapedMove)
+  pub move-done : shaped L s ≡ true → allFinished L s ≡ true → moveBy long L s ≡ handedBack L s Done
+  unfolding shapedMoveBy
+  move-done h d = move-shaped h ∙ rw (d, shapedMoveBy)
+
+  pub move-full : shaped L s ≡ true → allFinished L s ≡ false → lastMoment ≤ s .clock
+      → moveBy long L s ≡ refusedMove s ClockFull
+  unfolding shapedMoveBy
+  move-full h d l = move-shaped h ∙ rw (d, shapedMoveBy) (rw (le-leb lastMoment (s .clock) l))
+
+  pub move-goes : shaped L s ≡ true → allFinished L s ≡ false → s .clock < lastMoment
+      → moveBy long L s ≡ startOrIdleBy long L s (chosen L s)
+  unfolding shapedMoveBy
+  move-goes h d l = move-shaped h ∙ rw (d, shapedMoveBy) (rw (lt-leb lastMoment (s .clock) l))
+
+-- the four ways of a move
+pub data Way (long : ℕ → ℕ → ℕ) (L : View) (s : State) : Type 0 where
+  unshaped : shaped L s ≡ false → moveBy long L s ≡ refusedMove s StateShape → Way long L s
+  finished : shaped L s ≡ true → moveBy long L s ≡ handedBack L s Done → Way long L s
+  full : shaped L s ≡ true → allFinished L s ≡ false → lastMoment ≤ s .clock
+      → moveBy long L s ≡ refusedMove s ClockFull → Way long L s
+  goes : shaped L s ≡ true → moveBy long L s ≡ startOrIdleBy long L s (chosen L s) → Way long L s
+
+pub move-way : (long : ℕ → ℕ → ℕ) (L : View) (s : State) → Way long L s
+move-way long L s = go (shaped L s) refl (allFinished L s) refl
+  where
+    go : (b : Bool) → shaped L s ≡ b → (d : Bool) → allFinished L s ≡ d → Way long L s
+    go false h d e = unshaped h (move-unshaped long L s h)
+    go true h true e = finished h (move-done long L s h e)
+    go true h false e =
+        elim (decLt (s .clock) lastMoment) [
+          | yes l ↦ goes h (move-goes long L s h e l)
+          | no l ↦ full h e (omega arith) (move-full long L s h e (omega arith))
+        ]
 
 pub chosen-at : (L : View) (s : State) (i : ℕ) → chosen L s ≡ at i → CanStart L s i
 unfolding chosen candidates
@@ -160,17 +192,20 @@ chosen-none L s e i c =
     (sorted-every (λ k. passes L s k ≡ false) (byKey (s .finished)) (numbersWhere (isCandidate L s) (L .rows))
     (found-none (passes L s) (candidates L s) e)) i (c .there) (canStart-isCandidate L s i c))
 
-pub move-goes : (L : View) (s : State) → shaped L s ≡ true → allFinished L s ≡ false → s .clock < lastMoment
-    → move L s ≡ startOrIdle L s (chosen L s)
-unfolding shapedMove
-move-goes L s h d l = move-shaped L s h ∙ rw (d, shapedMove) (rw (lt-leb lastMoment (s .clock) l))
+-- the two ways of a move with work left and time for it
+pub data Turn (long : ℕ → ℕ → ℕ) (L : View) (s : State) : Type 0 where
+  starts : (i : ℕ) → CanStart L s i
+      → moveBy long L s ≡ handedBack L (started L s i (long i (s .finished i))) (Start (nextSlot s i))
+      → Turn long L s
+  idles : ((i : ℕ) → CanStart L s i → ⊥) → moveBy long L s ≡ handedBack L (ticked s) Idle → Turn long L s
 
-pub move-turn : (L : View) (s : State) → shaped L s ≡ true → allFinished L s ≡ false → s .clock < lastMoment → Turn L s
-move-turn L s h d l = go (chosen L s) refl
+pub move-turn : (long : ℕ → ℕ → ℕ) (L : View) (s : State) → shaped L s ≡ true → allFinished L s ≡ false
+    → s .clock < lastMoment → Turn long L s
+move-turn long L s h d l = go (chosen L s) refl
   where
-    goes : move L s ≡ startOrIdle L s (chosen L s)
-    goes = move-goes L s h d l
+    turned : moveBy long L s ≡ startOrIdleBy long L s (chosen L s)
+    turned = move-goes long L s h d l
 
-    go : (f : Found) → chosen L s ≡ f → Turn L s
-    go (at i) e = starts i (chosen-at L s i e) (goes ∙ ap (startOrIdle L s) e)
-    go none e = idles (chosen-none L s e) (goes ∙ ap (startOrIdle L s) e)
+    go : (f : Found) → chosen L s ≡ f → Turn long L s
+    go (at i) e = starts i (chosen-at L s i e) (turned ∙ ap (startOrIdleBy long L s) e)
+    go none e = idles (chosen-none L s e) (turned ∙ ap (startOrIdleBy long L s) e)

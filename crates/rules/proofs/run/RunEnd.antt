@@ -10,7 +10,7 @@ use Rattle.rules.specs.declared.Slot.{Slot}
 use Rattle.rules.specs.State.{State, fresh}
 use Rattle.rules.specs.Outcomes.{toldBy}
 use Rattle.rules.specs.Move.{startedFull, ticked, allFinished, nextSlot, move}
-use Rattle.rules.specs.Run.{stateAfter, starts, schedule}
+use Rattle.rules.specs.Run.{stateAfterBy, stateAfter, startsBy, starts, schedule}
 use Rattle.rules.specs.Slots.{slotEnd, lastEnd}
 use Rattle.rules.proofs.bound.TightBound.{tightBound}
 use Rattle.rules.proofs.invariant.Runnable.{Runnable}
@@ -48,7 +48,7 @@ module _ (L : View) (g : Runnable L) where
           ∙ (slotEnd-is L i (s .finished i) (nextSlot s i) (record { its-row = refl; its-step = refl })
           ∙ sym (started-clock L s i (L .cost i (s .finished i))))
 
-      by : allFinished L s ≡ false → Turn L s
+      by : allFinished L s ≡ false → Turn (L .cost) L s
           → EndsNow L (move L s .then) (slots ++ toldBy (move L s .outcome) .starts)
       by d (starting i c e) = rw e (λ _. start-ends i)
       by d (idles none e) =
@@ -60,7 +60,7 @@ module _ (L : View) (g : Runnable L) where
       go false d = by d (accounted-turn L s g v d)
 
   fresh-ends : EndsNow L (stateAfter L 0 fresh) (starts L 0 fresh)
-  unfolding starts stateAfter fresh
+  unfolding startsBy stateAfterBy fresh
   fresh-ends _ = lastEnd-none L
 
   pub run-ends-now : (n : ℕ) → EndsNow L (stateAfter L n fresh) (starts L n fresh)

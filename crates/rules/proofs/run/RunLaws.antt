@@ -15,7 +15,16 @@ use Rattle.rules.specs.declared.Outcome.the-variants.{Start, Idle, Done}
 use Rattle.rules.specs.State.{State, fresh}
 use Rattle.rules.specs.Outcomes.{toldBy}
 use Rattle.rules.specs.Move.{Moved, startedFull, ticked, allFinished, nextSlot, handedBack, move}
-use Rattle.rules.specs.Run.{stateAfter, startsFrom, starts, enoughMoves, schedule}
+use Rattle.rules.specs.Run.{
+  stateAfterBy,
+  stateAfter,
+  startsFrom,
+  startsBy,
+  starts,
+  enoughMoves,
+  scheduleBy,
+  schedule,
+}
 use Rattle.rules.proofs.bound.TightBound.{tightBound}
 use Rattle.rules.proofs.invariant.Runnable.{Runnable}
 use Rattle.rules.proofs.moves.MoveLaws.{Turn, starts as starting, idles}
@@ -32,23 +41,23 @@ use Rattle.rules.proofs.invariant.MoveKeeps.{
 }
 
 pub stateAfter-zero : (L : View) (s : State) → stateAfter L 0 s ≡ s
-unfolding stateAfter
+unfolding stateAfterBy
 stateAfter-zero L s = refl
 
 pub stateAfter-next : (L : View) (n : ℕ) (s : State) → stateAfter L (suc n) s ≡ move L (stateAfter L n s) .then
-unfolding stateAfter
+unfolding stateAfterBy
 stateAfter-next L zero s = refl
 stateAfter-next L (suc n) s = stateAfter-next L n (move L s .then)
 
 -- the starts by how a move goes
 pub starts-move : (L : View) (n : ℕ) (s : State) (m : Moved) → move L s ≡ m
     → starts L (suc n) s ≡ startsFrom (m .outcome) (m .then) (starts L n)
-unfolding starts
+unfolding startsBy
 starts-move L n s m e = ap (λ (w : Moved). startsFrom (w .outcome) (w .then) (starts L n)) e
 
 module _ (L : View) (g : Runnable L) where
   pub stateAfter-accounted : (n : ℕ) (s : State) → Accounted L s → Accounted L (stateAfter L n s)
-  unfolding stateAfter
+  unfolding stateAfterBy
   stateAfter-accounted zero s v = v
   stateAfter-accounted (suc n) s v = stateAfter-accounted n (move L s .then) (move-accounted L s g v)
 
@@ -57,13 +66,13 @@ module _ (L : View) (g : Runnable L) where
 
   -- Done changes nothing
   pub stateAfter-done : (n : ℕ) (s : State) → Accounted L s → allFinished L s ≡ true → stateAfter L n s ≡ s
-  unfolding stateAfter
+  unfolding stateAfterBy
   stateAfter-done zero s v d = refl
   stateAfter-done (suc n) s v d = rw (accounted-done L s g v d) (stateAfter-done n s v d)
 
   pub stateAfter-later : (n : ℕ) (s : State) → Accounted L s → allFinished L (stateAfter L n s) ≡ false
       → s .clock + n ≤ stateAfter L n s .clock
-  unfolding stateAfter
+  unfolding stateAfterBy
   stateAfter-later zero s v nd = omega arith
   stateAfter-later (suc n) s v nd =
       go (allFinished L s) refl (stateAfter-later n (move L s .then) (move-accounted L s g v) nd)
@@ -99,7 +108,7 @@ module _ (L : View) (g : Runnable L) where
   accounted-number : (s : State) → Accounted L s → toldBy (move L s .outcome) .number ≡ 0
   accounted-number s v = go (allFinished L s) refl
     where
-      by : Turn L s → toldBy (move L s .outcome) .number ≡ 0
+      by : Turn (L .cost) L s → toldBy (move L s .outcome) .number ≡ 0
       by (starting i c e) = ap (λ (m : Moved). toldBy (m .outcome) .number) e
       by (idles none e) = ap (λ (m : Moved). toldBy (m .outcome) .number) e
 
@@ -120,11 +129,11 @@ module _ (L : View) (g : Runnable L) where
       ∙ ap (λ (m : Moved). toldBy (m .outcome) .starts) (accounted-done L s g v d)
 
   pub starts-zero : (s : State) → starts L 0 s ≡ []
-  unfolding starts
+  unfolding startsBy
   starts-zero s = refl
 
   startsAfter-suc : (n : ℕ) (s : State) → startsAfter (suc n) s ≡ startsAfter n (move L s .then)
-  unfolding stateAfter
+  unfolding stateAfterBy
   startsAfter-suc n s = refl
 
   starts-first : (s : State) → Accounted L s → starts L 1 s ≡ startsAfter 0 s
@@ -135,7 +144,7 @@ module _ (L : View) (g : Runnable L) where
           ap (λ t. toldBy (move L t .outcome) .starts) (stateAfter-zero L s)
           ∙ ap (λ (w : Moved). toldBy (w .outcome) .starts) e
 
-      by : Turn L s → starts L 1 s ≡ startsAfter 0 s
+      by : Turn (L .cost) L s → starts L 1 s ≡ startsAfter 0 s
       by (starting i c e) =
           let m = handedBack L (startedFull L s i) (Start (nextSlot s i)) in
           starts-move L 0 s m e
@@ -157,7 +166,7 @@ module _ (L : View) (g : Runnable L) where
       go (allFinished L s) refl (starts-next n (move L s .then) (move-accounted L s g v))
       ∙ ap (λ l. starts L (suc n) s ++ l) (sym (startsAfter-suc n s))
     where
-      by : Turn L s
+      by : Turn (L .cost) L s
           → starts L (suc n) (move L s .then) ≡ starts L n (move L s .then) ++ startsAfter n (move L s .then)
           → starts L (suc (suc n)) s ≡ starts L (suc n) s ++ startsAfter n (move L s .then)
       by (starting i c e) ih =
@@ -207,6 +216,6 @@ module _ (L : View) (g : Runnable L) where
 
   -- the schedule is the whole run
   pub schedule-whole : (n : ℕ) → tightBound L ≤ n → schedule L ≡ starts L n fresh
-  unfolding schedule
+  unfolding scheduleBy
   schedule-whole n h =
       starts-from-bound enoughMoves (omega (arith, tightBound-fits L g)) ∙ sym (starts-from-bound n h)

@@ -16,7 +16,7 @@ use Rattle.rules.specs.declared.Slot.{Slot}
 use Rattle.rules.specs.State.{State, fresh}
 use Rattle.rules.specs.Outcomes.{toldBy}
 use Rattle.rules.specs.Move.{allFinished, move}
-use Rattle.rules.specs.Run.{stateAfter, starts, schedule}
+use Rattle.rules.specs.Run.{stateAfterBy, stateAfter, startsBy, starts, schedule}
 use Rattle.rules.specs.Slots.{slotAt, slotEnd}
 use Rattle.rules.proofs.bound.TightBound.{tightBound}
 use Rattle.rules.proofs.invariant.Runnable.{Runnable}
@@ -34,7 +34,7 @@ module _ (L : View) (g : Runnable L) where
       → Made L (move L s .then) (slots ++ toldBy (move L s .outcome) .starts)
   move-made s slots v m = go (allFinished L s) refl
     where
-      by : Turn L s → Made L (move L s .then) (slots ++ toldBy (move L s .outcome) .starts)
+      by : Turn (L .cost) L s → Made L (move L s .then) (slots ++ toldBy (move L s .outcome) .starts)
       by (starting i c e) = rw e (start-made L s i slots g (v .invariant .plan) c m)
       by (idles none e) = rw e (rw (append-nil slots) (tick-made L s slots m))
 
@@ -43,11 +43,11 @@ module _ (L : View) (g : Runnable L) where
       go false d = by (accounted-turn L s g v d)
 
   starts-none : starts L 0 fresh ≡ []
-  unfolding starts
+  unfolding startsBy
   starts-none = refl
 
   state-none : stateAfter L 0 fresh ≡ fresh
-  unfolding stateAfter
+  unfolding stateAfterBy
   state-none = refl
 
   pub run-made : (n : ℕ) → Made L (stateAfter L n fresh) (starts L n fresh)
