@@ -1,6 +1,7 @@
 -- What every start and idle tick of a run from fresh keeps, and with it that the clock stays below the bound.
 pub mod Runnable
 pub mod RunnableLaws
+pub mod WorkedSince
 pub mod Invariant
 pub mod TickLaws
 pub mod StartKeeps

@@ -30,24 +30,22 @@ use Rattle.rules.proofs.plan.PlanLaws.{FirstWaits}
 use Rattle.rules.proofs.plan.StackLaws.{stackBy-every, tick-passes}
 use Rattle.rules.proofs.plan.StartPasses.{head-there, head-embedded, head-passes, free-passes}
 use Rattle.rules.proofs.moves.ShapeLaws.{ticked-keeps-shape}
-use Rattle.rules.proofs.invariant.Invariant.{
+use Rattle.rules.proofs.invariant.Invariant.{waitPlaces, Invariant, isFree-lt}
+use Rattle.rules.proofs.invariant.WorkedSince.{
   worked,
   workedSince,
-  waitPlaces,
-  Invariant,
-  isFree-lt,
   worked-next,
   worked-here,
+  tick-worked,
+  minima-le,
 }
 use Rattle.rules.proofs.invariant.ClockBound.{room-for}
 use Rattle.rules.proofs.invariant.TickLaws.{
   allowed-embedded,
   allowed-lowest,
-  tick-worked,
   tick-spent,
   tick-waited,
   tick-waited-more,
-  minima-le,
   waitLeft-le,
 }
 

@@ -2,16 +2,14 @@
 -- open, with none open and a first step due, and with none open and step p + 1 due (`waitTicks p`). What matters is
 -- `charge`: a free wait's ticks, and what other rows worked since it began, fit between its beginning and now.
 use Prim.Native.Nat.{ℕ, zero, suc, _+_, _-_, _≤_, _<_, min}
-use mathlib.Core.Bool.{Bool, true, false, cond, _&&_, not}
-use mathlib.Core.Logic.{_≢_}
-use mathlib.Core.Path.{_≡_, refl}
+use mathlib.Core.Bool.{true, false, cond, not}
+use mathlib.Core.Path.{_≡_}
 use native.Mathlib.Omega.{arith}
-use lib.Dec.{eqb, leb, ltb}
-use borrow.Author.Tests.{ltb-true, eqb-false, not-true, lt-ltb, le-ltb, le-leb, lt-leb, eq-eqb, ne-eqb}
+use lib.Dec.{ltb}
+use borrow.Author.Tests.{ltb-true, not-true}
 use Rattle.counting.specs.Sums.{sumTo}
 use Rattle.counting.proofs.tests.TestLaws.{and-left, and-right}
 use Rattle.counting.proofs.sums.ChangeLaws.{sumTo-suc, cond-mono}
-use Rattle.counting.proofs.sums.SumLaws.{sumTo-none}
 use Rattle.load.specs.Load.{mostSteps}
 use Rattle.load.specs.View.{View, embedded, isFree, embeddedWait}
 use Rattle.rules.specs.Bound.{largestPhase, embeddedWaitAt, largestW}
@@ -19,6 +17,7 @@ use Rattle.rules.specs.State.{State}
 use Rattle.rules.specs.Plan.{planPasses}
 use Rattle.rules.proofs.bound.TightBound.{minima}
 use Rattle.rules.proofs.moves.ShapeLaws.{RowsShaped}
+use Rattle.rules.proofs.invariant.WorkedSince.{workedSince}
 
 -- the costs of the steps that are finished
 unfoldable pub spent : View → State → ℕ
@@ -35,26 +34,6 @@ waitedOf L s i = waitedRow L i (s .finished i) (s .clock - s .end i)
 
 unfoldable pub waited : View → State → ℕ
 waited L s = sumTo (waitedOf L s) (L .rows)
-
--- of two steps p and p + 1 with their costs, the one that a row with so many steps finished has worked at since an
--- end, its own last step having ended at another
-unfoldable pub workedBy : ℕ → ℕ → ℕ → ℕ → ℕ → ℕ → ℕ
-workedBy p here next finished since end =
-    elim (ltb (suc p) finished) [
-      | true ↦ next
-      | false ↦ elim (eqb finished (suc p) && leb since end) [ true ↦ here | false ↦ 0 ]
-    ]
-
--- what row k has worked at its steps p and p + 1 since row i ended its step p
-abbrev pub worked : View → State → ℕ → ℕ → ℕ → ℕ
-worked L s p i k = workedBy p (L .cost k p) (L .cost k (suc p)) (s .finished k) (s .end i) (s .end k)
-
--- another row that the bound takes into account
-abbrev pub isOther : View → ℕ → ℕ → ℕ → Bool
-isOther L p i k = not (eqb k i) && isFree L k (suc p)
-
-unfoldable pub workedSince : View → State → ℕ → ℕ → ℕ
-workedSince L s p i = sumTo (λ k. cond (isOther L p i k) (worked L s p i k) 0) (L .rows)
 
 -- how many places a free wait can have
 abbrev pub waitPlaces : ℕ
@@ -86,12 +65,6 @@ isFree-lt L i j h = ltb-true j (L .steps i) (and-left (ltb j (L .steps i)) (not 
 pub isFree-embedded : (L : View) (i j : ℕ) → isFree L i j ≡ true → embedded L i j ≡ false
 isFree-embedded L i j h = not-true (embedded L i j) (and-right (ltb j (L .steps i)) (not (embedded L i j)) h)
 
-pub isOther-other : (L : View) (p i k : ℕ) → isOther L p i k ≡ true → k ≢ i
-isOther-other L p i k h = eqb-false k i (not-true (eqb k i) (and-left (not (eqb k i)) (isFree L k (suc p)) h))
-
-pub isOther-free : (L : View) (p i k : ℕ) → isOther L p i k ≡ true → isFree L k (suc p) ≡ true
-isOther-free L p i k h = and-right (not (eqb k i)) (isFree L k (suc p)) h
-
 -- a row has waited no less once it has finished one step more, or once more time has passed
 pub waitedRow-next : (L : View) (i f since : ℕ) → waitedRow L i f since ≤ waitedRow L i (suc f) 0
 waitedRow-next L i zero since = omega arith
@@ -109,62 +82,3 @@ waitedRow-mono L i (suc j) since more h =
       arith,
       cond-mono (embeddedWait L i j) (min (L .wait i j) since) (min (L .wait i j) more) (λ _. omega arith),
     )
-
--- the values of `worked`
-module _ (L : View) (s : State) (p i k : ℕ) where
-  pub worked-next : suc p < s .finished k → worked L s p i k ≡ L .cost k (suc p)
-  unfolding workedBy
-  worked-next h = rw (lt-ltb (suc p) (s .finished k) h, workedBy)
-
-  pub worked-here : s .finished k ≡ suc p → s .end i ≤ s .end k → worked L s p i k ≡ L .cost k p
-  unfolding workedBy
-  worked-here h e =
-      rw (
-        le-ltb (suc p) (s .finished k) (omega arith),
-        eq-eqb (s .finished k) (suc p) h,
-        le-leb (s .end i) (s .end k) e,
-        workedBy,
-      )
-
-  pub worked-before : s .finished k ≤ suc p → s .end k < s .end i → worked L s p i k ≡ 0
-  unfolding workedBy
-  worked-before h e = go (eqb (s .finished k) (suc p)) refl
-    where
-      go : (b : Bool) → eqb (s .finished k) (suc p) ≡ b → worked L s p i k ≡ 0
-      go true q = rw (le-ltb (suc p) (s .finished k) h, q, lt-leb (s .end i) (s .end k) e, workedBy)
-      go false q = rw (le-ltb (suc p) (s .finished k) h, q, workedBy)
-
-  pub worked-none : s .finished k ≤ p → worked L s p i k ≡ 0
-  unfolding workedBy
-  worked-none h =
-      rw (
-        le-ltb (suc p) (s .finished k) (omega arith),
-        ne-eqb (s .finished k) (suc p) (λ e. omega arith),
-        workedBy,
-      )
-
-  -- at most the cost of the last step
-  pub worked-le : s .finished k ≡ suc p → worked L s p i k ≤ L .cost k p
-  unfolding workedBy
-  worked-le h =
-      rw (le-ltb (suc p) (s .finished k) (omega arith), eq-eqb (s .finished k) (suc p) h, workedBy)
-      (go (leb (s .end i) (s .end k)))
-    where
-      go : (b : Bool) → elim b [ true ↦ L .cost k p | false ↦ 0 ] ≤ L .cost k p
-      go true = omega arith
-      go false = omega arith
-
--- it looks at three numbers
-pub worked-ext : (L : View) (s s′ : State) (p i k : ℕ) → s .finished k ≡ s′ .finished k → s .end i ≡ s′ .end i
-    → s .end k ≡ s′ .end k → worked L s p i k ≡ worked L s′ p i k
-worked-ext L s s′ p i k a b c = rw (a, b, c)
-
-pub workedSince-none : (L : View) (s : State) (p i : ℕ)
-    → ((k : ℕ) → k < L .rows → k ≢ i → isFree L k (suc p) ≡ true → worked L s p i k ≡ 0) → workedSince L s p i ≡ 0
-unfolding workedSince
-workedSince-none L s p i h =
-    sumTo-none (λ k. cond (isOther L p i k) (worked L s p i k) 0) (L .rows) (λ k l. at k l (isOther L p i k) refl)
-  where
-    at : (k : ℕ) → k < L .rows → (b : Bool) → isOther L p i k ≡ b → cond b (worked L s p i k) 0 ≡ 0
-    at k l false e = refl
-    at k l true e = h k l (isOther-other L p i k e) (isOther-free L p i k e)

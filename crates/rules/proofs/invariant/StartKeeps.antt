@@ -30,13 +30,15 @@ use Rattle.rules.proofs.invariant.Invariant.{
   waited,
   waitedRow-next,
   waitedRow-mono,
-  worked,
-  isOther,
-  workedSince,
   waitPlaces,
   Invariant,
   isFree-lt,
   isFree-embedded,
+}
+use Rattle.rules.proofs.invariant.WorkedSince.{
+  worked,
+  isOther,
+  workedSince,
   worked-next,
   worked-before,
   worked-none,

@@ -1,33 +1,21 @@
--- What a tick changes: nothing that is spent or was worked, and the time that has passed of an embedded wait. When a
--- next step is allowed, and what a free wait's row must have been charged with for the bound to hold.
+-- What a tick changes: nothing that is spent, and the time that has passed of an embedded wait. When a next step is
+-- allowed, and that what is left of a free wait is at most the largest W.
 use Prim.Native.Nat.{ℕ, zero, suc, _+_, _-_, _≤_, _<_, min}
 use mathlib.Core.Bool.{Bool, true, false, cond, _||_}
-use mathlib.Core.Logic.{_≢_}
 use mathlib.Core.Path.{_≡_, refl, subst}
 use native.Mathlib.Omega.{arith}
 use borrow.Author.Tests.{leb-true, le-leb}
 use Rattle.counting.specs.Sums.{maxTo, allTo}
 use Rattle.counting.proofs.tests.TestLaws.{allTo-true, true-allTo, true-false}
 use Rattle.counting.proofs.sums.SumLaws.{sumTo-mono, value-le-maxTo}
-use Rattle.counting.proofs.sums.ChangeLaws.{sumTo-change-ge, cond-mono}
+use Rattle.counting.proofs.sums.ChangeLaws.{sumTo-change-ge}
 use Rattle.load.specs.View.{View, embedded, isFree}
 use Rattle.rules.specs.Bound.{waitLeft, largestW}
 use Rattle.rules.specs.State.{State}
 use Rattle.rules.specs.Ready.{release, released, finishedBelow, isAllowed}
 use Rattle.rules.specs.Move.{ticked}
 use Rattle.rules.proofs.bound.TightBound.{minima}
-use Rattle.rules.proofs.invariant.Invariant.{
-  spent,
-  waitedRow,
-  waitedOf,
-  waited,
-  waitedRow-mono,
-  worked,
-  isOther,
-  workedSince,
-  isOther-other,
-  isOther-free,
-}
+use Rattle.rules.proofs.invariant.Invariant.{spent, waitedRow, waitedOf, waited, waitedRow-mono}
 
 pub allowed-embedded : (L : View) (s : State) (i : ℕ) → embedded L i (s .finished i) ≡ true → isAllowed L s i ≡ true
 unfolding isAllowed
@@ -60,11 +48,7 @@ allowed-lowest L s i h =
     go true e = refl
     go false e = e
 
--- a tick leaves what is spent and what was worked
-pub tick-worked : (L : View) (s : State) (p i : ℕ) → workedSince L (ticked s) p i ≡ workedSince L s p i
-unfolding workedSince ticked
-tick-worked L s p i = refl
-
+-- a tick leaves what is spent
 pub tick-spent : (L : View) (s : State) → spent L (ticked s) ≡ spent L s
 unfolding spent ticked
 tick-spent L s = refl
@@ -90,18 +74,6 @@ tick-waited-more L s r lr e free le lt =
     (λ i l ne. waitedRow-mono L i (s .finished i) (s .clock - s .end i) (s .clock + 1 - s .end i) (omega arith))
     (subst (λ x. waitedOf L s r + 1 ≤ waitedRow L r (s .finished r) x) later
     (waitedRow-more L r (s .finished r) (s .clock - s .end r) (s .end r) e free (omega arith)))
-
--- the charge is at least what the bound takes off, term by term
-pub minima-le : (L : View) (s : State) (p i : ℕ)
-    → ((k : ℕ) → k < L .rows → k ≢ i → isFree L k (suc p) ≡ true
-    → min (L .cost k p) (L .cost k (suc p)) ≤ worked L s p i k)
-    → minima L p i ≤ workedSince L s p i
-unfolding minima workedSince
-minima-le L s p i h =
-    sumTo-mono (λ k. cond (isOther L p i k) (min (L .cost k p) (L .cost k (suc p))) 0)
-    (λ k. cond (isOther L p i k) (worked L s p i k) 0) (L .rows)
-    (λ k l. cond-mono (isOther L p i k) (min (L .cost k p) (L .cost k (suc p))) (worked L s p i k)
-    (λ e. h k l (isOther-other L p i k e) (isOther-free L p i k e)))
 
 pub waitLeft-le : (L : View) (p i : ℕ) → i < L .rows → isFree L i (suc p) ≡ true
     → L .wait i p - minima L p i ≤ largestW minima L p
