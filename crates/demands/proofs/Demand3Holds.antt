@@ -21,6 +21,7 @@ use Rattle.rules.specs.Run.{stateAfter, starts, schedule}
 use Rattle.rules.specs.Check.{checkSlots, checkSchedule}
 use Rattle.rules.specs.Demand3.{GoodOrLate, good, late, Demand3 as RulesKept}
 use Rattle.rules.proofs.invariant.RunnableLaws.{acceptable-runnable}
+use Rattle.rules.proofs.invariant.FullSetting.{fullSetting}
 use Rattle.rules.proofs.run.RunLaws.{starts-joined}
 use Rattle.rules.proofs.Demand3.{accepted-demand3, accepted-passes}
 use Rattle.bound.specs.declared.Judged.{Judged}
@@ -46,7 +47,8 @@ module _ (load : Load) (accepted : checkLoad load ≡ Good) (run : Run load) whe
   -- the starts of the moves are the starts of the run
   starts-are : (n : ℕ) → starts (viewOf load) n fresh ≡ startsOf run n
   starts-are n =
-      starts-joined (viewOf load) (acceptable-runnable (viewOf load) (check-acceptable load accepted)) n
+      starts-joined (viewOf load)
+      (fullSetting (viewOf load) (acceptable-runnable (viewOf load) (check-acceptable load accepted))) n
       ∙ joinTo-ext _ (λ k. toldBy (run .moved k .outcome) .starts) n
       (λ k l. ap (λ o. toldBy o .starts) (sym (run-moves load accepted run k .outcome-is)))
 

@@ -15,21 +15,27 @@ use Rattle.load.specs.View.{View, viewOf}
 use Rattle.load.specs.Check.{checkLoad}
 use Rattle.load.specs.Acceptable.{Acceptable}
 use Rattle.load.proofs.AcceptableLaws.{check-acceptable}
+use Rattle.rules.specs.Cut.{cut}
 use Rattle.rules.specs.Margins.{rowBound, margin, isNegative, verdict}
-use Rattle.rules.specs.Run.{schedule}
+use Rattle.rules.specs.State.{fresh}
+use Rattle.rules.specs.Run.{stateAfter, schedule}
 use Rattle.rules.specs.Slots.{slotAt, rowOf, slotEnd}
 use Rattle.rules.specs.Check.{checkSchedule}
 use Rattle.rules.specs.Demand3.{Demand3}
-use Rattle.rules.proofs.bound.TightBound.{tightBound, tightBound-le}
+use Rattle.rules.proofs.bound.TightBound.{minima, tightBound, tightBound-le}
 use Rattle.rules.proofs.invariant.Runnable.{Runnable}
 use Rattle.rules.proofs.invariant.RunnableLaws.{acceptable-runnable}
-use Rattle.rules.proofs.invariant.ClockBound.{tightBound-fits}
+use Rattle.rules.proofs.invariant.Setting.{Charging, Setting}
+use Rattle.rules.proofs.invariant.WorkedSince.{workedSince}
+use Rattle.rules.proofs.invariant.FullSetting.{fullSetting}
+use Rattle.rules.proofs.invariant.ClockBound.{boundBy-fits}
 use Rattle.rules.proofs.run.RunLaws.{run-done, run-number, run-clock, starts-joined, schedule-whole}
 use Rattle.rules.proofs.run.RunEnd.{schedule-ends}
 use Rattle.rules.proofs.slots.WholeLaws.{Whole, free-last, rules-hold}
 use Rattle.rules.proofs.slots.NextLaws.{slot-is}
 use Rattle.rules.proofs.run.RunMade.{finished-all, schedule-is-whole, schedule-lower, last-ends}
 use Rattle.rules.proofs.check.SlotsPass.{check-late, check-good}
+use Rattle.rules.proofs.cut.CutRunnable.{runnable-of-cut}
 use Rattle.rules.proofs.cut.CutRun.{row-in-bound}
 
 -- a margin that is not negative
@@ -49,6 +55,19 @@ verdict-true L e i l =
     (not-true (isNegative (margin L i)) (allTo-true (λ k. not (isNegative (margin L k))) (L .rows) e i l))
 
 module _ (L : View) (g : Runnable L) where
+  abbrev full : Setting L (L .cost) minima workedSince
+  full = fullSetting L g
+
+  cuts : (m : ℕ) → 1 ≤ m → Charging (cut L m) (L .cost) minima workedSince
+  unfolding cut
+  cuts m h = fullSetting (cut L m) (runnable-of-cut L m g h) .charging
+
+  -- a finished row has ended by its row bound
+  row-ends : (i t : ℕ) → i < L .rows → L .steps i ≤ stateAfter L t fresh .finished i
+      → stateAfter L t fresh .end i ≤ rowBound L i
+  unfolding rowBound
+  row-ends i t l h = omega (arith, row-in-bound L full cuts i l t h, tightBound-le (cut L (L .steps i)))
+
   w : Whole L (schedule L)
   w = schedule-is-whole L g
 
@@ -64,7 +83,7 @@ module _ (L : View) (g : Runnable L) where
       omega (
         arith,
         last-ends L g k i l li (slot-is L x mine .its-row) e,
-        row-in-bound L g i li (tightBound L) (omega (arith, finished-all L g (tightBound L) (omega arith) i li)),
+        row-ends i (tightBound L) li (omega (arith, finished-all L g (tightBound L) (omega arith) i li)),
       )
 
   in-time : verdict L ≡ true → (k : ℕ) → k < length (schedule L)
@@ -82,12 +101,12 @@ module _ (L : View) (g : Runnable L) where
   runnable-demand3 =
       record {
         moves = tightBound L;
-        moves-few = omega (arith, tightBound-fits L g);
-        done = run-done L g (tightBound L) (omega arith);
-        all-starts = schedule-whole L g;
-        made = schedule-whole L g (tightBound L) (omega arith) ∙ starts-joined L g (tightBound L);
-        numbers = run-number L g;
-        in-bound = λ n. omega (arith, run-clock L g n, tightBound-le L);
+        moves-few = omega (arith, boundBy-fits minima L g);
+        done = run-done L full (tightBound L) (omega arith);
+        all-starts = schedule-whole L full;
+        made = schedule-whole L full (tightBound L) (omega arith) ∙ starts-joined L full (tightBound L);
+        numbers = run-number L full;
+        in-bound = λ n. omega (arith, run-clock L full n, tightBound-le L);
         last-end = schedule-ends L g;
         rules = rules-hold L (schedule L) w (g .first-last);
         rows = rows-end;

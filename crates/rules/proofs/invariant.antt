@@ -2,7 +2,9 @@
 pub mod Runnable
 pub mod RunnableLaws
 pub mod WorkedSince
+pub mod Setting
 pub mod Invariant
+pub mod FullSetting
 pub mod TickLaws
 pub mod StartKeeps
 pub mod ClockBound

@@ -22,10 +22,12 @@ use Rattle.rules.specs.State.{State, fresh, shaped}
 use Rattle.rules.specs.Slots.{noSlot, slotPlaces, slotAt}
 use Rattle.rules.specs.Move.{allFinished, chosen}
 use Rattle.rules.specs.Run.{starts, enoughMoves, scheduleBy, schedule}
-use Rattle.rules.proofs.invariant.Runnable.{Runnable}
+use Rattle.rules.proofs.bound.TightBound.{minima}
 use Rattle.rules.proofs.invariant.RunnableLaws.{acceptable-runnable}
-use Rattle.rules.proofs.invariant.MoveKeeps.{Accounted, fresh-accounted, accounted-early, accounted-shaped}
-use Rattle.rules.proofs.invariant.ClockBound.{tightBound-fits}
+use Rattle.rules.proofs.invariant.WorkedSince.{workedSince}
+use Rattle.rules.proofs.invariant.Setting.{Setting}
+use Rattle.rules.proofs.invariant.FullSetting.{fullSetting}
+use Rattle.rules.proofs.invariant.MoveKeeps.{Accounted, fresh-accounted, accounted-time, accounted-shaped}
 use Rattle.rules.proofs.run.StretchLaws.{later, Quiet, starts-done, quiet-accounted, quiet-starts}
 use Rattle.bench.specs.declared.Bench.{Bench}
 use Rattle.bench.specs.declared.Board.{Board}
@@ -48,7 +50,7 @@ pub record Running (load : Load) (board : Board) (clock count : ℕ) (slots : Li
   pub held : HeldBench bench
   pub clock-is : bench .clock ≡ clock
   pub shows : Shows load bench board
-  pub kept : Accounted (viewOf load) (stateOf bench)
+  pub kept : Accounted minima workedSince (viewOf load) (stateOf bench)
   -- the moves that are left, more than the clock can go on
   pub moves : ℕ
   pub moves-most : lastMoment < clock + moves
@@ -62,11 +64,14 @@ module _ (load : Load) (accepted : checkLoad load ≡ Good) (most : load .rows �
   abbrev L : View
   L = viewOf load
 
-  good : Runnable L
-  good = acceptable-runnable L (check-acceptable load accepted)
+  full : Setting L (L .cost) minima workedSince
+  full = fullSetting L (acceptable-runnable L (check-acceptable load accepted))
+
+  fresh-kept : Accounted minima workedSince L fresh
+  fresh-kept = fresh-accounted minima workedSince L (full .runnable)
 
   pub fresh-shaped : shaped L (stateOf (benchOf fresh)) ≡ true
-  fresh-shaped = rw fresh-state (accounted-shaped L fresh good (fresh-accounted L good))
+  fresh-shaped = rw fresh-state (accounted-shaped L fresh full fresh-kept)
 
   -- before the first move
   pub running-fresh : (board : Board) → Shows load (benchOf fresh) board
@@ -78,7 +83,7 @@ module _ (load : Load) (accepted : checkLoad load ≡ Good) (most : load .rows �
         held = benchOf-held fresh;
         clock-is = refl;
         shows = shows;
-        kept = subst (Accounted L) (sym fresh-state) (fresh-accounted L good);
+        kept = subst (Accounted minima workedSince L) (sym fresh-state) fresh-kept;
         moves = enoughMoves;
         moves-most = omega arith;
         before = [];
@@ -96,8 +101,7 @@ module _ (load : Load) (accepted : checkLoad load ≡ Good) (most : load .rows �
 
     -- with work left the clock is before the last moment
     pub running-early : finishedIn board (load .rows) ≡ false → clock < lastMoment
-    running-early nd =
-        omega (arith, accounted-early L s good (r .kept) (sym asked ∙ nd), tightBound-fits L good, r .clock-is)
+    running-early nd = omega (arith, accounted-time L s full (r .kept) (sym asked ∙ nd), r .clock-is)
 
     -- after the last
     pub running-done : finishedIn board (load .rows) ≡ true
@@ -105,7 +109,7 @@ module _ (load : Load) (accepted : checkLoad load ≡ Good) (most : load .rows �
     running-done d =
         let whole : schedule L ≡ r .before =
         r .schedule-is
-        ∙ (ap (λ l. r .before ++ l) (starts-done L good (r .moves) s (r .kept) (sym asked ∙ d))
+        ∙ (ap (λ l. r .before ++ l) (starts-done L full (r .moves) s (r .kept) (sym asked ∙ d))
         ∙ append-nil (r .before)) in
         let counted : count ≡ length (schedule L) = sym (r .count-is) ∙ ap length (sym whole) in
         ap₂ (λ n l. record { answer = Good; count = n; slots = l }) counted
@@ -122,7 +126,7 @@ module _ (load : Load) (accepted : checkLoad load ≡ Good) (most : load .rows �
           held = benchAt-held (r .bench) (r .held) (r .bench .clock + k);
           clock-is = ap (λ t. t + k) (r .clock-is);
           shows = shows-at load (r .bench) board (r .shows) (r .bench .clock + k);
-          kept = quiet-accounted L good s (r .kept) pause k q;
+          kept = quiet-accounted L full s (r .kept) pause k q;
           moves = r .moves - k;
           moves-most = omega (arith, r .moves-most);
           before = r .before;
@@ -130,7 +134,7 @@ module _ (load : Load) (accepted : checkLoad load ≡ Good) (most : load .rows �
           schedule-is =
               r .schedule-is
               ∙ ap (λ l. r .before ++ l)
-              (ap (λ n. starts L n s) left ∙ quiet-starts L good s (r .kept) pause k (r .moves - k) q);
+              (ap (λ n. starts L n s) left ∙ quiet-starts L full s (r .kept) pause k (r .moves - k) q);
           slots-are = r .slots-are;
         }
 

@@ -20,8 +20,11 @@ use Rattle.rules.specs.State.{State}
 use Rattle.rules.specs.Slots.{noSlot, slotPlaces, slotAt}
 use Rattle.rules.specs.Move.{allFinished, chosen, nextSlot, startedFull}
 use Rattle.rules.specs.Run.{starts, schedule}
-use Rattle.rules.proofs.invariant.Runnable.{Runnable}
+use Rattle.rules.proofs.bound.TightBound.{minima}
 use Rattle.rules.proofs.invariant.RunnableLaws.{acceptable-runnable}
+use Rattle.rules.proofs.invariant.WorkedSince.{workedSince}
+use Rattle.rules.proofs.invariant.Setting.{Setting}
+use Rattle.rules.proofs.invariant.FullSetting.{fullSetting}
 use Rattle.rules.proofs.invariant.MoveKeeps.{Accounted}
 use Rattle.rules.proofs.run.StretchLaws.{starts-start, chosen-accounted}
 use Rattle.bench.specs.declared.Bench.{Bench}
@@ -60,8 +63,8 @@ module _ (load : Load) (accepted : checkLoad load ≡ Good) (most : load .rows �
   abbrev s : State
   s = stateOf (r .bench)
 
-  good : Runnable L
-  good = acceptable-runnable L (check-acceptable load accepted)
+  full : Setting L (L .cost) minima workedSince
+  full = fullSetting L (acceptable-runnable L (check-acceptable load accepted))
 
   asked : finishedIn board (load .rows) ≡ allFinished L s
   asked = finished-is load (r .bench) board (r .shows) (r .held) most
@@ -95,7 +98,7 @@ module _ (load : Load) (accepted : checkLoad load ≡ Good) (most : load .rows �
         r .schedule-is
         ∙ (ap (λ l. r .before ++ l)
         (ap (λ n. starts L n s) left
-        ∙ (starts-start L good s (r .kept) (sym asked ∙ nd) i chosen-is (r .moves - 1)
+        ∙ (starts-start L full s (r .kept) (sym asked ∙ nd) i chosen-is (r .moves - 1)
         ∙ ap (λ x. x ∷ starts L (r .moves - 1) going) (sym slot-is)))
         ∙ sym (append-assoc (r .before) (slot ∷ []) (starts L (r .moves - 1) going)))
 
@@ -123,7 +126,7 @@ module _ (load : Load) (accepted : checkLoad load ≡ Good) (most : load .rows �
     cost-least =
         omega (
           arith,
-          good .cost-least i (s .finished i) l
+          full .runnable .cost-least i (s .finished i) l
               (omega (
                 arith,
                 more,
@@ -155,7 +158,9 @@ module _ (load : Load) (accepted : checkLoad load ≡ Good) (most : load .rows �
           shows =
               shows-started load (r .bench) board (r .shows) (r .held) i l (omega arith) look
               (e ∙ ap (λ t. lookAfter (rowAt load i) board t i) (sym (r .clock-is))) m;
-          kept = subst (Accounted L) (sym state) (chosen-accounted L good s (r .kept) (sym asked ∙ nd) i chosen-is);
+          kept =
+              subst (Accounted minima workedSince L) (sym state)
+              (chosen-accounted L full s (r .kept) (sym asked ∙ nd) i chosen-is);
           moves = r .moves - 1;
           moves-most = omega (arith, r .moves-most, cost-least);
           before = r .before ++ (slot ∷ []);

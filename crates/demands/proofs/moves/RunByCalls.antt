@@ -45,12 +45,12 @@ module _ (load : Load) (accepted : checkLoad load ≡ Good) (run : Run load) whe
 
   pub run-states : (n : ℕ) → stateOf (run .bench n) ≡ stateAfter (viewOf load) n fresh
   run-states zero =
-      ap stateOf (run .begins) ∙ fresh-state ∙ sym (stateAfter-zero (viewOf load) fresh)
+      ap stateOf (run .begins) ∙ fresh-state ∙ sym (stateAfter-zero (viewOf load .cost) (viewOf load) fresh)
   run-states (suc n) =
       ap stateOf (next-bench n)
       ∙ next-same load accepted (run .bench n) (run-held n) .state-is
       ∙ ap (λ s. move (viewOf load) s .then) (run-states n)
-      ∙ sym (stateAfter-next (viewOf load) n fresh)
+      ∙ sym (stateAfter-next (viewOf load .cost) (viewOf load) n fresh)
 
   pub run-moves : (n : ℕ) → SameMove (run .moved n) (move (viewOf load) (stateAfter (viewOf load) n fresh))
   run-moves n =

@@ -28,7 +28,7 @@ minima L j i =
     sumTo (λ k. cond (not (eqb k i) && isFree L k (suc j)) (min (L .cost k j) (L .cost k (suc j))) 0) (L .rows)
 
 -- the bound that takes off the smaller cost of each row
-unfoldable pub tightBound : View → ℕ
+abbrev pub tightBound : View → ℕ
 tightBound L = boundBy minima L
 
 pub smallestCosts-le : (L : View) (j i : ℕ) → smallestCosts L j i ≤ minima L j i
@@ -73,5 +73,5 @@ boundBy-mono more less L h =
     )
 
 pub tightBound-le : (L : View) → tightBound L ≤ bound L
-unfolding tightBound bound
+unfolding bound
 tightBound-le L = boundBy-mono minima smallestCosts L (smallestCosts-le L)

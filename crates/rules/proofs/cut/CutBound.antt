@@ -100,5 +100,4 @@ module _ (L : View) (m : ℕ) (within : (i : ℕ) → i < L .rows → Within L i
   pub tightBound-of-cut : m ≤ mostSteps
       → tightBound (cut L m)
       ≡ keptCosts L m + largestPhase L + keptWaits L m + sumTo (largestW minima L) (m - 1)
-  unfolding tightBound
   tightBound-of-cut h = boundBy-of-cut minima (minima-of-cut L m within) h

@@ -114,10 +114,15 @@ module _ (L : View) (m : ℕ) (g : Runnable L) (s : State)
         (joinTo-ext (λ i. cond (isCandidate K s i) (i ∷ []) []) (λ i. cond (isCandidate L s i) (i ∷ []) []) (L .rows)
         (λ i l. ap (λ b. cond b (i ∷ []) []) (candidate-same i l)))
 
-    pub startedFull-same : (k : ℕ) → k < L .rows → isCandidate L s k ≡ true → startedFull K s k ≡ startedFull L s k
+    -- its start leaves both alike, whatever length its step has
+    pub candidate-alike : (k long : ℕ) → k < L .rows → isCandidate L s k ≡ true
+        → started K s k long ≡ started L s k long
+    candidate-alike k long l e = started-same L m g s inside k long l (candidate-in k l e)
+
+    startedFull-same : (k : ℕ) → k < L .rows → isCandidate L s k ≡ true → startedFull K s k ≡ startedFull L s k
     startedFull-same k l e =
         ap (started K s k) (cost-of-cut L m k (s .finished k))
-        ∙ started-same L m g s inside k (L .cost k (s .finished k)) l (candidate-in k l e)
+        ∙ candidate-alike k (L .cost k (s .finished k)) l e
 
     passes-same : (k : ℕ) → k < L .rows → isCandidate L s k ≡ true → passes K s k ≡ passes L s k
     unfolding passes

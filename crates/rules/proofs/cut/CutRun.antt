@@ -1,5 +1,6 @@
--- A row ends by its row bound: the load cut at the row's number of steps runs through the same states until the row is
--- finished, so its bound holds until then, and a finished row stays as it is.
+-- A row ends by the bound of the load cut at the row's number of steps, in any setting that the cut loads share: these
+-- run through the same states until the row is finished, so the bound holds until then, and a finished row stays as it
+-- is.
 use Prim.Native.Nat.{ℕ, zero, suc, _≤_, _<_}
 use mathlib.Core.Bool.{Bool, true, false}
 use mathlib.Core.Logic.{_≢_}
@@ -9,13 +10,12 @@ use native.Mathlib.Omega.{arith}
 use Rattle.counting.specs.Searches.{Found, at, none}
 use Rattle.load.specs.View.{View}
 use Rattle.rules.specs.Cut.{kept, cut}
-use Rattle.rules.specs.Margins.{rowBound}
+use Rattle.rules.specs.Bound.{boundBy}
 use Rattle.rules.specs.State.{State, fresh}
-use Rattle.rules.specs.Move.{Moved, ticked, chosen, allFinished, startOrIdle, move}
-use Rattle.rules.specs.Run.{stateAfterBy, stateAfter}
-use Rattle.rules.proofs.bound.TightBound.{tightBound, tightBound-le}
-use Rattle.rules.proofs.cut.CutLaws.{firstKept-le, steps-of-cut}
-use Rattle.rules.proofs.invariant.Runnable.{Runnable}
+use Rattle.rules.specs.Move.{Moved, ticked, chosen, allFinished, startOrIdleBy, moveBy}
+use Rattle.rules.specs.Run.{stateAfterBy}
+use Rattle.rules.proofs.cut.CutLaws.{firstKept-le, kept-le, steps-of-cut}
+use Rattle.rules.proofs.invariant.Setting.{Long, Gives, Charge, Charging, Setting}
 use Rattle.rules.proofs.moves.MoveLaws.{
   Turn,
   starts,
@@ -29,22 +29,23 @@ use Rattle.rules.proofs.moves.MoveRefused.{left-unfinished}
 use Rattle.rules.proofs.invariant.MoveKeeps.{Accounted, accounted-done, accounted-turn, accounted-goes}
 use Rattle.rules.proofs.run.RunLaws.{stateAfter-next, run-accounted, run-clock}
 use Rattle.rules.proofs.cut.CutRunnable.{runnable-of-cut}
-use Rattle.rules.proofs.cut.CutMoves.{startedFull-same, chosen-same}
+use Rattle.rules.proofs.cut.CutMoves.{candidate-alike, chosen-same}
 
 -- a finished row stays as it is
 record Stays (s t : State) (z : ℕ) : Type 0 where
   finished-same : t .finished z ≡ s .finished z
   end-same : t .end z ≡ s .end z
 
-move-stays : (L : View) (s : State) (z : ℕ) → Runnable L → Accounted L s → L .steps z ≤ s .finished z
-    → Stays s (move L s .then) z
+move-stays : (L : View) (s : State) (z : ℕ) {long : Long} {gives : Gives} {charged : Charge}
+    → Setting L long gives charged → Accounted gives charged L s → L .steps z ≤ s .finished z
+    → Stays s (moveBy long L s .then) z
 unfolding ticked
-move-stays L s z g v h = go (allFinished L s) refl
+move-stays L s z {long} g v h = go (allFinished L s) refl
   where
-    by : Turn (L .cost) L s → Stays s (move L s .then) z
+    by : Turn long L s → Stays s (moveBy long L s .then) z
     by (starts i c e) =
         let ne : z ≢ i = λ q. omega (arith, c .more, ap (L .steps) q, ap (s .finished) q) in
-        let d = L .cost i (s .finished i) in
+        let d = long i (s .finished i) in
         rw e
         (record {
           finished-same = started-finished-other L s i d z ne;
@@ -52,30 +53,41 @@ move-stays L s z g v h = go (allFinished L s) refl
         })
     by (idles no-one e) = rw e (record { finished-same = refl; end-same = refl })
 
-    go : (b : Bool) → allFinished L s ≡ b → Stays s (move L s .then) z
+    go : (b : Bool) → allFinished L s ≡ b → Stays s (moveBy long L s .then) z
     go true d = rw (accounted-done L s g v d) (record { finished-same = refl; end-same = refl })
     go false d = by (accounted-turn L s g v d)
 
-module _ (L : View) (g : Runnable L) (z : ℕ) (lz : z < L .rows) where
+module _ (L : View) {long : Long} {gives : Gives} {charged : Charge} (g : Setting L long gives charged)
+    (cuts : (m : ℕ) → 1 ≤ m → Charging (cut L m) long gives charged) (z : ℕ) (lz : z < L .rows) where
   abbrev m : ℕ
   m = L .steps z
 
   abbrev K : View
   K = cut L m
 
-  gK : Runnable K
-  gK = runnable-of-cut L m g (g .steps-least z lz)
+  gK : Setting K long gives charged
+  unfolding cut
+  gK =
+      record {
+        runnable = runnable-of-cut L m (g .runnable) (g .runnable .steps-least z lz);
+        lengths = record {
+          least = λ i j l h. g .lengths .least i j l (omega (arith, kept-le L m i));
+          most = λ i j l h. g .lengths .most i j l (omega (arith, kept-le L m i));
+        };
+        charging = cuts m (g .runnable .steps-least z lz);
+      }
 
   lz′ : z < K .rows
   unfolding cut
   lz′ = lz
 
   -- the two loads move alike
-  move-same : (s : State) → Accounted L s → Accounted K s → s .finished z < L .steps z → move K s .then ≡ move L s .then
+  move-same : (s : State) → Accounted gives charged L s → Accounted gives charged K s → s .finished z < L .steps z
+      → moveBy long K s .then ≡ moveBy long L s .then
   unfolding cut
   move-same s v vK late =
       ap (λ (w : Moved). w .then) (accounted-goes K s gK vK nK)
-      ∙ (ap (λ f. startOrIdle K s f .then) (chosen-same L m g s inside z lz (omega arith) late)
+      ∙ (ap (λ f. startOrIdleBy long K s f .then) (chosen-same L m (g .runnable) s inside z lz (omega arith) late)
       ∙ (go (chosen L s) refl ∙ sym (ap (λ (w : Moved). w .then) (accounted-goes L s g v nL))))
     where
       inside : (i : ℕ) → i < L .rows → s .finished i ≤ kept L m i
@@ -89,16 +101,18 @@ module _ (L : View) (g : Runnable L) (z : ℕ) (lz : z < L .rows) where
           left-unfinished K s
           (record { row = z; there = lz′; left = omega (arith, steps-of-cut L m z, firstKept-le L m z) })
 
-      go : (f : Found) → chosen L s ≡ f → startOrIdle K s f .then ≡ startOrIdle L s f .then
+      go : (f : Found) → chosen L s ≡ f → startOrIdleBy long K s f .then ≡ startOrIdleBy long L s f .then
       go none e = refl
       go (at i) e =
           let c = chosen-at L s i e in
-          startedFull-same L m g s inside z lz (omega arith) late i (c .there) (canStart-isCandidate L s i c)
+          candidate-alike L m (g .runnable) s inside z lz (omega arith) late i (long i (s .finished i)) (c .there)
+          (canStart-isCandidate L s i c)
 
   -- until the row is finished the two run through the same states; from then on it has ended by the cut load's bound
   record Race (t : ℕ) : Type 0 where
-    still : stateAfter L t fresh .finished z < L .steps z → stateAfter K t fresh ≡ stateAfter L t fresh
-    over : L .steps z ≤ stateAfter L t fresh .finished z → stateAfter L t fresh .end z ≤ tightBound K
+    still : stateAfterBy long L t fresh .finished z < L .steps z
+        → stateAfterBy long K t fresh ≡ stateAfterBy long L t fresh
+    over : L .steps z ≤ stateAfterBy long L t fresh .finished z → stateAfterBy long L t fresh .end z ≤ boundBy gives K
 
   start-race : Race 0
   unfolding stateAfterBy fresh
@@ -109,9 +123,9 @@ module _ (L : View) (g : Runnable L) (z : ℕ) (lz : z < L .rows) where
   next-race t r =
       elim (decLt (s .finished z) (L .steps z)) [
         | yes late ↦
-            (let same : stateAfter K (suc t) fresh ≡ stateAfter L (suc t) fresh =
-            stateAfter-next K t fresh
-            ∙ (ap (λ x. move K x .then) (r .still late) ∙ (alike late ∙ sym (stateAfter-next L t fresh))) in
+            (let same : stateAfterBy long K (suc t) fresh ≡ stateAfterBy long L (suc t) fresh =
+            stateAfter-next long K t fresh
+            ∙ (ap (λ x. moveBy long K x .then) (r .still late) ∙ (alike late ∙ sym (stateAfter-next long L t fresh))) in
             let v = run-accounted K gK (suc t) in
             record {
               still = λ _. same;
@@ -125,7 +139,7 @@ module _ (L : View) (g : Runnable L) (z : ℕ) (lz : z < L .rows) where
             })
         | no done ↦
             (let o = move-stays L s z g (run-accounted L g t) (omega arith) in
-            let e = stateAfter-next L t fresh in
+            let e = stateAfter-next long L t fresh in
             record {
               still = λ l. absurd (omega (arith, o .finished-same, ap (λ (x : State). x .finished z) e));
               over = λ _. omega (arith, o .end-same, ap (λ (x : State). x .end z) e, r .over (omega arith));
@@ -133,21 +147,18 @@ module _ (L : View) (g : Runnable L) (z : ℕ) (lz : z < L .rows) where
       ]
     where
       s : State
-      s = stateAfter L t fresh
+      s = stateAfterBy long L t fresh
 
-      alike : s .finished z < L .steps z → move K s .then ≡ move L s .then
-      alike late = move-same s (run-accounted L g t) (subst (Accounted K) (r .still late) (run-accounted K gK t)) late
+      alike : s .finished z < L .steps z → moveBy long K s .then ≡ moveBy long L s .then
+      alike late =
+          move-same s (run-accounted L g t) (subst (Accounted gives charged K) (r .still late) (run-accounted K gK t))
+          late
 
   race : (t : ℕ) → Race t
   race zero = start-race
   race (suc t) = next-race t (race t)
 
-  -- the row has ended by the cut load's tighter bound, and so by its row bound
-  pub row-in-tight-bound : (t : ℕ) → L .steps z ≤ stateAfter L t fresh .finished z
-      → stateAfter L t fresh .end z ≤ tightBound (cut L (L .steps z))
-  row-in-tight-bound t h = race t .over h
-
-  pub row-in-bound : (t : ℕ) → L .steps z ≤ stateAfter L t fresh .finished z
-      → stateAfter L t fresh .end z ≤ rowBound L z
-  unfolding rowBound
-  row-in-bound t h = omega (arith, row-in-tight-bound t h, tightBound-le (cut L (L .steps z)))
+  -- the row has ended by the cut load's bound
+  pub row-in-bound : (t : ℕ) → L .steps z ≤ stateAfterBy long L t fresh .finished z
+      → stateAfterBy long L t fresh .end z ≤ boundBy gives (cut L (L .steps z))
+  row-in-bound t h = race t .over h

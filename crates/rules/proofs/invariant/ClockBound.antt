@@ -12,9 +12,9 @@ use Rattle.load.specs.View.{View, embeddedWait}
 use Rattle.rules.specs.Bound.{allCosts, embeddedWaitAt, allEmbeddedWaits, largestW, boundBy}
 use Rattle.rules.specs.State.{State}
 use Rattle.rules.specs.Ready.{wouldEnd}
-use Rattle.rules.proofs.bound.TightBound.{minima, tightBound}
 use Rattle.rules.proofs.bound.BoundLaws.{Ranged, boundBy-le}
 use Rattle.rules.proofs.invariant.Runnable.{Runnable}
+use Rattle.rules.proofs.invariant.Setting.{Gives, Charge}
 use Rattle.rules.proofs.invariant.Invariant.{spent, waitedRow, waitedOf, waited, waitPlaces, Invariant}
 
 pub runnable-ranged : (L : View) → Runnable L → Ranged L
@@ -27,9 +27,8 @@ runnable-ranged L g =
       wait-most = λ i j l h. g .wait-most i j l (omega arith);
     }
 
-pub tightBound-fits : (L : View) → Runnable L → tightBound L ≤ lastMoment
-unfolding tightBound
-tightBound-fits L g = omega (arith, boundBy-le L (runnable-ranged L g) minima)
+pub boundBy-fits : (gives : Gives) (L : View) → Runnable L → boundBy gives L ≤ lastMoment
+boundBy-fits gives L g = omega (arith, boundBy-le L (runnable-ranged L g) gives)
 
 -- all a row has waited is among its embedded waits
 waitedRow-le : (L : View) (i f since : ℕ) → Runnable L → i < L .rows → f ≤ L .steps i
@@ -46,7 +45,8 @@ waitedRow-le L i (suc j) since g l h = go (embeddedWait L i j) refl
         let inside = g .embedded-in i (suc j) l e in
         omega (arith, w, sumTo-more-term (embeddedWaitAt L i) j (L .steps i - 1) (omega arith))
 
-module _ (L : View) (s : State) (g : Runnable L) {E P : ℕ} {F : ℕ → ℕ} (v : Invariant L s E P F) where
+module _ (L : View) (s : State) (g : Runnable L) {gives : Gives} {charged : Charge} {E P : ℕ} {F : ℕ → ℕ}
+    (v : Invariant gives charged L s E P F) where
   waited-le : waited L s ≤ allEmbeddedWaits L
   unfolding waited allEmbeddedWaits
   waited-le =
@@ -54,8 +54,8 @@ module _ (L : View) (s : State) (g : Runnable L) {E P : ℕ} {F : ℕ → ℕ} (
       (λ i l. waitedRow-le L i (s .finished i) (s .clock - s .end i) g l (v .shape .finished-le i l))
 
   -- the clock, and what is left of all costs
-  clock-le : spent L s ≤ allCosts L → s .clock + (allCosts L - spent L s) ≤ tightBound L
-  unfolding tightBound boundBy
+  clock-le : spent L s ≤ allCosts L → s .clock + (allCosts L - spent L s) ≤ boundBy gives L
+  unfolding boundBy
   clock-le h =
       omega (
         arith,
@@ -63,7 +63,7 @@ module _ (L : View) (s : State) (g : Runnable L) {E P : ℕ} {F : ℕ → ℕ} (
         v .phase-ticks,
         v .open-ticks,
         waited-le,
-        sumTo-mono F (largestW minima L) waitPlaces (v .wait-ticks),
+        sumTo-mono F (largestW gives L) waitPlaces (v .wait-ticks),
       )
 
   spent-le : spent L s ≤ allCosts L
@@ -73,7 +73,7 @@ module _ (L : View) (s : State) (g : Runnable L) {E P : ℕ} {F : ℕ → ℕ} (
       (λ i l. sumTo-more (L .cost i) (s .finished i) (L .steps i) (v .shape .finished-le i l))
 
   -- the clock never passes the bound
-  pub clock-in-bound : s .clock ≤ tightBound L
+  pub clock-in-bound : s .clock ≤ boundBy gives L
   clock-in-bound = omega (arith, clock-le spent-le)
 
   -- and there is room for the next step of any row
@@ -86,8 +86,8 @@ module _ (L : View) (s : State) (g : Runnable L) {E P : ℕ} {F : ℕ → ℕ} (
       (λ i li ne. sumTo-more (L .cost i) (s .finished i) (L .steps i) (v .shape .finished-le i li))
       (sumTo-more-term (L .cost k) (s .finished k) (L .steps k) h)
 
-  pub next-le : (k : ℕ) → k < L .rows → s .finished k < L .steps k → wouldEnd L s k ≤ tightBound L
+  pub next-le : (k : ℕ) → k < L .rows → s .finished k < L .steps k → wouldEnd L s k ≤ boundBy gives L
   next-le k l h = omega (arith, clock-le spent-le, next-in-bound k l h)
 
   pub room-for : (k : ℕ) → k < L .rows → s .finished k < L .steps k → wouldEnd L s k ≤ lastMoment
-  room-for k l h = omega (arith, next-le k l h, tightBound-fits L g)
+  room-for k l h = omega (arith, next-le k l h, boundBy-fits gives L g)

@@ -1,10 +1,9 @@
 -- An idle tick keeps the invariant. With a window open the first of the stack waits, or starting it would pass, and
 -- the tick lies in its embedded wait. With none open every lowest next step waits: a first step for its phase, and of
 -- the rows at a later step the one that ended first has been charged with all that the others worked since.
-use Prim.Native.Nat.{ℕ, suc, _+_, _≤_, _<_, min}
+use Prim.Native.Nat.{ℕ, suc, _+_, _≤_, _<_}
 use mathlib.Core.Bool.{Bool, true, false, not}
 use mathlib.Core.List.{List, [], _∷_}
-use mathlib.Core.Logic.{_≢_}
 use mathlib.Core.Path.{_≡_, refl, ap, sym, _∙_, subst}
 use native.Mathlib.Decide.{ℕ-discrete, decLt}
 use native.Mathlib.Omega.{arith}
@@ -23,22 +22,14 @@ use Rattle.rules.specs.State.{State, isOpen}
 use Rattle.rules.specs.Ready.{release, released}
 use Rattle.rules.specs.Plan.{due, stack, planPasses}
 use Rattle.rules.specs.Move.{ticked}
-use Rattle.rules.proofs.bound.TightBound.{minima}
 use Rattle.rules.proofs.invariant.Runnable.{Runnable}
 use Rattle.rules.proofs.moves.MoveLaws.{CanStart}
 use Rattle.rules.proofs.plan.PlanLaws.{FirstWaits}
 use Rattle.rules.proofs.plan.StackLaws.{stackBy-every, tick-passes}
 use Rattle.rules.proofs.plan.StartPasses.{head-there, head-embedded, head-passes, free-passes}
 use Rattle.rules.proofs.moves.ShapeLaws.{ticked-keeps-shape}
-use Rattle.rules.proofs.invariant.Invariant.{waitPlaces, Invariant, isFree-lt}
-use Rattle.rules.proofs.invariant.WorkedSince.{
-  worked,
-  workedSince,
-  worked-next,
-  worked-here,
-  tick-worked,
-  minima-le,
-}
+use Rattle.rules.proofs.invariant.Setting.{Long, Gives, Charge, AllBelow, Oldest, Setting}
+use Rattle.rules.proofs.invariant.Invariant.{waitPlaces, Invariant}
 use Rattle.rules.proofs.invariant.ClockBound.{room-for}
 use Rattle.rules.proofs.invariant.TickLaws.{
   allowed-embedded,
@@ -49,8 +40,11 @@ use Rattle.rules.proofs.invariant.TickLaws.{
   waitLeft-le,
 }
 
-module _ (L : View) (s : State) (g : Runnable L) {E P : ℕ} {F : ℕ → ℕ} (v : Invariant L s E P F)
-    (none : (i : ℕ) → CanStart L s i → ⊥) where
+module _ (L : View) (s : State) {long : Long} {gives : Gives} {charged : Charge} (g : Setting L long gives charged)
+    {E P : ℕ} {F : ℕ → ℕ} (v : Invariant gives charged L s E P F) (none : (i : ℕ) → CanStart L s i → ⊥) where
+  abbrev runs : Runnable L
+  runs = g .runnable
+
   -- the first of the stack is inside its embedded wait
   head-waits : (r : ℕ) (rest : List ℕ) → stack L s ≡ r ∷ rest → s .clock < released L s r
   head-waits r rest first =
@@ -64,8 +58,8 @@ module _ (L : View) (s : State) (g : Runnable L) {E P : ℕ} {F : ℕ → ℕ} (
               more = more;
               ready = omega arith;
               allowed = allowed-embedded L s r inside;
-              in-time = room-for L s g v r there more;
-              plan = head-passes L s g r rest first (omega arith) (v .plan);
+              in-time = room-for L s runs v r there more;
+              plan = head-passes L s runs r rest first (omega arith) (v .plan);
             }))
       ]
     where
@@ -73,12 +67,12 @@ module _ (L : View) (s : State) (g : Runnable L) {E P : ℕ} {F : ℕ → ℕ} (
       there = head-there L s r rest first .0
 
       inside : embedded L r (s .finished r) ≡ true
-      inside = head-embedded L s g r rest first
+      inside = head-embedded L s runs r rest first
 
       more : s .finished r < L .steps r
-      more = g .embedded-in r (s .finished r) there inside
+      more = runs .embedded-in r (s .finished r) there inside
 
-  pub idle-open : (r : ℕ) (rest : List ℕ) → stack L s ≡ r ∷ rest → Invariant L (ticked s) (suc E) P F
+  pub idle-open : (r : ℕ) (rest : List ℕ) → stack L s ≡ r ∷ rest → Invariant gives charged L (ticked s) (suc E) P F
   unfolding ticked
   idle-open r rest first =
       record {
@@ -89,7 +83,7 @@ module _ (L : View) (s : State) (g : Runnable L) {E P : ℕ} {F : ℕ → ℕ} (
             omega (
               arith,
               v .open-ticks,
-              tick-waited-more L s r there (head-embedded L s g r rest first) (g .first-free r there)
+              tick-waited-more L s r there (head-embedded L s runs r rest first) (runs .first-free r there)
                   (v .shape .end-le r there) waits,
             );
         phase-clock = omega (arith, v .phase-clock);
@@ -97,7 +91,7 @@ module _ (L : View) (s : State) (g : Runnable L) {E P : ℕ} {F : ℕ → ℕ} (
         stage = v .stage;
         wait-ticks = v .wait-ticks;
         reached = v .reached;
-        charge = λ p i lp l fi free. omega (arith, v .charge p i lp l fi free, tick-worked L s p i);
+        charge = λ p i lp l fi free. omega (arith, v .charge p i lp l fi free, g .charging .at-tick s p i);
       }
     where
       there : r < L .rows
@@ -119,7 +113,7 @@ module _ (L : View) (s : State) (g : Runnable L) {E P : ℕ} {F : ℕ → ℕ} (
             (opensAt-embedded L i (s .finished i) ∙ e))
 
     not-ready : (i : ℕ) → i < L .rows → s .finished i < L .steps i
-        → ((k : ℕ) → k < L .rows → min (s .finished i) (L .steps k) ≤ s .finished k) → s .clock < released L s i
+        → AllBelow L s (s .finished i) → s .clock < released L s i
     not-ready i l more lowest =
         elim (decLt (s .clock) (released L s i)) [
           | yes h ↦ h
@@ -131,8 +125,8 @@ module _ (L : View) (s : State) (g : Runnable L) {E P : ℕ} {F : ℕ → ℕ} (
                 more = more;
                 ready = omega arith;
                 allowed = allowed-lowest L s i lowest;
-                in-time = room-for L s g v i l more;
-                plan = free-passes L s i g l none-open;
+                in-time = room-for L s runs v i l more;
+                plan = free-passes L s i runs l none-open;
               }))
         ]
 
@@ -141,7 +135,7 @@ module _ (L : View) (s : State) (g : Runnable L) {E P : ℕ} {F : ℕ → ℕ} (
 
     -- a row with its first step to come
     pub idle-phase : (i : ℕ) → i < L .rows → s .finished i < L .steps i → s .finished i ≡ 0
-        → Invariant L (ticked s) E (suc P) F
+        → Invariant gives charged L (ticked s) E (suc P) F
     unfolding ticked largestPhase
     idle-phase i l more zero-steps =
         record {
@@ -161,72 +155,65 @@ module _ (L : View) (s : State) (g : Runnable L) {E P : ℕ} {F : ℕ → ℕ} (
           stage = v .stage;
           wait-ticks = v .wait-ticks;
           reached = v .reached;
-          charge = λ p k lp lk fk free. omega (arith, v .charge p k lp lk fk free, tick-worked L s p k);
+          charge = λ p k lp lk fk free. omega (arith, v .charge p k lp lk fk free, g .charging .at-tick s p k);
         }
 
     -- the lowest next step is p + 1, and of the rows that wait there i is the one that ended first
-    module _ (p i : ℕ) (lp : p < waitPlaces) (l : i < L .rows) (more : s .finished i < L .steps i)
-        (at-p : s .finished i ≡ suc p) (lowest : (k : ℕ) → k < L .rows → min (suc p) (L .steps k) ≤ s .finished k)
-        (oldest : (k : ℕ) → k < L .rows → s .finished k < L .steps k → s .finished k ≡ suc p → s .end i ≤ s .end k)
-      where
-        its-free : isFree L i (suc p) ≡ true
-        its-free =
-            and-both (ltb (suc p) (L .steps i)) (not (embedded L i (suc p))) (lt-ltb (suc p) (L .steps i) (omega arith))
-            (ap not (sym (ap (embedded L i) at-p) ∙ none-open i l))
+    module _ (p i : ℕ) (lp : p < waitPlaces) (o : Oldest L s p i) where
+      its-free : isFree L i (suc p) ≡ true
+      its-free =
+          and-both (ltb (suc p) (L .steps i)) (not (embedded L i (suc p)))
+          (lt-ltb (suc p) (L .steps i) (omega (arith, o .more, o .at-step)))
+          (ap not (sym (ap (embedded L i) (o .at-step)) ∙ none-open i (o .there)))
 
-        late : s .clock < s .end i + L .wait i p
-        late =
-            omega (
-              arith,
-              not-ready i l more (λ k lk. omega (arith, lowest k lk)),
-              ap (λ f. release L i f (s .end i)) at-p,
-            )
+      late : s .clock < s .end i + L .wait i p
+      late =
+          omega (
+            arith,
+            not-ready i (o .there) (o .more) (λ k lk. omega (arith, o .lowest k lk, o .at-step)),
+            ap (λ f. release L i f (s .end i)) (o .at-step),
+          )
 
-        enough : minima L p i ≤ workedSince L s p i
-        enough = minima-le L s p i at
-          where
-            at : (k : ℕ) → k < L .rows → k ≢ i → isFree L k (suc p) ≡ true
-                → min (L .cost k p) (L .cost k (suc p)) ≤ worked L s p i k
-            at k lk ne free =
-                let long = isFree-lt L k (suc p) free in
-                elim (ℕ-discrete (s .finished k) (suc p)) [
-                  | yes e ↦ omega (arith, worked-here L s p i k e (oldest k lk (omega arith) e))
-                  | no e ↦ omega (arith, worked-next L s p i k (omega (arith, lowest k lk)))
-                ]
+      one-more : suc (F p) ≤ largestW gives L p
+      one-more =
+          omega (
+            arith,
+            g .charging .enough s p i o,
+            late,
+            v .charge p i lp (o .there) (o .at-step) its-free,
+            waitLeft-le gives L p i (o .there) its-free,
+          )
 
-        one-more : suc (F p) ≤ largestW minima L p
-        one-more = omega (arith, enough, late, v .charge p i lp l at-p its-free, waitLeft-le L p i l its-free)
-
-        pub idle-wait : Invariant L (ticked s) E P (changed F p (suc (F p)))
-        unfolding ticked
-        idle-wait =
-            record {
-              shape = ticked-keeps-shape L s (v .shape);
-              clock-sum = omega (arith, v .clock-sum, tick-spent L s, more-ticks);
-              plan = tick-plan;
-              open-ticks = omega (arith, v .open-ticks, tick-waited L s);
-              phase-clock = omega (arith, v .phase-clock);
-              phase-ticks = v .phase-ticks;
-              stage = v .stage;
-              wait-ticks = λ x lx. elim (ℕ-discrete x p) [
-                | yes e ↦ rw (e, changed-same F p (suc (F p))) one-more
-                | no e ↦ rw (changed-other F p (suc (F p)) x e) (v .wait-ticks x lx)
-              ];
-              reached = λ x k lx lk h. elim (ℕ-discrete x p) [
-                | yes e ↦ rw e (lowest k lk)
-                | no e ↦ v .reached x k lx lk (rw (changed-other F p (suc (F p)) x e) at h)
-              ];
-              charge = λ x k lx lk fk free. elim (ℕ-discrete x p) [
-                | yes e ↦
-                    rw (e, changed-same F p (suc (F p)))
-                    (omega (arith, v .charge p k lp lk (rw e at fk) (rw e at free), tick-worked L s p k))
-                | no e ↦
-                    rw (changed-other F p (suc (F p)) x e)
-                    (omega (arith, v .charge x k lx lk fk free, tick-worked L s x k))
-              ];
-            }
-          where
-            more-ticks : sumTo F waitPlaces + 1 ≡ sumTo (changed F p (suc (F p))) waitPlaces
-            more-ticks =
-                sumTo-change F (changed F p (suc (F p))) waitPlaces p 1 lp
-                (λ x lx ne. sym (changed-other F p (suc (F p)) x ne)) (omega (arith, changed-same F p (suc (F p))))
+      pub idle-wait : Invariant gives charged L (ticked s) E P (changed F p (suc (F p)))
+      unfolding ticked
+      idle-wait =
+          record {
+            shape = ticked-keeps-shape L s (v .shape);
+            clock-sum = omega (arith, v .clock-sum, tick-spent L s, more-ticks);
+            plan = tick-plan;
+            open-ticks = omega (arith, v .open-ticks, tick-waited L s);
+            phase-clock = omega (arith, v .phase-clock);
+            phase-ticks = v .phase-ticks;
+            stage = v .stage;
+            wait-ticks = λ x lx. elim (ℕ-discrete x p) [
+              | yes e ↦ rw (e, changed-same F p (suc (F p))) one-more
+              | no e ↦ rw (changed-other F p (suc (F p)) x e) (v .wait-ticks x lx)
+            ];
+            reached = λ x lx h. elim (ℕ-discrete x p) [
+              | yes e ↦ rw e (o .lowest)
+              | no e ↦ v .reached x lx (rw (changed-other F p (suc (F p)) x e) at h)
+            ];
+            charge = λ x k lx lk fk free. elim (ℕ-discrete x p) [
+              | yes e ↦
+                  rw (e, changed-same F p (suc (F p)))
+                  (omega (arith, v .charge p k lp lk (rw e at fk) (rw e at free), g .charging .at-tick s p k))
+              | no e ↦
+                  rw (changed-other F p (suc (F p)) x e)
+                  (omega (arith, v .charge x k lx lk fk free, g .charging .at-tick s x k))
+            ];
+          }
+        where
+          more-ticks : sumTo F waitPlaces + 1 ≡ sumTo (changed F p (suc (F p))) waitPlaces
+          more-ticks =
+              sumTo-change F (changed F p (suc (F p))) waitPlaces p 1 lp
+              (λ x lx ne. sym (changed-other F p (suc (F p)) x ne)) (omega (arith, changed-same F p (suc (F p))))

@@ -1,6 +1,6 @@
--- The invariant of a run from fresh, each step at full cost, over three ghost counts of idle ticks: with some window
--- open, with none open and a first step due, and with none open and step p + 1 due (`waitTicks p`). What matters is
--- `charge`: a free wait's ticks, and what other rows worked since it began, fit between its beginning and now.
+-- The invariant of a run from fresh, over three ghost counts of idle ticks: with some window open, with none open and a
+-- first step due, and with none open and step p + 1 due (`waitTicks p`). What matters is `charge`: a free wait's ticks,
+-- and what the run is charged with since it began, fit between its beginning and now.
 use Prim.Native.Nat.{ℕ, zero, suc, _+_, _-_, _≤_, _<_, min}
 use mathlib.Core.Bool.{true, false, cond, not}
 use mathlib.Core.Path.{_≡_}
@@ -15,9 +15,8 @@ use Rattle.load.specs.View.{View, embedded, isFree, embeddedWait}
 use Rattle.rules.specs.Bound.{largestPhase, embeddedWaitAt, largestW}
 use Rattle.rules.specs.State.{State}
 use Rattle.rules.specs.Plan.{planPasses}
-use Rattle.rules.proofs.bound.TightBound.{minima}
 use Rattle.rules.proofs.moves.ShapeLaws.{RowsShaped}
-use Rattle.rules.proofs.invariant.WorkedSince.{workedSince}
+use Rattle.rules.proofs.invariant.Setting.{Gives, Charge, AllBelow, Staged}
 
 -- the costs of the steps that are finished
 unfoldable pub spent : View → State → ℕ
@@ -39,10 +38,11 @@ waited L s = sumTo (waitedOf L s) (L .rows)
 abbrev pub waitPlaces : ℕ
 waitPlaces = mostSteps - 1
 
-pub record Invariant (L : View) (s : State) (openTicks phaseTicks : ℕ) (waitTicks : ℕ → ℕ) : Type 0 where
+pub record Invariant (gives : Gives) (charged : Charge) (L : View) (s : State) (openTicks phaseTicks : ℕ)
+    (waitTicks : ℕ → ℕ) : Type 0 where
   pub shape : RowsShaped L s
-  -- the clock counts costs and idle ticks
-  pub clock-sum : s .clock ≡ spent L s + openTicks + phaseTicks + sumTo waitTicks waitPlaces
+  -- the clock counts costs and idle ticks at most: a step may take less than its cost
+  pub clock-sum : s .clock ≤ spent L s + openTicks + phaseTicks + sumTo waitTicks waitPlaces
   -- the plan that begins now passes
   pub plan : planPasses L s (s .clock) ≡ true
   -- ticks with a window open lie in embedded waits
@@ -51,13 +51,12 @@ pub record Invariant (L : View) (s : State) (openTicks phaseTicks : ℕ) (waitTi
   pub phase-clock : phaseTicks ≤ s .clock
   pub phase-ticks : phaseTicks ≤ largestPhase L
   -- a free step has been started only when every row had finished all lower ones
-  pub stage : (k q i : ℕ) → k < L .rows → i < L .rows → q < s .finished k → embedded L k q ≡ false
-      → min q (L .steps i) ≤ s .finished i
+  pub stage : Staged L s
   -- ticks before a step p + 1 are at most the largest W, and begin when every row has finished p
-  pub wait-ticks : (p : ℕ) → p < waitPlaces → waitTicks p ≤ largestW minima L p
-  pub reached : (p i : ℕ) → p < waitPlaces → i < L .rows → 1 ≤ waitTicks p → min (suc p) (L .steps i) ≤ s .finished i
+  pub wait-ticks : (p : ℕ) → p < waitPlaces → waitTicks p ≤ largestW gives L p
+  pub reached : (p : ℕ) → p < waitPlaces → 1 ≤ waitTicks p → AllBelow L s (suc p)
   pub charge : (p i : ℕ) → p < waitPlaces → i < L .rows → s .finished i ≡ suc p → isFree L i (suc p) ≡ true
-      → waitTicks p + workedSince L s p i + s .end i ≤ s .clock
+      → waitTicks p + charged L s p i + s .end i ≤ s .clock
 
 pub isFree-lt : (L : View) (i j : ℕ) → isFree L i j ≡ true → j < L .steps i
 isFree-lt L i j h = ltb-true j (L .steps i) (and-left (ltb j (L .steps i)) (not (embedded L i j)) h)

@@ -1,29 +1,23 @@
--- A start keeps the invariant: only one row changes, so each sum changes at one index, and what that row is newly
--- charged with is the cost that passes.
-use Prim.Native.Nat.{ℕ, suc, _+_, _-_, _≤_, _<_, min}
-use mathlib.Core.Bool.{true, false, cond}
+-- A start keeps the invariant: only one row changes, so each sum changes at one index, and what other rows are newly
+-- charged with is no more than what the clock moves on. Said of any step that started no later than the clock and is
+-- over now (`Begun`), of which a move's start is one.
+use Prim.Native.Nat.{ℕ, suc, _+_, _-_, _≤_, _<_}
+use mathlib.Core.Bool.{true, false}
 use mathlib.Core.Logic.{_≢_}
 use mathlib.Core.Path.{_≡_, ap, ap₂, sym, _∙_}
-use native.Mathlib.Decide.{ℕ-discrete, decLt}
+use native.Mathlib.Decide.{ℕ-discrete}
 use native.Mathlib.Omega.{arith}
 use Rattle.counting.specs.Sums.{sumTo}
 use Rattle.counting.proofs.sums.SumLaws.{sumTo-mono}
-use Rattle.counting.proofs.sums.ChangeLaws.{sumTo-change, sumTo-change-le, sumTo-suc, cond-le, cond-mono}
+use Rattle.counting.proofs.sums.ChangeLaws.{sumTo-change, sumTo-suc}
 use Rattle.load.specs.View.{View, embedded, isFree}
 use Rattle.rules.specs.State.{State}
-use Rattle.rules.specs.Ready.{isAllowed}
-use Rattle.rules.specs.Move.{startedFull, passes}
-use Rattle.rules.proofs.invariant.Runnable.{Runnable}
-use Rattle.rules.proofs.moves.MoveLaws.{
-  started-clock,
-  started-finished-same,
-  started-finished-other,
-  started-finished-le,
-  started-end-same,
-  started-end-other,
-}
-use Rattle.rules.proofs.moves.ShapeLaws.{started-keeps-shape}
-use Rattle.rules.proofs.invariant.TickLaws.{allowed-free}
+use Rattle.rules.specs.Plan.{planPasses}
+use Rattle.rules.specs.Move.{started}
+use Rattle.rules.proofs.moves.MoveLaws.{StepOver, started-over, started-clock, CanStart}
+use Rattle.rules.proofs.moves.ShapeLaws.{over-keeps-shape}
+use Rattle.rules.proofs.plan.PlanSooner.{passes-sooner}
+use Rattle.rules.proofs.invariant.Setting.{Long, Gives, Charge, AllBelow, Staged, Setting}
 use Rattle.rules.proofs.invariant.Invariant.{
   spent,
   waitedOf,
@@ -33,201 +27,150 @@ use Rattle.rules.proofs.invariant.Invariant.{
   waitPlaces,
   Invariant,
   isFree-lt,
-  isFree-embedded,
 }
-use Rattle.rules.proofs.invariant.WorkedSince.{
-  worked,
-  isOther,
-  workedSince,
-  worked-next,
-  worked-before,
-  worked-none,
-  worked-le,
-  worked-ext,
-  workedSince-none,
-}
+use Rattle.rules.proofs.invariant.TickLaws.{allowed-free}
 
-module _ (L : View) (s : State) (k : ℕ) (g : Runnable L) (lk : k < L .rows) (fk : s .finished k < L .steps k) where
-  c : ℕ
-  c = L .cost k (s .finished k)
+-- what is asked of a step of row k that is over now, for the invariant to hold
+pub record Begun (charged : Charge) (L : View) (s s′ : State) (k start long : ℕ) : Type 0 where
+  pub over : StepOver L s s′ k start long
+  pub there : k < L .rows
+  pub more : s .finished k < L .steps k
+  -- it started no later than the clock, after its row's last end, and took no more than its cost
+  pub soon : start ≤ s .clock
+  pub after : s .end k ≤ start
+  pub short : long ≤ L .cost k (s .finished k)
+  -- a free one was started when every row had finished all lower ones
+  pub lowest : embedded L k (s .finished k) ≡ false → AllBelow L s (s .finished k)
+  -- others are charged no more than the clock moves, and its own row with nothing at first
+  pub grown : (p i : ℕ) → i ≢ k → charged L s′ p i ≤ charged L s p i + (s′ .clock - s .clock)
+  pub first : suc (s .finished k) < L .steps k → charged L s′ (s .finished k) k ≡ 0
+  -- the plan that begins now passes
+  pub plan : planPasses L s′ (s′ .clock) ≡ true
 
-  s′ : State
-  s′ = startedFull L s k
+module _ {charged : Charge} (L : View) (s s′ : State) (k start long : ℕ) (b : Begun charged L s s′ k start long) where
+  abbrev o : StepOver L s s′ k start long
+  o = b .over
 
-  start-spent : spent L s + c ≡ spent L s′
-  unfolding spent c s′
-  start-spent =
-      sumTo-change (λ i. sumTo (L .cost i) (s .finished i)) (λ i. sumTo (L .cost i) (startedFull L s k .finished i))
-      (L .rows) k (L .cost k (s .finished k)) lk
-      (λ i l ne. rw (started-finished-other L s k (L .cost k (s .finished k)) i ne))
-      (rw (started-finished-same L s k (L .cost k (s .finished k))) (sym (sumTo-suc (L .cost k) (s .finished k))))
+  finished-le : (i : ℕ) → s .finished i ≤ s′ .finished i
+  finished-le i =
+      elim (ℕ-discrete i k) [
+        | yes e ↦ rw e (omega (arith, o .finished-same))
+        | no e ↦ omega (arith, o .finished-other i e)
+      ]
 
-  start-waited : waited L s ≤ waited L s′
-  unfolding waited s′ c
-  start-waited = sumTo-mono (waitedOf L s) (waitedOf L (startedFull L s k)) (L .rows) at
+  begun-spent : spent L s + L .cost k (s .finished k) ≡ spent L s′
+  unfolding spent
+  begun-spent =
+      sumTo-change (λ i. sumTo (L .cost i) (s .finished i)) (λ i. sumTo (L .cost i) (s′ .finished i)) (L .rows) k
+      (L .cost k (s .finished k)) (b .there) (λ i l ne. rw (o .finished-other i ne))
+      (rw (o .finished-same) (sym (sumTo-suc (L .cost k) (s .finished k))))
+
+  begun-waited : waited L s ≤ waited L s′
+  unfolding waited
+  begun-waited = sumTo-mono (waitedOf L s) (waitedOf L s′) (L .rows) at
     where
-      d : ℕ
-      d = L .cost k (s .finished k)
-
-      own : waitedOf L s k ≤ waitedOf L (startedFull L s k) k
+      own : waitedOf L s k ≤ waitedOf L s′ k
       own =
-          rw (started-finished-same L s k d)
+          rw (o .finished-same)
           (omega (
             arith,
             waitedRow-next L k (s .finished k) (s .clock - s .end k),
-            waitedRow-mono L k (suc (s .finished k)) 0 (startedFull L s k .clock - startedFull L s k .end k)
-                (omega arith),
+            waitedRow-mono L k (suc (s .finished k)) 0 (s′ .clock - s′ .end k) (omega arith),
           ))
 
-      other : (i : ℕ) → i ≢ k → waitedOf L s i ≤ waitedOf L (startedFull L s k) i
+      other : (i : ℕ) → i ≢ k → waitedOf L s i ≤ waitedOf L s′ i
       other i ne =
-          rw (started-finished-other L s k d i ne, started-end-other L s k d i ne)
-          (waitedRow-mono L i (s .finished i) (s .clock - s .end i) (startedFull L s k .clock - s .end i)
-          (omega (arith, started-clock L s k d)))
+          rw (o .finished-other i ne, o .end-other i ne)
+          (waitedRow-mono L i (s .finished i) (s .clock - s .end i) (s′ .clock - s .end i)
+          (omega (arith, o .clock-is)))
 
-      at : (i : ℕ) → i < L .rows → waitedOf L s i ≤ waitedOf L (startedFull L s k) i
+      at : (i : ℕ) → i < L .rows → waitedOf L s i ≤ waitedOf L s′ i
       at i l = elim (ℕ-discrete i k) [ yes e ↦ rw e own | no e ↦ other i e ]
 
-  -- the other rows are charged at most the cost that passes
-  start-worked : (p i : ℕ) → i ≢ k → workedSince L s′ p i ≤ workedSince L s p i + c
-  unfolding workedSince s′ c
-  start-worked p i ne =
-      sumTo-change-le (λ x. cond (isOther L p i x) (worked L (startedFull L s k) p i x) 0)
-      (λ x. cond (isOther L p i x) (worked L s p i x) 0) (L .rows) k d
-      (λ x l nx. cond-mono (isOther L p i x) (worked L (startedFull L s k) p i x) (worked L s p i x)
-      (λ _. omega (
-        arith,
-        worked-ext L (startedFull L s k) s p i x (started-finished-other L s k d x nx)
-            (started-end-other L s k d i ne) (started-end-other L s k d x nx),
-      )))
-      (λ _. cond-le (isOther L p i k) (worked L (startedFull L s k) p i k) (worked L s p i k) d (λ _. own))
-    where
-      d : ℕ
-      d = L .cost k (s .finished k)
-
-      t : State
-      t = startedFull L s k
-
-      same : t .finished k ≡ suc (s .finished k)
-      same = started-finished-same L s k d
-
-      own : worked L t p i k ≤ worked L s p i k + d
-      own =
-          elim (decLt (s .finished k) p) [
-            | yes a ↦ omega (arith, worked-none L t p i k (omega (arith, same)))
-            | no a ↦ elim (ℕ-discrete (s .finished k) p) [
-              | yes b ↦ omega (arith, worked-le L t p i k (omega (arith, same)), ap (L .cost k) b)
-              | no b ↦ elim (ℕ-discrete (s .finished k) (suc p)) [
-                | yes e ↦ omega (arith, worked-next L t p i k (omega (arith, same)), ap (L .cost k) e)
-                | no e ↦
-                    omega (
-                      arith,
-                      worked-next L t p i k (omega (arith, same)),
-                      worked-next L s p i k (omega arith),
-                    )
-              ]
-            ]
-          ]
-
-  pub start-keeps : {E P : ℕ} {F : ℕ → ℕ} → Invariant L s E P F → isAllowed L s k ≡ true → passes L s k ≡ true
-      → Invariant L (startedFull L s k) E P F
-  unfolding c s′ passes
-  start-keeps {E} {P} {F} v allowed pass =
+  pub begun-keeps : {gives : Gives} {E P : ℕ} {F : ℕ → ℕ} → Invariant gives charged L s E P F
+      → Invariant gives charged L s′ E P F
+  begun-keeps {gives} {E} {P} {F} v =
       record {
-        shape = started-keeps-shape L s k d g (v .shape) lk fk;
-        clock-sum = omega (arith, start-spent, v .clock-sum, started-clock L s k d);
-        plan = pass;
-        open-ticks = omega (arith, start-waited, v .open-ticks);
-        phase-clock = omega (arith, v .phase-clock, started-clock L s k d);
+        shape = over-keeps-shape L s s′ k start long o (v .shape) (b .there) (b .more) (b .after);
+        clock-sum = omega (arith, begun-spent, v .clock-sum, o .clock-is, b .soon, b .short);
+        plan = b .plan;
+        open-ticks = omega (arith, begun-waited, v .open-ticks);
+        phase-clock = omega (arith, v .phase-clock, o .clock-is);
         phase-ticks = v .phase-ticks;
         stage = stage-after;
         wait-ticks = v .wait-ticks;
-        reached = λ p i lp l h. omega (arith, v .reached p i lp l h, started-finished-le L s k d i);
+        reached = λ p lp h i l. omega (arith, v .reached p lp h i l, finished-le i);
         charge = λ p i lp l fi free. elim (ℕ-discrete i k) [
           | yes e ↦ rw e (own-charge p lp (rw e at fi) (rw e at free))
           | no e ↦
               omega (
                 arith,
-                start-worked p i e,
-                started-clock L s k d,
-                started-end-other L s k d i e,
-                v .charge p i lp l (sym (started-finished-other L s k d i e) ∙ fi) free,
+                b .grown p i e,
+                o .clock-is,
+                o .end-other i e,
+                v .charge p i lp l (sym (o .finished-other i e) ∙ fi) free,
               )
         ];
       }
     where
-      d : ℕ
-      d = L .cost k (s .finished k)
-
-      t : State
-      t = startedFull L s k
-
-      stage-after : (x q i : ℕ) → x < L .rows → i < L .rows → q < t .finished x → embedded L x q ≡ false
-          → min q (L .steps i) ≤ t .finished i
-      stage-after x q i lx l lq e =
+      stage-after : Staged L s′
+      stage-after x q lx lq e i l =
           elim (ℕ-discrete x k) [
             | yes a ↦ elim (ℕ-discrete q (s .finished k)) [
-              | yes b ↦
+              | yes w ↦ omega (arith, b .lowest (sym (ap₂ (embedded L) a w) ∙ e) i l, finished-le i)
+              | no w ↦
                   omega (
                     arith,
-                    allowed-free L s k allowed (sym (ap₂ (embedded L) a b) ∙ e) i l,
-                    started-finished-le L s k d i,
-                  )
-              | no b ↦
-                  omega (
-                    arith,
-                    v .stage x q i lx l
-                        (omega (arith, started-finished-same L s k d, ap (t .finished) a, ap (s .finished) a)) e,
-                    started-finished-le L s k d i,
+                    v .stage x q lx (omega (arith, o .finished-same, ap (s′ .finished) a, ap (s .finished) a)) e i l,
+                    finished-le i,
                   )
             ]
-            | no a ↦
-                omega (
-                  arith,
-                  v .stage x q i lx l (omega (arith, started-finished-other L s k d x a)) e,
-                  started-finished-le L s k d i,
-                )
+            | no a ↦ omega (arith, v .stage x q lx (omega (arith, o .finished-other x a)) e i l, finished-le i)
           ]
 
-      -- the row that starts: its wait begins now, and nobody has worked since
-      own-charge : (p : ℕ) → p < waitPlaces → t .finished k ≡ suc p → isFree L k (suc p) ≡ true
-          → F p + workedSince L t p k + t .end k ≤ t .clock
-      own-charge p lp fi free = omega (arith, none, idle, started-end-same L s k d, started-clock L s k d)
+      -- its own wait begins now
+      own-charge : (p : ℕ) → p < waitPlaces → s′ .finished k ≡ suc p → isFree L k (suc p) ≡ true
+          → F p + charged L s′ p k + s′ .end k ≤ s′ .clock
+      own-charge p lp fi free = omega (arith, none, idle, o .end-same, o .clock-is)
         where
-          fp : s .finished k ≡ p
-          fp = omega (arith, started-finished-same L s k d)
+          here : s .finished k ≡ p
+          here = omega (arith, o .finished-same)
 
-          long : suc p < L .steps k
-          long = isFree-lt L k (suc p) free
+          far : suc p < L .steps k
+          far = isFree-lt L k (suc p) free
 
           idle : F p ≡ 0
           idle =
               elim (ℕ-discrete (F p) 0) [
                 | yes e ↦ e
-                | no e ↦ omega (arith, v .reached p k lp lk (omega arith), fp, long)
+                | no e ↦ omega (arith, v .reached p lp (omega arith) k (b .there), here, far)
               ]
 
-          none : workedSince L t p k ≡ 0
-          none = workedSince-none L t p k at
-            where
-              at : (x : ℕ) → x < L .rows → x ≢ k → isFree L x (suc p) ≡ true → worked L t p k x ≡ 0
-              at x lx ne f =
-                  elim (decLt (suc p) (t .finished x)) [
-                    | yes h ↦
-                        absurd (omega (
-                          arith,
-                          v .stage x (suc p) k lx lk (omega (arith, started-finished-other L s k d x ne))
-                              (isFree-embedded L x (suc p) f),
-                          fp,
-                          long,
-                        ))
-                    | no h ↦
-                        worked-before L t p k x (omega arith)
-                        (omega (
-                          arith,
-                          started-end-other L s k d x ne,
-                          started-end-same L s k d,
-                          v .shape .end-le x lx,
-                          g .cost-least k (s .finished k) lk fk,
-                        ))
-                  ]
+          none : charged L s′ p k ≡ 0
+          none = ap (λ q. charged L s′ q k) (sym here) ∙ b .first (omega (arith, here, far))
+
+-- a start of a move, at the clock
+pub start-keeps : (L : View) (s : State) (k : ℕ) {long : Long} {gives : Gives} {charged : Charge}
+    → Setting L long gives charged → CanStart L s k → {E P : ℕ} {F : ℕ → ℕ} → Invariant gives charged L s E P F
+    → Invariant gives charged L (started L s k (long k (s .finished k))) E P F
+start-keeps L s k {long} {gives} {charged} g c v =
+    begun-keeps L s (started L s k d) k (s .clock) d
+    (record {
+      over = started-over L s k d;
+      there = c .there;
+      more = c .more;
+      soon = omega arith;
+      after = v .shape .end-le k (c .there);
+      short = short;
+      lowest = allowed-free L s k (c .allowed);
+      grown = λ p i ne. omega (arith, g .charging .at-start s k p i (c .there) (c .more) ne, started-clock L s k d);
+      first = λ far. g .charging .at-first s k (c .there) far (v .stage) (v .shape .end-le);
+      plan = passes-sooner L s k d short (c .plan);
+    })
+    v
+  where
+    d : ℕ
+    d = long k (s .finished k)
+
+    short : d ≤ L .cost k (s .finished k)
+    short = g .lengths .most k (s .finished k) (c .there) (c .more)

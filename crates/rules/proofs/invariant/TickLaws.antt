@@ -14,7 +14,7 @@ use Rattle.rules.specs.Bound.{waitLeft, largestW}
 use Rattle.rules.specs.State.{State}
 use Rattle.rules.specs.Ready.{release, released, finishedBelow, isAllowed}
 use Rattle.rules.specs.Move.{ticked}
-use Rattle.rules.proofs.bound.TightBound.{minima}
+use Rattle.rules.proofs.invariant.Setting.{Gives, AllBelow}
 use Rattle.rules.proofs.invariant.Invariant.{spent, waitedRow, waitedOf, waited, waitedRow-mono}
 
 pub allowed-embedded : (L : View) (s : State) (i : ℕ) → embedded L i (s .finished i) ≡ true → isAllowed L s i ≡ true
@@ -23,7 +23,7 @@ allowed-embedded L s i e = rw e
 
 -- an allowed next step that is free is a lowest one
 pub allowed-free : (L : View) (s : State) (i : ℕ) → isAllowed L s i ≡ true → embedded L i (s .finished i) ≡ false
-    → (k : ℕ) → k < L .rows → min (s .finished i) (L .steps k) ≤ s .finished k
+    → AllBelow L s (s .finished i)
 unfolding isAllowed
 allowed-free L s i allowed free k l = go (embedded L i (s .finished i)) free allowed
   where
@@ -35,8 +35,7 @@ allowed-free L s i allowed free k l = go (embedded L i (s .finished i)) free all
         (allTo-true (finishedBelow L s (s .finished i)) (L .rows) h k l)
 
 -- and a lowest next step is allowed
-pub allowed-lowest : (L : View) (s : State) (i : ℕ)
-    → ((k : ℕ) → k < L .rows → min (s .finished i) (L .steps k) ≤ s .finished k) → isAllowed L s i ≡ true
+pub allowed-lowest : (L : View) (s : State) (i : ℕ) → AllBelow L s (s .finished i) → isAllowed L s i ≡ true
 unfolding isAllowed
 allowed-lowest L s i h =
     go (embedded L i (s .finished i))
@@ -75,9 +74,9 @@ tick-waited-more L s r lr e free le lt =
     (subst (λ x. waitedOf L s r + 1 ≤ waitedRow L r (s .finished r) x) later
     (waitedRow-more L r (s .finished r) (s .clock - s .end r) (s .end r) e free (omega arith)))
 
-pub waitLeft-le : (L : View) (p i : ℕ) → i < L .rows → isFree L i (suc p) ≡ true
-    → L .wait i p - minima L p i ≤ largestW minima L p
+pub waitLeft-le : (gives : Gives) (L : View) (p i : ℕ) → i < L .rows → isFree L i (suc p) ≡ true
+    → L .wait i p - gives L p i ≤ largestW gives L p
 unfolding largestW
-waitLeft-le L p i l e =
-    subst (λ b. cond b (L .wait i p - minima L p i) 0 ≤ maxTo (waitLeft minima L p) (L .rows)) e
-    (value-le-maxTo (waitLeft minima L p) (L .rows) i l)
+waitLeft-le gives L p i l e =
+    subst (λ b. cond b (L .wait i p - gives L p i) 0 ≤ maxTo (waitLeft gives L p) (L .rows)) e
+    (value-le-maxTo (waitLeft gives L p) (L .rows) i l)

@@ -1,6 +1,6 @@
 -- What a start and a tick change, and the ways of a move, whatever lengths its steps have: two refusals, Done, Start of
 -- a candidate that passes, Idle where none passes. The order of the candidates is not used.
-use Prim.Native.Nat.{ℕ, suc, _+_, _≤_, _<_}
+use Prim.Native.Nat.{ℕ, suc, _+_, _≤_, _<_, max}
 use mathlib.Core.Bool.{Bool, true, false, _&&_}
 use mathlib.Core.Logic.{_≢_}
 use mathlib.Core.Path.{_≡_, refl, ap, _∙_}
@@ -36,6 +36,17 @@ use Rattle.rules.specs.Move.{
   moveBy,
 }
 
+-- a state has changed by row k's next step, started at a moment and so long: it is over as well, and the clock moves on
+-- where it ends later. A start of two heads lies before the clock of such a state (2026-13)
+pub record StepOver (L : View) (s s′ : State) (k start long : ℕ) : Type 0 where
+  pub clock-is : s′ .clock ≡ max (s .clock) (start + long)
+  pub finished-same : s′ .finished k ≡ suc (s .finished k)
+  pub finished-other : (i : ℕ) → i ≢ k → s′ .finished i ≡ s .finished i
+  pub end-same : s′ .end k ≡ start + long
+  pub end-other : (i : ℕ) → i ≢ k → s′ .end i ≡ s .end i
+  pub opening-same : s′ .opening k ≡ openingAfter L s k start
+  pub opening-other : (i : ℕ) → i ≢ k → s′ .opening i ≡ s .opening i
+
 module _ (L : View) (s : State) (k long : ℕ) where
   pub started-clock : started L s k long .clock ≡ s .clock + long
   unfolding started
@@ -64,6 +75,19 @@ module _ (L : View) (s : State) (k long : ℕ) where
   pub started-opening-other : (i : ℕ) → i ≢ k → started L s k long .opening i ≡ s .opening i
   unfolding started
   started-opening-other i ne = changed-other (s .opening) k (openingAfter L s k (s .clock)) i ne
+
+  -- the step is over, and it started now
+  pub started-over : StepOver L s (started L s k long) k (s .clock) long
+  started-over =
+      record {
+        clock-is = omega (arith, started-clock);
+        finished-same = started-finished-same;
+        finished-other = started-finished-other;
+        end-same = started-end-same;
+        end-other = started-end-other;
+        opening-same = started-opening-same;
+        opening-other = started-opening-other;
+      }
 
   pub started-finished-le : (i : ℕ) → s .finished i ≤ started L s k long .finished i
   started-finished-le i =

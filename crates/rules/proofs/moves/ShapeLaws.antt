@@ -11,21 +11,10 @@ use Rattle.load.specs.View.{View, embedded, opensAt}
 use Rattle.load.proofs.WindowLaws.{opensAt-embedded}
 use Rattle.rules.specs.State.{State, fresh, isOpen}
 use Rattle.rules.specs.Shape.{Unused, Shape}
-use Rattle.rules.specs.Move.{started, ticked, openingAfter}
+use Rattle.rules.specs.Move.{ticked, openingAfter}
 use Rattle.rules.proofs.invariant.Runnable.{Runnable}
 use Rattle.rules.proofs.moves.ShapeExact.{hasOpen-isOpen, hasOpen-none}
-use Rattle.rules.proofs.moves.MoveLaws.{
-  started-clock,
-  started-finished-same,
-  started-finished-other,
-  started-end-same,
-  started-end-other,
-  started-opening-same,
-  started-opening-other,
-  openingAfter-kept,
-  openingAfter-new,
-  openingAfter-none,
-}
+use Rattle.rules.proofs.moves.MoveLaws.{StepOver, openingAfter-kept, openingAfter-new, openingAfter-none}
 
 -- what a run keeps of its shape, whatever the clock: no row past the last holds anything
 pub record RowsShaped (L : View) (s : State) : Type 0 where
@@ -78,81 +67,77 @@ ticked-keeps-shape L s h =
           record { no-steps = u .no-steps; no-end = u .no-end; no-opening = u .no-opening });
     }
 
-module _ (L : View) (s : State) (k long : ℕ) (g : Runnable L) (h : RowsShaped L s) (there : k < L .rows)
-    (more : s .finished k < L .steps k) where
-  own-opening-le : embedded L k (suc (s .finished k)) ≡ true → openingAfter L s k (s .clock) ≤ s .clock + long
+-- a step that started after its row's last end is over
+module _ (L : View) (s s′ : State) (k start long : ℕ) (o : StepOver L s s′ k start long) (h : RowsShaped L s)
+    (there : k < L .rows) (more : s .finished k < L .steps k) (after : s .end k ≤ start) where
+  own-opening-le : embedded L k (suc (s .finished k)) ≡ true → openingAfter L s k start ≤ start + long
   own-opening-le e = go (isOpen L s k) refl
     where
       opened : opensAt L k (suc (s .finished k)) ≡ true
       opened = opensAt-embedded L k (suc (s .finished k)) ∙ e
 
-      go : (b : Bool) → isOpen L s k ≡ b → openingAfter L s k (s .clock) ≤ s .clock + long
-      go true o =
+      go : (b : Bool) → isOpen L s k ≡ b → openingAfter L s k start ≤ start + long
+      go true was =
           omega (
             arith,
-            openingAfter-kept L s k (s .clock) o opened,
-            h .opening-le k there (sym (opensAt-embedded L k (s .finished k)) ∙ o),
-            h .end-le k there,
+            openingAfter-kept L s k start was opened,
+            h .opening-le k there (sym (opensAt-embedded L k (s .finished k)) ∙ was),
           )
-      go false o = omega (arith, openingAfter-new L s k (s .clock) o opened)
+      go false was = omega (arith, openingAfter-new L s k start was opened)
 
-  pub started-keeps-shape : RowsShaped L (started L s k long)
-  started-keeps-shape =
+  pub over-keeps-shape : RowsShaped L s′
+  over-keeps-shape =
       record {
         finished-le = λ i l. elim (ℕ-discrete i k) [
-          | yes e ↦ rw e (omega (arith, started-finished-same L s k long))
-          | no e ↦ omega (arith, started-finished-other L s k long i e, h .finished-le i l)
+          | yes e ↦ rw e (omega (arith, o .finished-same))
+          | no e ↦ omega (arith, o .finished-other i e, h .finished-le i l)
         ];
         end-le = λ i l. elim (ℕ-discrete i k) [
-          | yes e ↦ rw e (omega (arith, started-end-same L s k long, started-clock L s k long))
-          | no e ↦ omega (arith, started-end-other L s k long i e, started-clock L s k long, h .end-le i l)
+          | yes e ↦ rw e (omega (arith, o .end-same, o .clock-is))
+          | no e ↦ omega (arith, o .end-other i e, o .clock-is, h .end-le i l)
         ];
         end-zero = λ i l z. elim (ℕ-discrete i k) [
-          | yes e ↦ absurd (omega (arith, started-finished-same L s k long, ap (started L s k long .finished) e))
-          | no e ↦
-              started-end-other L s k long i e ∙ h .end-zero i l (sym (started-finished-other L s k long i e) ∙ z)
+          | yes e ↦ absurd (omega (arith, o .finished-same, ap (s′ .finished) e))
+          | no e ↦ o .end-other i e ∙ h .end-zero i l (sym (o .finished-other i e) ∙ z)
         ];
         opening-le = λ i l z. elim (ℕ-discrete i k) [
           | yes e ↦ rw e (own z e)
           | no e ↦
               omega (
                 arith,
-                started-opening-other L s k long i e,
-                started-end-other L s k long i e,
-                h .opening-le i l (sym (ap (embedded L i) (started-finished-other L s k long i e)) ∙ z),
+                o .opening-other i e,
+                o .end-other i e,
+                h .opening-le i l (sym (ap (embedded L i) (o .finished-other i e)) ∙ z),
               )
         ];
         opening-zero = λ i l z. elim (ℕ-discrete i k) [
           | yes e ↦ rw e (own-zero z e)
           | no e ↦
-              started-opening-other L s k long i e
-              ∙ h .opening-zero i l (sym (ap (embedded L i) (started-finished-other L s k long i e)) ∙ z)
+              o .opening-other i e
+              ∙ h .opening-zero i l (sym (ap (embedded L i) (o .finished-other i e)) ∙ z)
         ];
         unused = λ i l.
             (let ne : i ≢ k = λ e. omega arith in
             let u = h .unused i l in
             record {
-              no-steps = started-finished-other L s k long i ne ∙ u .no-steps;
-              no-end = started-end-other L s k long i ne ∙ u .no-end;
-              no-opening = started-opening-other L s k long i ne ∙ u .no-opening;
+              no-steps = o .finished-other i ne ∙ u .no-steps;
+              no-end = o .end-other i ne ∙ u .no-end;
+              no-opening = o .opening-other i ne ∙ u .no-opening;
             });
       }
     where
-      s′ : State
-      s′ = started L s k long
-
       own : {i : ℕ} → embedded L i (s′ .finished i) ≡ true → i ≡ k → s′ .opening k ≤ s′ .end k
       own z e =
           omega (
             arith,
-            started-opening-same L s k long,
-            started-end-same L s k long,
-            own-opening-le (sym (ap (embedded L k) (started-finished-same L s k long)) ∙ rw e at z),
+            o .opening-same,
+            o .end-same,
+            own-opening-le (sym (ap (embedded L k) (o .finished-same)) ∙ rw e at z),
           )
 
       own-zero : {i : ℕ} → embedded L i (s′ .finished i) ≡ false → i ≡ k → s′ .opening k ≡ 0
       own-zero z e =
-          started-opening-same L s k long
-          ∙ openingAfter-none L s k (s .clock)
+          o .opening-same
+          ∙ openingAfter-none L s k start
           (opensAt-embedded L k (suc (s .finished k))
-          ∙ (sym (ap (embedded L k) (started-finished-same L s k long)) ∙ rw e at z))
+          ∙ (sym (ap (embedded L k) (o .finished-same)) ∙ rw e at z))

@@ -12,8 +12,11 @@ use Rattle.rules.specs.Outcomes.{toldBy}
 use Rattle.rules.specs.Move.{startedFull, ticked, allFinished, nextSlot, move}
 use Rattle.rules.specs.Run.{stateAfterBy, stateAfter, startsBy, starts, schedule}
 use Rattle.rules.specs.Slots.{slotEnd, lastEnd}
-use Rattle.rules.proofs.bound.TightBound.{tightBound}
+use Rattle.rules.proofs.bound.TightBound.{minima, tightBound}
 use Rattle.rules.proofs.invariant.Runnable.{Runnable}
+use Rattle.rules.proofs.invariant.Setting.{Setting}
+use Rattle.rules.proofs.invariant.WorkedSince.{workedSince}
+use Rattle.rules.proofs.invariant.FullSetting.{fullSetting}
 use Rattle.rules.proofs.moves.MoveLaws.{Turn, starts as starting, idles, started-clock}
 use Rattle.rules.proofs.invariant.MoveKeeps.{Accounted, fresh-accounted, accounted-done, accounted-turn}
 use Rattle.rules.proofs.run.RunLaws.{stateAfter-next, run-accounted, run-finished, starts-next, schedule-whole}
@@ -38,7 +41,10 @@ abbrev EndsNow : View → State → List Slot → Type 0
 EndsNow L s slots = allFinished L s ≡ true → lastEnd L slots ≡ s .clock
 
 module _ (L : View) (g : Runnable L) where
-  move-ends : (s : State) (slots : List Slot) → Accounted L s → EndsNow L s slots
+  abbrev full : Setting L (L .cost) minima workedSince
+  full = fullSetting L g
+
+  move-ends : (s : State) (slots : List Slot) → Accounted minima workedSince L s → EndsNow L s slots
       → EndsNow L (move L s .then) (slots ++ toldBy (move L s .outcome) .starts)
   move-ends s slots v h = go (allFinished L s) refl
     where
@@ -56,8 +62,8 @@ module _ (L : View) (g : Runnable L) where
 
       go : (b : Bool) → allFinished L s ≡ b
           → EndsNow L (move L s .then) (slots ++ toldBy (move L s .outcome) .starts)
-      go true d = rw (accounted-done L s g v d) (rw (append-nil slots) h)
-      go false d = by d (accounted-turn L s g v d)
+      go true d = rw (accounted-done L s full v d) (rw (append-nil slots) h)
+      go false d = by d (accounted-turn L s full v d)
 
   fresh-ends : EndsNow L (stateAfter L 0 fresh) (starts L 0 fresh)
   unfolding startsBy stateAfterBy fresh
@@ -66,9 +72,9 @@ module _ (L : View) (g : Runnable L) where
   pub run-ends-now : (n : ℕ) → EndsNow L (stateAfter L n fresh) (starts L n fresh)
   run-ends-now zero = fresh-ends
   run-ends-now (suc n) =
-      rw (stateAfter-next L n fresh, starts-next L g n fresh (fresh-accounted L g))
-      (move-ends (stateAfter L n fresh) (starts L n fresh) (run-accounted L g n) (run-ends-now n))
+      rw (stateAfter-next (L .cost) L n fresh, starts-next L full n fresh (fresh-accounted minima workedSince L g))
+      (move-ends (stateAfter L n fresh) (starts L n fresh) (run-accounted L full n) (run-ends-now n))
 
   -- the schedule ends when the run does
   pub schedule-ends : (n : ℕ) → tightBound L ≤ n → lastEnd L (schedule L) ≡ stateAfter L n fresh .clock
-  schedule-ends n h = ap (lastEnd L) (schedule-whole L g n h) ∙ run-ends-now n (run-finished L g n h)
+  schedule-ends n h = ap (lastEnd L) (schedule-whole L full n h) ∙ run-ends-now n (run-finished L full n h)

@@ -18,8 +18,11 @@ use Rattle.rules.specs.Outcomes.{toldBy}
 use Rattle.rules.specs.Move.{allFinished, move}
 use Rattle.rules.specs.Run.{stateAfterBy, stateAfter, startsBy, starts, schedule}
 use Rattle.rules.specs.Slots.{slotAt, slotEnd}
-use Rattle.rules.proofs.bound.TightBound.{tightBound}
+use Rattle.rules.proofs.bound.TightBound.{minima, tightBound}
 use Rattle.rules.proofs.invariant.Runnable.{Runnable}
+use Rattle.rules.proofs.invariant.Setting.{Setting}
+use Rattle.rules.proofs.invariant.WorkedSince.{workedSince}
+use Rattle.rules.proofs.invariant.FullSetting.{fullSetting}
 use Rattle.rules.proofs.moves.MoveLaws.{Turn, starts as starting, idles}
 use Rattle.rules.proofs.invariant.MoveKeeps.{Accounted, fresh-accounted, accounted-done, accounted-turn}
 use Rattle.rules.proofs.run.RunLaws.{stateAfter-next, run-accounted, run-finished, starts-next, schedule-whole}
@@ -29,8 +32,11 @@ use Rattle.rules.proofs.run.StartMade.{start-made}
 use Rattle.rules.proofs.slots.WholeLaws.{Whole}
 
 module _ (L : View) (g : Runnable L) where
+  abbrev full : Setting L (L .cost) minima workedSince
+  full = fullSetting L g
+
   -- a move adds its start
-  move-made : (s : State) (slots : List Slot) → Accounted L s → Made L s slots
+  move-made : (s : State) (slots : List Slot) → Accounted minima workedSince L s → Made L s slots
       → Made L (move L s .then) (slots ++ toldBy (move L s .outcome) .starts)
   move-made s slots v m = go (allFinished L s) refl
     where
@@ -39,8 +45,8 @@ module _ (L : View) (g : Runnable L) where
       by (idles none e) = rw e (rw (append-nil slots) (tick-made L s slots m))
 
       go : (b : Bool) → allFinished L s ≡ b → Made L (move L s .then) (slots ++ toldBy (move L s .outcome) .starts)
-      go true d = rw (accounted-done L s g v d) (rw (append-nil slots) m)
-      go false d = by (accounted-turn L s g v d)
+      go true d = rw (accounted-done L s full v d) (rw (append-nil slots) m)
+      go false d = by (accounted-turn L s full v d)
 
   starts-none : starts L 0 fresh ≡ []
   unfolding startsBy
@@ -53,8 +59,8 @@ module _ (L : View) (g : Runnable L) where
   pub run-made : (n : ℕ) → Made L (stateAfter L n fresh) (starts L n fresh)
   run-made zero = rw (starts-none, state-none) (fresh-made L)
   run-made (suc n) =
-      rw (stateAfter-next L n fresh, starts-next L g n fresh (fresh-accounted L g))
-      (move-made (stateAfter L n fresh) (starts L n fresh) (run-accounted L g n) (run-made n))
+      rw (stateAfter-next (L .cost) L n fresh, starts-next L full n fresh (fresh-accounted minima workedSince L g))
+      (move-made (stateAfter L n fresh) (starts L n fresh) (run-accounted L full n) (run-made n))
 
   -- at the end every row has finished all its steps
   pub finished-all : (n : ℕ) → tightBound L ≤ n → (i : ℕ) → i < L .rows
@@ -64,16 +70,16 @@ module _ (L : View) (g : Runnable L) where
       omega (
         arith,
         leb-true (L .steps i) (stateAfter L n fresh .finished i)
-            (allTo-true (λ k. leb (L .steps k) (stateAfter L n fresh .finished k)) (L .rows) (run-finished L g n h) i
+            (allTo-true (λ k. leb (L .steps k) (stateAfter L n fresh .finished k)) (L .rows) (run-finished L full n h) i
             l),
-        run-accounted L g n .invariant .shape .finished-le i l,
+        run-accounted L full n .invariant .shape .finished-le i l,
       )
 
   abbrev last : State
   last = stateAfter L (tightBound L) fresh
 
   schedule-made : Made L last (schedule L)
-  schedule-made = rw (schedule-whole L g (tightBound L) (omega arith)) (run-made (tightBound L))
+  schedule-made = rw (schedule-whole L full (tightBound L) (omega arith)) (run-made (tightBound L))
 
   pub schedule-is-whole : Whole L (schedule L)
   schedule-is-whole =
