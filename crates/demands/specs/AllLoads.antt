@@ -11,7 +11,7 @@ use Rattle.load_file.specs.Writing.{loadBytes}
 use Rattle.load_file.specs.Reading.{readLoad}
 use Rattle.load_file.specs.RoundTrip.{accepted}
 use Rattle.rules.specs.Margins.{marginBytes}
-use Rattle.schedule.specs.ScheduleFile.{scheduleBytes}
+use Rattle.schedule_file.specs.ScheduleFile.{scheduleBytes}
 use Rattle.lines.specs.Lines.{printed}
 use Rattle.demands.specs.LoadsToTry.{
   answersFor,

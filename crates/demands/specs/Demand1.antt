@@ -23,7 +23,7 @@ use Rattle.bound.specs.declared.Bounded.{Bounded}
 use Rattle.bound.specs.declared.Margined.{Margined}
 use Rattle.bound.specs.declared.Judged.{Judged}
 use Rattle.bound.specs.Calls.{BoundOf, MarginsOf, VerdictOf}
-use Rattle.schedule.specs.Calls.{WriteSchedule, WriteArray}
+use Rattle.schedule_file.specs.Calls.{WriteSchedule, WriteArray}
 use Rattle.bench.specs.declared.Bench.{Bench}
 use Rattle.bench.specs.declared.Moved.{Moved}
 use Rattle.bench.specs.declared.Ran.{Ran}

@@ -18,7 +18,7 @@ use Rattle.load_file.specs.Calls.{ReadLoad}
 use Rattle.rules.specs.Bound.{bound}
 use Rattle.rules.specs.Margins.{marginBytes, verdict}
 use Rattle.rules.specs.Run.{schedule}
-use Rattle.schedule.specs.ScheduleFile.{scheduleBytes}
+use Rattle.schedule_file.specs.ScheduleFile.{scheduleBytes}
 use Rattle.reading_bench.specs.Calls.{
   Numbered,
   BenchBound,

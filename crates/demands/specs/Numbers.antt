@@ -19,7 +19,8 @@ use Rattle.bound.specs.declared.Bounded.{Bounded}
 use Rattle.bound.specs.declared.Margined.{Margined}
 use Rattle.bound.specs.declared.Judged.{Judged}
 use Rattle.bound.specs.Calls.{BoundOf, MarginsOf, VerdictOf}
-use Rattle.schedule.specs.Calls.{CheckSchedule, CheckArray, WriteSchedule, WriteArray}
+use Rattle.schedule.specs.Calls.{CheckSchedule, CheckArray}
+use Rattle.schedule_file.specs.Calls.{WriteSchedule, WriteArray}
 use Rattle.bench.specs.declared.Bench.{Bench}
 use Rattle.bench.specs.declared.Moved.{Moved}
 use Rattle.bench.specs.declared.Ran.{Ran}

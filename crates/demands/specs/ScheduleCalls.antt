@@ -5,7 +5,8 @@ use mathlib.Core.List.{List}
 use Rattle.refusals.specs.declared.Checked.{Checked}
 use Rattle.load.specs.declared.Load.{Load}
 use Rattle.rules.specs.declared.Slot.{Slot}
-use Rattle.schedule.specs.Calls.{CheckSchedule, CheckArray, WriteSchedule, WriteArray}
+use Rattle.schedule.specs.Calls.{CheckSchedule, CheckArray}
+use Rattle.schedule_file.specs.Calls.{WriteSchedule, WriteArray}
 use Rattle.demands.specs.FileCalls.{Wrote, Writes}
 
 -- what is claimed of the relation of each call on schedules, for all that it is given
@@ -14,6 +15,7 @@ pub record EveryScheduleCall {ℓ} (Claim : (A : Type 0) → (A → Type 0) → 
   pub check-schedule : (load : Load) (slots : List Slot) → Claim Checked (CheckSchedule load slots)
   pub check-array : (load : Load) (slots : List Slot) (n : ℕ)
       → Claim Checked (CheckArray load slots n)
+  -- schedule_file
   pub write-schedule : (slots : List Slot) (out : List ℕ)
       → Claim (Wrote Checked) (Writes (WriteSchedule slots out))
   pub write-array : (slots : List Slot) (n : ℕ) (out : List ℕ)

@@ -13,8 +13,9 @@ use Rattle.load.specs.declared.Load.{Load}
 use Rattle.load.specs.View.{viewOf}
 use Rattle.load.specs.Check.{checkLoad}
 use Rattle.rules.specs.Run.{schedule}
-use Rattle.schedule.specs.ScheduleFile.{slotsFault}
-use Rattle.schedule.specs.Calls.{firstSlots, WriteSchedule, WriteArray}
+use Rattle.schedule.specs.Calls.{firstSlots}
+use Rattle.schedule_file.specs.ScheduleFile.{slotsFault}
+use Rattle.schedule_file.specs.Calls.{WriteSchedule, WriteArray}
 use Rattle.bench.specs.declared.Ran.{Ran}
 use Rattle.bench.specs.Calls.{Runs}
 use Rattle.bench.proofs.running.RunsLaws.{Runs-schedule, Runs-count, schedule-most}

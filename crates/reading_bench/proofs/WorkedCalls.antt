@@ -23,7 +23,7 @@ use Rattle.load_file.specs.Reading.{
 use Rattle.rules.specs.State.{fresh}
 use Rattle.rules.specs.Run.{startsBy, scheduleBy}
 use Rattle.rules.proofs.worked.WorkedComputing.{computing}
-use Rattle.schedule.specs.ScheduleFile.{scheduleBytes}
+use Rattle.schedule_file.specs.ScheduleFile.{scheduleBytes}
 use Rattle.reading_bench.specs.Calls.{Numbered}
 use Rattle.reading_bench.specs.WorkedCalls.{WorkedCalls}
 

@@ -14,7 +14,7 @@ use Rattle.load_file.specs.Reading.{fileFault}
 use Rattle.rules.specs.Bound.{bound}
 use Rattle.rules.specs.Margins.{marginBytes, verdict}
 use Rattle.rules.specs.Run.{schedule}
-use Rattle.schedule.specs.ScheduleFile.{scheduleBytes}
+use Rattle.schedule_file.specs.ScheduleFile.{scheduleBytes}
 
 -- the number r of what a writing call finds, and what its output holds afterwards
 pub record Numbered (finding : Checked) (answer out : List ℕ) (r : ℕ) (after : List ℕ)

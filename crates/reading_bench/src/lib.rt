@@ -11,7 +11,7 @@ use refusals::Checked;
 use refusals::Refusal;
 use refusals::number_given;
 use refusals::number_of;
-use schedule::write_array;
+use schedule_file::write_array;
 use words::bytes32;
 use words::overwrite;
 ghost use Rattle.reading_bench.specs.Calls.{Numbered, BenchBound, BenchVerdict};

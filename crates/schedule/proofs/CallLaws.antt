@@ -3,11 +3,9 @@ use Prim.Native.Nat.{ℕ}
 use mathlib.Core.List.{List}
 use mathlib.Core.Path.{_≡_, sym, _∙_}
 use Rattle.refusals.specs.declared.Checked.{Checked}
-use Rattle.refusals.proofs.CallLaws.{Given-unique-finding, Given-unique-output}
 use Rattle.load.specs.declared.Load.{Load}
 use Rattle.rules.specs.declared.Slot.{Slot}
-use Rattle.schedule.specs.ScheduleFile.{slotsFault, scheduleBytes}
-use Rattle.schedule.specs.Calls.{firstSlots, CheckSchedule, CheckArray, WriteSchedule, WriteArray}
+use Rattle.schedule.specs.Calls.{CheckSchedule, CheckArray}
 
 pub CheckSchedule-unique : (load : Load) (slots : List Slot) (r s : Checked) → CheckSchedule load slots r
     → CheckSchedule load slots s → r ≡ s
@@ -16,14 +14,3 @@ CheckSchedule-unique load slots r s p q = p ∙ sym q
 pub CheckArray-unique : (load : Load) (slots : List Slot) (n : ℕ) (r s : Checked) → CheckArray load slots n r
     → CheckArray load slots n s → r ≡ s
 CheckArray-unique load slots n r s p q = p ∙ sym q
-
-pub WriteSchedule-unique : (slots : List Slot) (out : List ℕ) (r s : Checked) (after later : List ℕ)
-    → WriteSchedule slots out r after → WriteSchedule slots out s later → (r ≡ s) × (after ≡ later)
-WriteSchedule-unique slots out r s after later p q = (
-  Given-unique-finding (slotsFault slots) (scheduleBytes slots) out r s after later p q,
-  Given-unique-output (slotsFault slots) (scheduleBytes slots) out r s after later p q,
-)
-
-pub WriteArray-unique : (slots : List Slot) (n : ℕ) (out : List ℕ) (r s : Checked) (after later : List ℕ)
-    → WriteArray slots n out r after → WriteArray slots n out s later → (r ≡ s) × (after ≡ later)
-WriteArray-unique slots n = WriteSchedule-unique (firstSlots slots n)

@@ -1,16 +1,13 @@
--- What each public call's contract says: one relation a call, over what it takes, what it gives,
--- and what the lent bytes hold afterwards. To be read after ScheduleFile.
+-- What each public call's contract says: one relation a call, over what it takes and what it gives.
 use Prim.Native.Nat.{ℕ, min}
 use mathlib.Core.List.{List}
 use mathlib.Core.Path.{_≡_}
 use lib.ListN.{take}
 use Rattle.refusals.specs.declared.Checked.{Checked}
-use Rattle.refusals.specs.Given.{Given}
 use Rattle.load.specs.declared.Load.{Load}
 use Rattle.rules.specs.declared.Slot.{Slot}
 use Rattle.rules.specs.Slots.{slotPlaces}
 use Rattle.rules.specs.Check.{checkSchedule}
-use Rattle.schedule.specs.ScheduleFile.{slotsFault, scheduleBytes}
 
 -- the first n slots of an array, at most 256
 abbrev pub firstSlots : List Slot → ℕ → List Slot
@@ -23,12 +20,3 @@ CheckSchedule load slots r = r ≡ checkSchedule load slots
 -- check_array(load, slots, n): the same of the first n slots of an array
 abbrev pub CheckArray : Load → List Slot → ℕ → Checked → Type 0
 CheckArray load slots n r = r ≡ checkSchedule load (firstSlots slots n)
-
--- write_schedule(slots, out): 3 for more than 192 slots, then 9, or Good with the file in the
--- output
-abbrev pub WriteSchedule : List Slot → List ℕ → Checked → List ℕ → Type 0
-WriteSchedule slots out r after = Given (slotsFault slots) (scheduleBytes slots) out r after
-
--- write_array(slots, n, out): the same of the first n slots of an array
-abbrev pub WriteArray : List Slot → ℕ → List ℕ → Checked → List ℕ → Type 0
-WriteArray slots n out r after = WriteSchedule (firstSlots slots n) out r after

@@ -1,6 +1,4 @@
--- The schedule file as bytes, when its slots are too many, and what the calls on slots give.
-pub mod ScheduleFile
+-- What the calls that check slots give, and when the check says yes.
 pub mod Calls
-pub mod WorkedCases
 pub mod CheckExactly
 pub mod inner

@@ -13,7 +13,7 @@ use crate::slots::SLOTS_SIZE;
 use crate::slots::slots_from;
 use rules::Slot;
 use schedule::SLOT_PLACES;
-use schedule::write_array;
+use schedule_file::write_array;
 
 // Answers for the first n slots, their writing lent a room at the front of the bytes. Says no where
 // they are fewer. The slots' file has a head of four bytes, and eight for each slot.

@@ -1,8 +1,9 @@
 -- The calls on schedules: each contract is its relation in ScheduleCalls, which a result meets, and one only.
 use mathlib.Core.Path.{refl}
-use Rattle.schedule.specs.ScheduleFile.{slotsFault, scheduleBytes}
 use Rattle.schedule.specs.Calls.{firstSlots}
-use Rattle.schedule.proofs.CallLaws.{CheckSchedule-unique, CheckArray-unique, WriteSchedule-unique, WriteArray-unique}
+use Rattle.schedule.proofs.CallLaws.{CheckSchedule-unique, CheckArray-unique}
+use Rattle.schedule_file.specs.ScheduleFile.{slotsFault, scheduleBytes}
+use Rattle.schedule_file.proofs.CallLaws.{WriteSchedule-unique, WriteArray-unique}
 use Rattle.demands.specs.ScheduleCalls.{EveryScheduleCall}
 use Rattle.demands.specs.Sameness.{OneResult}
 use Rattle.demands.specs.JoinedContract.{Relation}

@@ -1,6 +1,7 @@
 -- The contract of each call on schedules is its relation in ScheduleCalls, at the call's own parameters,
 -- and asks nothing. This is a statement, a part of Joined.
 use Rattle.schedule.proofs as schedule
+use Rattle.schedule_file.proofs as schedule_file
 use Rattle.demands.specs.ScheduleCalls.{EveryScheduleCall}
 use Rattle.demands.specs.JoinedContract.{Says, Relation, wrote}
 
@@ -10,7 +11,8 @@ pub record ScheduleContracts (relation : EveryScheduleCall Relation) : Type 2 wh
       (λ κs a r s. relation .check-schedule (a .0) (a .1 .0 .now) .meets r)
   pub check-array : Says schedule.check_array.ended (λ M. schedule.check_array.spec)
       (λ κs a r s. relation .check-array (a .0) (a .1 .0) (a .1 .1 .0) .meets r)
-  pub write-schedule : Says schedule.write_schedule.ended (λ M. schedule.write_schedule.spec)
+  -- schedule_file
+  pub write-schedule : Says schedule_file.write_schedule.ended (λ M. schedule_file.write_schedule.spec)
       (λ κs a r s. relation .write-schedule (a .0 .now) (a .1 .0 .now) .meets (wrote r (s .1 .0 .now)))
-  pub write-array : Says schedule.write_array.ended (λ M. schedule.write_array.spec)
+  pub write-array : Says schedule_file.write_array.ended (λ M. schedule_file.write_array.spec)
       (λ κs a r s. relation .write-array (a .0) (a .1 .0) (a .1 .1 .0 .now) .meets (wrote r (s .1 .1 .0 .now)))

@@ -23,8 +23,8 @@ use Rattle.load_file.specs.Reading.{fileFault, readLoad}
 use Rattle.load_file.specs.Calls.{WriteLoad}
 use Rattle.rules.specs.declared.Slot.{Slot}
 use Rattle.rules.specs.Slots.{mostSlots}
-use Rattle.schedule.specs.ScheduleFile.{slotsFault, scheduleBytes}
-use Rattle.schedule.specs.Calls.{WriteSchedule}
+use Rattle.schedule_file.specs.ScheduleFile.{slotsFault, scheduleBytes}
+use Rattle.schedule_file.specs.Calls.{WriteSchedule}
 use Rattle.reading_bench.specs.Calls.{ForC}
 use Rattle.lines.specs.declared.Printed.{Printed}
 use Rattle.lines.specs.Lines.{printed}

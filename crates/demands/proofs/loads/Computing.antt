@@ -20,7 +20,7 @@ use Rattle.rules.specs.State.{fresh}
 use Rattle.rules.specs.Run.{stateAfterBy, startsBy, scheduleBy}
 use Rattle.rules.specs.Slots.{lastEnd}
 use Rattle.rules.proofs.worked.WorkedComputing.{computing as computingRules}
-use Rattle.schedule.specs.ScheduleFile.{scheduleBytes}
+use Rattle.schedule_file.specs.ScheduleFile.{scheduleBytes}
 use Rattle.lines.specs.Lines.{
   spaced,
   firstLineOf,

@@ -2,8 +2,8 @@
 use mathlib.Core.Path.{refl}
 use Rattle.counting.specs.Lists.{joinIn}
 use Rattle.words.specs.LittleEndian.{littleEndian}
-use Rattle.schedule.specs.ScheduleFile.{scheduleBytes}
-use Rattle.schedule.specs.WorkedCases.{WorkedCases}
+use Rattle.schedule_file.specs.ScheduleFile.{scheduleBytes}
+use Rattle.schedule_file.specs.WorkedCases.{WorkedCases}
 
 pub worked-hold : WorkedCases
 unfolding joinIn littleEndian scheduleBytes

@@ -9,8 +9,9 @@ use lib.ListN.{replicate}
 use Rattle.refusals.specs.declared.Refusal.the-variants.{OutOfRange, OutputShort}
 use Rattle.refusals.specs.declared.Checked.the-variants.{Good, Refused}
 use Rattle.rules.specs.declared.Slot.{Slot}
-use Rattle.schedule.specs.ScheduleFile.{slotsFault, scheduleBytes}
-use Rattle.schedule.specs.Calls.{firstSlots, WriteSchedule}
+use Rattle.schedule.specs.Calls.{firstSlots}
+use Rattle.schedule_file.specs.ScheduleFile.{slotsFault, scheduleBytes}
+use Rattle.schedule_file.specs.Calls.{WriteSchedule}
 
 -- row 1, step 2, from the moment 01020304 on
 abbrev pub aSlot : Slot

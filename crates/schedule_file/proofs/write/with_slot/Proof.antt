@@ -2,9 +2,9 @@
 use borrow.Author.Needs.{needs}
 use borrow.Author.Tests.{lt-ltb, le-ltb}
 use Rattle.words.specs.LittleEndian.{littleEndian}
-use Rattle.schedule.specs.inner.Gathered.{withSlot}
-use Rattle.schedule.proofs.write.with_slot.Statement.{statement}
-use Rattle.schedule.proofs.write.with_slot.Tie as tie
+use Rattle.schedule_file.specs.inner.Gathered.{withSlot}
+use Rattle.schedule_file.proofs.write.with_slot.Statement.{statement}
+use Rattle.schedule_file.proofs.write.with_slot.Tie as tie
 
 added : tie.Need-returns
 unfolding withSlot littleEndian

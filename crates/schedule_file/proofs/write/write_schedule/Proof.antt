@@ -62,29 +62,29 @@ use Rattle.refusals.proofs.Checked.Laws as R′
 use Rattle.rules.specs.declared.Slot.{Slot}
 use Rattle.rules.specs.Slots.{noSlot, mostSlots}
 use Rattle.rules.proofs.Slot as T
-use Rattle.schedule.specs.declared.write.Gathered.{Gathered}
-use Rattle.schedule.specs.inner.Gathered.{headed, gatheredOf, gathered}
-use Rattle.schedule.specs.Calls.{WriteSchedule}
-use Rattle.schedule.proofs.walks.FoldLaws.{gathered-turn, gathered-end}
-use Rattle.schedule.proofs.fold.GatheredLaws.{gathered-given}
-use Rattle.schedule.proofs.walks.SlotCalls.{slice, word, byteRef, Head as Begin, next-fits, Flush, to-head}
-use Rattle.schedule.proofs.walks.SlotCalls.{goes-head, said-head}
-use Rattle.schedule.proofs.write.Gathered as S
-use Rattle.schedule.proofs.write.Gathered.Laws as S′
-use Rattle.schedule.proofs.write.head as begin
-use Rattle.schedule.proofs.write.head.Symbol.{name as #schedule·head, routine as begin-routine}
-use Rattle.schedule.proofs.write.head.Met as begin-thm
-use Rattle.schedule.proofs.write.write_at as one
-use Rattle.schedule.proofs.write.write_at.Symbol.{name as #schedule·write-at, routine as one-routine}
-use Rattle.schedule.proofs.write.write_at.Met as one-thm
-use Rattle.schedule.proofs.write.flush as flush
-use Rattle.schedule.proofs.write.flush.Symbol.{name as #schedule·flush, routine as flush-routine}
-use Rattle.schedule.proofs.write.flush.Met as flush-thm
-use Rattle.schedule.proofs.write.write_schedule.Key.{name as #schedule·write-schedule}
-use Rattle.schedule.proofs.write.write_schedule as self
-use Rattle.schedule.proofs.write.write_schedule.Statement as stated
-use Rattle.schedule.proofs.write.write_schedule.Code as code
-use Rattle.schedule.proofs.write.write_schedule.Code.Mir as body
+use Rattle.schedule.proofs.walks.SlotCalls.{slice, word, next-fits}
+use Rattle.schedule_file.specs.declared.write.Gathered.{Gathered}
+use Rattle.schedule_file.specs.inner.Gathered.{headed, gatheredOf, gathered}
+use Rattle.schedule_file.specs.Calls.{WriteSchedule}
+use Rattle.schedule_file.proofs.GatheredFold.{gathered-turn, gathered-end}
+use Rattle.schedule_file.proofs.GatheredLaws.{gathered-given}
+use Rattle.schedule_file.proofs.LoopCalls.{byteRef, Head as Begin, Flush, to-head, goes-head, said-head}
+use Rattle.schedule_file.proofs.write.Gathered as S
+use Rattle.schedule_file.proofs.write.Gathered.Laws as S′
+use Rattle.schedule_file.proofs.write.head as begin
+use Rattle.schedule_file.proofs.write.head.Symbol.{name as #file·head, routine as begin-routine}
+use Rattle.schedule_file.proofs.write.head.Met as begin-thm
+use Rattle.schedule_file.proofs.write.write_at as one
+use Rattle.schedule_file.proofs.write.write_at.Symbol.{name as #file·write-at, routine as one-routine}
+use Rattle.schedule_file.proofs.write.write_at.Met as one-thm
+use Rattle.schedule_file.proofs.write.flush as flush
+use Rattle.schedule_file.proofs.write.flush.Symbol.{name as #file·flush, routine as flush-routine}
+use Rattle.schedule_file.proofs.write.flush.Met as flush-thm
+use Rattle.schedule_file.proofs.write.write_schedule.Key.{name as #file·write-schedule}
+use Rattle.schedule_file.proofs.write.write_schedule as self
+use Rattle.schedule_file.proofs.write.write_schedule.Statement as stated
+use Rattle.schedule_file.proofs.write.write_schedule.Code as code
+use Rattle.schedule_file.proofs.write.write_schedule.Code.Mir as body
 
 abbrev stayed : Stays (self.ended .signature .params) (self.ended .kept)
 stayed = (stay-none-slice (0 ∷ []) tt (plain (λ _. T.the-row)) yes, (gave-slice (1 ∷ []) tt (plain (λ _. u8)), tt))
@@ -94,7 +94,7 @@ module _ {M : Type 1} (𝓤 : URA M) (H : Heap 𝓤) (A : Atoms 𝓤) (mem : Mem
   One = tripleOf 𝓤 H A one.signature (one.spec 𝓤 H A mem run)
 
 abbrev more : Body
-more = seq (call #schedule·write-at (copy (place 1 []) ∷ copy (place 5 []) ∷ copy (place 4 []) ∷ []) (place 4 []))
+more = seq (call #file·write-at (copy (place 1 []) ∷ copy (place 5 []) ∷ copy (place 4 []) ∷ []) (place 4 []))
     (assign (place 5 []) (op2 (add unsigned) (copy (place 5 [])) (int w64 1)))
 
 module _ {M : Type 1} (𝓤 : URA M) (H : Heap 𝓤) (A : Atoms 𝓤) (W : Given 𝓤 H A) (mem : Memory → SProp 𝓤) (run :
@@ -177,8 +177,8 @@ module _ {M : Type 1} (𝓤 : URA M) (H : Heap 𝓤) (A : Atoms 𝓤) (W : Given
   Nearer-wf : WellFounded Nearer
   Nearer-wf = InvImage·wf (λ (h : Here). n - h .0) (Nat·lt-wfRel .wf)
 
-  module _ (𝓣 : Tables 𝓤 H) (fm : FmC 𝓤 H (W .laws) (𝓣 .C)) (known-one : Triple 𝓤 (𝓣 .C #schedule·write-at) (One 𝓤 H
-      A mem run)) (known-flush : Triple 𝓤 (𝓣 .C #schedule·flush) (Flush 𝓤 H A mem run)) (l₀ l₁ l₂ l₃ l₄ l₅ l₆ l₇ l₈ :
+  module _ (𝓣 : Tables 𝓤 H) (fm : FmC 𝓤 H (W .laws) (𝓣 .C)) (known-one : Triple 𝓤 (𝓣 .C #file·write-at) (One 𝓤 H
+      A mem run)) (known-flush : Triple 𝓤 (𝓣 .C #file·flush) (Flush 𝓤 H A mem run)) (l₀ l₁ l₂ l₃ l₄ l₅ l₆ l₇ l₈ :
       ℕ)
     where
       abbrev C : Calls 𝓤 H
@@ -259,8 +259,8 @@ module _ {M : Type 1} (𝓤 : URA M) (H : Heap 𝓤) (A : Atoms 𝓤) (W : Given
           → Sq W (At (i, r, u, begins i r l e)) (runs C Λ En body.t-4 (atRet En Post))
       loop-on r u l e = first ! $ blocks ! $ loops ! 𝓣 Nearer Nearer-wf At turns (_, r, u, begins _ r l e)
 
-  walk : (𝓣 : Tables 𝓤 H) (fm : FmC 𝓤 H (W .laws) (𝓣 .C)) → Triple 𝓤 (𝓣 .C #schedule·head) (Begin 𝓤 H A mem run) →
-      Triple 𝓤 (𝓣 .C #schedule·write-at) (One 𝓤 H A mem run) → Triple 𝓤 (𝓣 .C #schedule·flush) (Flush 𝓤 H A mem run)
+  walk : (𝓣 : Tables 𝓤 H) (fm : FmC 𝓤 H (W .laws) (𝓣 .C)) → Triple 𝓤 (𝓣 .C #file·head) (Begin 𝓤 H A mem run) →
+      Triple 𝓤 (𝓣 .C #file·write-at) (One 𝓤 H A mem run) → Triple 𝓤 (𝓣 .C #file·flush) (Flush 𝓤 H A mem run)
       → ent 𝓤 (onEntry 𝓤 H A self.signature (κ, (κ′, tt)) (q, (q′, tt)) (x, (y, tt)) at) (WpFn 𝓤 H (𝓣 .C) (𝓣 .Λ)
       code.function (sliceVal (x .ptr) n ∷ sliceVal (y .ptr) (length (now y)) ∷ []) Post)
   walk 𝓣 fm known-begin known-one known-flush =
@@ -286,8 +286,8 @@ module _ {M : Type 1} (𝓤 : URA M) (H : Heap 𝓤) (A : Atoms 𝓤) (W : Given
 
 module _ {M : Type 1} (𝓤 : URA M) (H : Heap 𝓤) (A : Atoms 𝓤) (W : Given 𝓤 H A) (mem : Memory → SProp 𝓤) (run :
     Routine → Fun 𝓤) where
-  write-schedule-walks : (𝓣 : Tables 𝓤 H) → FmC 𝓤 H (W .laws) (𝓣 .C) → Triple 𝓤 (𝓣 .C #schedule·head) (Begin 𝓤 H A
-      mem run) → Triple 𝓤 (𝓣 .C #schedule·write-at) (One 𝓤 H A mem run) → Triple 𝓤 (𝓣 .C #schedule·flush) (Flush 𝓤 H
+  write-schedule-walks : (𝓣 : Tables 𝓤 H) → FmC 𝓤 H (W .laws) (𝓣 .C) → Triple 𝓤 (𝓣 .C #file·head) (Begin 𝓤 H A
+      mem run) → Triple 𝓤 (𝓣 .C #file·write-at) (One 𝓤 H A mem run) → Triple 𝓤 (𝓣 .C #file·flush) (Flush 𝓤 H
       A mem run) → Walks 𝓤 H A self.ended stayed (WpFn 𝓤 H (𝓣 .C) (𝓣 .Λ) code.function) (self.clauses 𝓤 H A mem run)
   write-schedule-walks 𝓣 fm known-begin known-one known-flush = walked 𝓤 H A self.ended stayed (self.clauses 𝓤 H A
       mem run) (WpFn 𝓤 H (𝓣 .C) (𝓣 .Λ) code.function) (λ κs. (slice-vals, (slice-vals, tt))) (λ κs.
@@ -296,8 +296,8 @@ module _ {M : Type 1} (𝓤 : URA M) (H : Heap 𝓤) (A : Atoms 𝓤) (W : Given
       (are .0) (are .1 .0) 𝓣 fm known-begin known-one known-flush))
 
 write-schedule-meets : {M : Type 1} (𝓤 : URA M) (H : Heap 𝓤) (A : Atoms 𝓤) (W : Given 𝓤 H A) (mem : Memory → SProp 𝓤)
-    (run : Routine → Fun 𝓤) (𝓣 : Tables 𝓤 H) → Triple 𝓤 (𝓣 .C #schedule·head) (Begin 𝓤 H A mem run) → Triple 𝓤 (𝓣 .C
-    #schedule·write-at) (One 𝓤 H A mem run) → Triple 𝓤 (𝓣 .C #schedule·flush) (Flush 𝓤 H A mem run) → Meets 𝓤 H A
+    (run : Routine → Fun 𝓤) (𝓣 : Tables 𝓤 H) → Triple 𝓤 (𝓣 .C #file·head) (Begin 𝓤 H A mem run) → Triple 𝓤 (𝓣 .C
+    #file·write-at) (One 𝓤 H A mem run) → Triple 𝓤 (𝓣 .C #file·flush) (Flush 𝓤 H A mem run) → Meets 𝓤 H A
     self.signature (WpFn 𝓤 H (𝓣 .C) (𝓣 .Λ) code.function) (self.spec 𝓤 H A mem run)
 write-schedule-meets 𝓤 H A W mem run 𝓣 known-begin known-one known-flush = walk-meets 𝓤 H A self.ended stayed W (
   goes-none-slice 𝓤 H A W 2 (0 ∷ []) tt (plain (λ _. T.the-row)) yes,
@@ -309,10 +309,10 @@ pub write-schedule-spec : {M : Type 1} → stated.statement M
 unfolding code.routine tablesOf
 write-schedule-spec 𝓤 H 𝓜 𝓖 𝓡 =
     entered 𝓤 H (tripleOf 𝓤 H (𝓖 .A) self.signature (self.spec 𝓤 H (𝓖 .A) (𝓜 .mem) (𝓡 .run))) (tables 𝓤 H 𝓜 𝓡
-    code.env .C) (tables 𝓤 H 𝓜 𝓡 code.env .Λ) #schedule·write-schedule code.function (code.unfolded 𝓤 H 𝓜 𝓡)
+    code.env .C) (tables 𝓤 H 𝓜 𝓡 code.env .Λ) #file·write-schedule code.function (code.unfolded 𝓤 H 𝓜 𝓡)
     (write-schedule-meets 𝓤 H (𝓖 .A) (givenOf 𝓤 H 𝓜 𝓖) (𝓜 .mem) (𝓡 .run) (tablesOf 𝓤 H 𝓜 (tables 𝓤 H 𝓜 𝓡 code.env))
-    (cited 𝓤 H (Begin 𝓤 H (𝓖 .A) (𝓜 .mem) (𝓡 .run)) 𝓜 𝓡 code.env #schedule·head begin-routine
-    code.calls-schedule·write·head (begin-thm.met 𝓤 H 𝓜 𝓖 𝓡)) (cited 𝓤 H (One 𝓤 H (𝓖 .A) (𝓜 .mem) (𝓡 .run)) 𝓜 𝓡
-    code.env #schedule·write-at one-routine code.calls-schedule·write·write-at (one-thm.met 𝓤 H 𝓜 𝓖 𝓡)) (cited 𝓤 H
-    (Flush 𝓤 H (𝓖 .A) (𝓜 .mem) (𝓡 .run)) 𝓜 𝓡 code.env #schedule·flush flush-routine code.calls-schedule·write·flush
+    (cited 𝓤 H (Begin 𝓤 H (𝓖 .A) (𝓜 .mem) (𝓡 .run)) 𝓜 𝓡 code.env #file·head begin-routine
+    code.calls-schedule-file·write·head (begin-thm.met 𝓤 H 𝓜 𝓖 𝓡)) (cited 𝓤 H (One 𝓤 H (𝓖 .A) (𝓜 .mem) (𝓡 .run)) 𝓜 𝓡
+    code.env #file·write-at one-routine code.calls-schedule-file·write·write-at (one-thm.met 𝓤 H 𝓜 𝓖 𝓡)) (cited 𝓤 H
+    (Flush 𝓤 H (𝓖 .A) (𝓜 .mem) (𝓡 .run)) 𝓜 𝓡 code.env #file·flush flush-routine code.calls-schedule-file·write·flush
     (flush-thm.met 𝓤 H 𝓜 𝓖 𝓡)))

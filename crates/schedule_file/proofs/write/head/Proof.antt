@@ -1,9 +1,9 @@
 -- `head` stores four bytes, one by one.
 use borrow.Author.Needs.{needs}
-use Rattle.schedule.specs.inner.Gathered.{headed}
+use Rattle.schedule_file.specs.inner.Gathered.{headed}
 use Rattle.words.specs.LittleEndian.{littleEndian}
-use Rattle.schedule.proofs.write.head.Statement.{statement}
-use Rattle.schedule.proofs.write.head.Tie as tie
+use Rattle.schedule_file.proofs.write.head.Statement.{statement}
+use Rattle.schedule_file.proofs.write.head.Tie as tie
 
 returns : tie.Need-returns
 unfolding headed littleEndian

@@ -8,8 +8,8 @@ use lib.ListN.{replicate}
 use lib.Seq.{sets}
 use Rattle.words.specs.LittleEndian.{littleEndian}
 use Rattle.rules.specs.declared.Slot.{Slot}
-use Rattle.schedule.specs.declared.write.Gathered.{Gathered}
-use Rattle.schedule.specs.ScheduleFile.{slotRecord}
+use Rattle.schedule_file.specs.declared.write.Gathered.{Gathered}
+use Rattle.schedule_file.specs.ScheduleFile.{slotRecord}
 
 -- the head of the file of n slots
 abbrev pub headBytes : ℕ → List ℕ

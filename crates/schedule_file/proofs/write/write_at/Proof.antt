@@ -43,22 +43,22 @@ use denote.Triple.Walked.{ends-at, walked, walk-meets}
 use denote.Triple.Clauses.{ensured, lasts}
 use denote.Exit.{yes}
 use Rattle.rules.specs.Slots.{noSlot}
 use Rattle.schedule.proofs.walks.SlotFields.{place-fits, slotVals, field-of}
-use Rattle.schedule.specs.inner.Gathered.{gatheredOf}
+use Rattle.schedule_file.specs.inner.Gathered.{gatheredOf}
 use Rattle.rules.specs.declared.Slot.{Slot}
-use Rattle.schedule.specs.declared.write.Gathered.{Gathered}
+use Rattle.schedule_file.specs.declared.write.Gathered.{Gathered}
 use Rattle.rules.proofs.Slot as T
 use Rattle.rules.proofs.Slot.Laws as T′
-use Rattle.schedule.proofs.write.Gathered as S
-use Rattle.schedule.proofs.write.Gathered.Laws as S′
-use Rattle.schedule.proofs.write.with_slot as callee
-use Rattle.schedule.proofs.write.with_slot.Symbol as callee-def
-use Rattle.schedule.proofs.write.with_slot.Symbol.{name as #schedule·with-slot}
-use Rattle.schedule.proofs.write.with_slot.Met as callee-thm
-use Rattle.schedule.proofs.write.write_at.Key.{name as #schedule·write-at}
-use Rattle.schedule.proofs.write.write_at as self
-use Rattle.schedule.proofs.write.write_at.Statement as stated
-use Rattle.schedule.proofs.write.write_at.Code as code
+use Rattle.schedule_file.proofs.write.Gathered as S
+use Rattle.schedule_file.proofs.write.Gathered.Laws as S′
+use Rattle.schedule_file.proofs.write.with_slot as callee
+use Rattle.schedule_file.proofs.write.with_slot.Symbol as callee-def
+use Rattle.schedule_file.proofs.write.with_slot.Symbol.{name as #file·with-slot}
+use Rattle.schedule_file.proofs.write.with_slot.Met as callee-thm
+use Rattle.schedule_file.proofs.write.write_at.Key.{name as #file·write-at}
+use Rattle.schedule_file.proofs.write.write_at as self
+use Rattle.schedule_file.proofs.write.write_at.Statement as stated
+use Rattle.schedule_file.proofs.write.write_at.Code as code
 
 abbrev stayed : Stays (self.ended .signature .params) (self.ended .kept)
 stayed = (
@@ -128,7 +128,7 @@ module _ {M : Type 1} (𝓤 : URA M) (H : Heap 𝓤) (A : Atoms 𝓤) (W : Given
       S.the-row (Is S.the-row) (LL.makes S.the-type S′.the-plain 𝓤 H A) st _ isS $ fjoin ! $ owned ! usize (Is usize)
       (uint-makes 𝓤 H A W w64) i _ (refl, gi) $ fjoin ! $ move ! (2 ∷ 0 ∷ []) $ fjoin ! $ frame ! $ done !
 
-  module _ (C : Calls 𝓤 H) (Λ : Loops 𝓤 H) (fm : FmC 𝓤 H (W .laws) C) (known : Triple 𝓤 (C #schedule·with-slot) (Callee
+  module _ (C : Calls 𝓤 H) (Λ : Loops 𝓤 H) (fm : FmC 𝓤 H (W .laws) C) (known : Triple 𝓤 (C #file·with-slot) (Callee
       𝓤 H A mem run)) where
     walk : i < length ys → ent 𝓤 (onEntry 𝓤 H A self.signature (κ, tt) (q, tt) (x, (i, (st, tt))) at) (WpFn 𝓤 H C Λ
         code.function (sliceVal (x .ptr) (length ys) ∷ vint w64 i ∷ LL.val S.the-type S′.the-laws st ∷ []) Post)
@@ -174,7 +174,7 @@ module _ {M : Type 1} (𝓤 : URA M) (H : Heap 𝓤) (A : Atoms 𝓤) (W : Given
 
 module _ {M : Type 1} (𝓤 : URA M) (H : Heap 𝓤) (A : Atoms 𝓤) (W : Given 𝓤 H A) (mem : Memory → SProp 𝓤) (run : Routine →
     Fun 𝓤) where
-  write-at-walks : (C : Calls 𝓤 H) (Λ : Loops 𝓤 H) → FmC 𝓤 H (W .laws) C → Triple 𝓤 (C #schedule·with-slot) (Callee 𝓤 H
+  write-at-walks : (C : Calls 𝓤 H) (Λ : Loops 𝓤 H) → FmC 𝓤 H (W .laws) C → Triple 𝓤 (C #file·with-slot) (Callee 𝓤 H
       A mem run) → Walks 𝓤 H A self.ended stayed (WpFn 𝓤 H C Λ code.function) (self.clauses 𝓤 H A mem run)
   write-at-walks C Λ fm known = walked 𝓤 H A self.ended stayed (self.clauses 𝓤 H A mem run) (WpFn 𝓤 H C Λ code.function)
       (λ κs. (slice-vals, (uint-vals w64, (fileVals, tt)))) (λ κs.
@@ -183,7 +183,7 @@ module _ {M : Type 1} (𝓤 : URA M) (H : Heap 𝓤) (A : Atoms 𝓤) (W : Given
       .0 .1) (are .1 .1 .0) C Λ fm known))
 
 write-at-meets : {M : Type 1} (𝓤 : URA M) (H : Heap 𝓤) (A : Atoms 𝓤) (W : Given 𝓤 H A) (mem : Memory → SProp 𝓤) (run :
-    Routine → Fun 𝓤) (𝓣 : Tables 𝓤 H) → Triple 𝓤 (𝓣 .C #schedule·with-slot) (Callee 𝓤 H A mem run) → Meets 𝓤 H A
+    Routine → Fun 𝓤) (𝓣 : Tables 𝓤 H) → Triple 𝓤 (𝓣 .C #file·with-slot) (Callee 𝓤 H A mem run) → Meets 𝓤 H A
     self.signature (WpFn 𝓤 H (𝓣 .C) (𝓣 .Λ) code.function) (self.spec 𝓤 H A mem run)
 write-at-meets 𝓤 H A W mem run 𝓣 known = walk-meets 𝓤 H A self.ended stayed W (
   goes-none-slice 𝓤 H A W 1 (0 ∷ []) tt (plain (λ _. T.the-row)) yes,
@@ -199,7 +199,7 @@ pub write-at-spec : {M : Type 1} → stated.statement M
 unfolding code.routine tablesOf
 write-at-spec 𝓤 H 𝓜 𝓖 𝓡 =
     entered 𝓤 H (tripleOf 𝓤 H (𝓖 .A) self.signature (self.spec 𝓤 H (𝓖 .A) (𝓜 .mem) (𝓡 .run))) (tables 𝓤 H 𝓜 𝓡 code.env
-    .C) (tables 𝓤 H 𝓜 𝓡 code.env .Λ) #schedule·write-at code.function (code.unfolded 𝓤 H 𝓜 𝓡) (write-at-meets 𝓤 H (𝓖 .A)
+    .C) (tables 𝓤 H 𝓜 𝓡 code.env .Λ) #file·write-at code.function (code.unfolded 𝓤 H 𝓜 𝓡) (write-at-meets 𝓤 H (𝓖 .A)
     (givenOf 𝓤 H 𝓜 𝓖) (𝓜 .mem) (𝓡 .run) (tablesOf 𝓤 H 𝓜 (tables 𝓤 H 𝓜 𝓡 code.env)) (cited 𝓤 H (Callee 𝓤 H (𝓖 .A) (𝓜
-    .mem) (𝓡 .run)) 𝓜 𝓡 code.env #schedule·with-slot callee-def.routine code.calls-schedule·write·with-slot
+    .mem) (𝓡 .run)) 𝓜 𝓡 code.env #file·with-slot callee-def.routine code.calls-schedule-file·write·with-slot
     (callee-thm.met 𝓤 H 𝓜 𝓖 𝓡)))

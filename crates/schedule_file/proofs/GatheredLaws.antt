@@ -20,10 +20,10 @@ use Rattle.refusals.specs.Given.{Given}
 use Rattle.refusals.proofs.GivenLaws.{refused-alike}
 use Rattle.rules.specs.declared.Slot.{Slot}
 use Rattle.rules.specs.Slots.{mostSlots}
-use Rattle.schedule.specs.declared.write.Gathered.{Gathered}
-use Rattle.schedule.specs.ScheduleFile.{slotsFault, slotRecord, scheduleBytes}
-use Rattle.schedule.specs.inner.Gathered.{headBytes, headed, withSlot, gatheredOf, gathered}
-use Rattle.schedule.specs.Calls.{WriteSchedule}
+use Rattle.schedule_file.specs.declared.write.Gathered.{Gathered}
+use Rattle.schedule_file.specs.ScheduleFile.{slotsFault, slotRecord, scheduleBytes}
+use Rattle.schedule_file.specs.inner.Gathered.{headBytes, headed, withSlot, gatheredOf, gathered}
+use Rattle.schedule_file.specs.Calls.{WriteSchedule}
 
 -- a file of 1,540 places with these bytes at its front
 abbrev front : List ℕ → Gathered

@@ -7,8 +7,8 @@ use lib.Seq.{length-take-le}
 use borrow.Author.Needs.{needs}
 use borrow.Author.Tests.{lt-ltb, le-ltb}
 use Rattle.words.proofs.OverwriteLaws.{sets-front}
-use Rattle.schedule.proofs.write.flush.Statement.{statement}
-use Rattle.schedule.proofs.write.flush.Tie as tie
+use Rattle.schedule_file.proofs.write.flush.Statement.{statement}
+use Rattle.schedule_file.proofs.write.flush.Tie as tie
 
 many : tie.Need-returns
 many c = record { finding-is = rw (lt-ltb _ _ (c .if1 .taken)); output-is = refl }

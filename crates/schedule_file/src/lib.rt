@@ -1,0 +1,6 @@
+// The schedule file: writing one. The slots are lent as a slice of slot records, or held in an
+// array of 256 places, of which the first so many count.
+mod write;
+
+pub use write::write_array;
+pub use write::write_schedule;
