@@ -59,7 +59,7 @@ front-next bytes slot l =
 -- all of them
 front-all : (slots : List Slot) (bytes : List ℕ) → length bytes + 8 * length slots ≤ 1540
     → gathered slots (front bytes) ≡ front (bytes ++ joinIn slotRecord slots)
-unfolding gathered joinIn
+unfolding joinIn
 front-all [] bytes l = ap front (sym (append-nil bytes))
 front-all (slot ∷ rest) bytes l =
     ap (gathered rest) (front-next bytes slot (omega arith))

@@ -1,6 +1,5 @@
 -- The laws of the calls that write slots: what the code gathers is what the definitions say of all slots.
 pub mod GatheredLaws
-pub mod GatheredFold
 pub mod LoopCalls
 pub mod CallLaws
 pub mod WorkedHold

@@ -30,7 +30,7 @@ use Rattle.schedule.proofs.fold.SeenLaws.{Before}
 use Rattle.schedule.proofs.fold.RightLaws.{tests-right}
 use Rattle.schedule.proofs.fold.StepLaws.{tests-same}
 use Rattle.schedule.proofs.fold.KeepLaws.{advanced-seen}
-use Rattle.schedule.proofs.walks.FoldLaws.{foldSlots-next, foldSlots-end}
+use Rattle.schedule.proofs.walks.FoldLaws.{fold-next, fold-end}
 
 module _ (load : Load) (ok : Acceptable (viewOf load)) (placed : Placed load) (slots : List Slot) where
   abbrev L : View
@@ -101,16 +101,16 @@ module _ (load : Load) (ok : Acceptable (viewOf load)) (placed : Placed load) (s
       → foldSlots load (drop k slots) seen .found ≡ firstFaultTo (slotFault L slots) (length slots)
   fold-from zero k seen e b =
       let k-is : k ≡ length slots = omega arith in
-      ap (λ (s : Seen). s .found) (foldSlots-end load slots k seen (omega arith))
+      ap (λ (s : Seen). s .found) (fold-end (seenOf load) slots k seen (omega arith))
       ∙ (b .found-is ∙ ap (firstFaultTo (slotFault L slots)) k-is)
   fold-from (suc m) k seen e b =
-      ap (λ (s : Seen). s .found) (foldSlots-next load slots k seen (omega arith))
+      ap (λ (s : Seen). s .found) (fold-next (seenOf load) slots k seen (omega arith))
       ∙ fold-from m (suc k) (seenOf load seen (slotAt slots k)) (omega arith) (before-next k seen b (omega arith))
 
 -- a refusal stays
 fold-refused : (load : Load) (slots : List Slot) (seen : Seen) (r : Refusal) → seen .found ≡ Refused r
     → foldSlots load slots seen ≡ seen
-unfolding foldSlots stepSlot
+unfolding stepSlot
 fold-refused load [] seen r e = refl
 fold-refused load (x ∷ rest) seen r e =
     ap (foldSlots load rest) (ap (λ c. ifGood c (nextSlot load seen (x .row) (x .step) (x .start)) seen) e)

@@ -2,7 +2,7 @@
 -- believed: check_schedule's own contract cites checkSchedule, which keeps no state. To be read
 -- after Seen.
 use Prim.Native.Nat.{ℕ, _+_, _-_, _*_}
-use mathlib.Core.List.{List, [], _∷_}
+use mathlib.Core.List.{List, foldl}
 use lib.ListN.{set}
 use Rattle.refusals.specs.declared.Checked.{Checked}
 use Rattle.refusals.specs.declared.Checked.the-variants.{Good}
@@ -45,6 +45,5 @@ abbrev pub seenOf : Load → Seen → Slot → Seen
 seenOf load seen slot = stepSlot load seen (slot .row) (slot .step) (slot .start)
 
 -- a list of slots
-unfoldable pub foldSlots : Load → List Slot → Seen → Seen
-foldSlots load [] seen = seen
-foldSlots load (slot ∷ rest) seen = foldSlots load rest (seenOf load seen slot)
+abbrev pub foldSlots : Load → List Slot → Seen → Seen
+foldSlots load slots seen = foldl (seenOf load) seen slots

@@ -2,7 +2,7 @@
 -- write_schedule's own contract cites scheduleBytes.
 use Prim.Native.Nat.{ℕ, _+_, _%_}
 use mathlib.Core.Bool.{cond}
-use mathlib.Core.List.{List, [], _∷_}
+use mathlib.Core.List.{List, _∷_, foldl}
 use lib.Dec.{ltb}
 use lib.ListN.{replicate}
 use lib.Seq.{sets}
@@ -37,6 +37,5 @@ abbrev pub gatheredOf : Gathered → Slot → Gathered
 gatheredOf file slot = withSlot file (slot .row) (slot .step) (slot .start)
 
 -- a list of slots
-unfoldable pub gathered : List Slot → Gathered → Gathered
-gathered [] file = file
-gathered (slot ∷ rest) file = gathered rest (gatheredOf file slot)
+abbrev pub gathered : List Slot → Gathered → Gathered
+gathered slots file = foldl gatheredOf file slots

@@ -54,7 +54,7 @@ use Rattle.rules.specs.Slots.{noSlot}
 use Rattle.rules.specs.Check.{checkSchedule}
 use Rattle.schedule.specs.inner.Seen.{begun}
 use Rattle.schedule.specs.inner.SeenFold.{seenOf, foldSlots}
-use Rattle.schedule.proofs.walks.FoldLaws.{foldSlots-turn, foldSlots-end}
+use Rattle.schedule.proofs.walks.FoldLaws.{fold-turn, fold-end}
 use Rattle.schedule.proofs.fold.CheckFold.{fold-checks}
 use Rattle.schedule.proofs.walks.SlotCalls.{slice, word, Begin, next-fits, Finish}
 use Rattle.rules.specs.declared.Slot.{Slot}
@@ -183,7 +183,7 @@ module _ {M : Type 1} (𝓤 : URA M) (H : Heap 𝓤) (A : Atoms 𝓤) (W : Given
 
   -- the loop begins at the first slot
   begins : (i : ℕ) (r : Seen) → i ≡ 0 → r ≡ begun ld n → foldSlots ld (dropped i ys) r ≡ total
-  begins i r l e = ap (λ (k : ℕ). foldSlots ld (dropped k ys) r) l ∙ ap (foldSlots ld ys) e
+  begins i r l e = ap (λ (k : ℕ). foldSlots ld (dropped k ys) r) l ∙ ap (λ (a : Seen). foldSlots ld ys a) e
 
   -- gives the whole's result
   abbrev Here : Type 0
@@ -219,7 +219,7 @@ module _ {M : Type 1} (𝓤 : URA M) (H : Heap 𝓤) (A : Atoms 𝓤) (W : Given
           (atReturn 𝓤 H En Post)) (atReturn 𝓤 H En Post)))
 
       abbrev next : (h : Here) (r : Seen) (u : Val) → h .0 < n → r ≡ seenOf ld (h .1) (getD ys (h .0) noSlot) → Here
-      next h r u l e = (h .0 + 1, r, u, foldSlots-turn ld ys (h .0) (h .1) r l e ∙ h .3)
+      next h r u l e = (h .0 + 1, r, u, fold-turn (seenOf ld) ys (h .0) (h .1) r l e ∙ h .3)
 
       turns : (h : Here) → Sq W (At h) (runs C Λ En body.turn-1 (anyQ (Turned h)))
       unfolding afterTurn
@@ -254,7 +254,7 @@ module _ {M : Type 1} (𝓤 : URA M) (H : Heap 𝓤) (A : Atoms 𝓤) (W : Given
           forget ! 9 refl $ forget ! 11 refl $ forget ! 13 refl $ move ! (13 ∷ 14 ∷ []) $ free1 ! $ move ! (11 ∷ 12 ∷
           []) $ free1 ! $ move ! (9 ∷ 10 ∷ []) $ free1 ! $ move ! (7 ∷ 8 ∷ []) $ free1 ! $ move ! (5 ∷ 6 ∷ []) $
           free1 ! $ move ! (3 ∷ 4 ∷ []) $ free1 ! $ move ! (1 ∷ 2 ∷ []) $ free1 ! $ free0 ! $ by ! (exits r u (e ∙ ap
-          (λ (seen : Seen). seen .found) (sym (foldSlots-end ld ys (h .0) (h .1) (nltb→le (h .0) n over)) ∙ h .3) ∙
+          (λ (seen : Seen). seen .found) (sym (fold-end (seenOf ld) ys (h .0) (h .1) (nltb→le (h .0) n over)) ∙ h .3) ∙
           fold-checks ld ys)))))))
 
       loop-on : {i : ℕ} (r : Seen) (u : Val) (l : i ≡ 0) (e : r ≡ begun ld n)

@@ -62,11 +62,11 @@ use Rattle.refusals.proofs.Checked.Laws as R′
 use Rattle.rules.specs.declared.Slot.{Slot}
 use Rattle.rules.specs.Slots.{noSlot, mostSlots}
 use Rattle.rules.proofs.Slot as T
+use Rattle.schedule.proofs.walks.FoldLaws.{fold-turn, fold-end}
 use Rattle.schedule.proofs.walks.SlotCalls.{slice, word, next-fits}
 use Rattle.schedule_file.specs.declared.write.Gathered.{Gathered}
 use Rattle.schedule_file.specs.inner.Gathered.{headed, gatheredOf, gathered}
 use Rattle.schedule_file.specs.Calls.{WriteSchedule}
-use Rattle.schedule_file.proofs.GatheredFold.{gathered-turn, gathered-end}
 use Rattle.schedule_file.proofs.GatheredLaws.{gathered-given}
 use Rattle.schedule_file.proofs.LoopCalls.{byteRef, Head as Begin, Flush, to-head, goes-head, said-head}
 use Rattle.schedule_file.proofs.write.Gathered as S
@@ -165,7 +165,7 @@ module _ {M : Type 1} (𝓤 : URA M) (H : Heap 𝓤) (A : Atoms 𝓤) (W : Given
 
   -- the loop begins at the first slot
   begins : (i : ℕ) (r : Gathered) → i ≡ 0 → r ≡ headed n → gathered (dropped i ys) r ≡ total
-  begins i r l e = ap (λ (k : ℕ). gathered (dropped k ys) r) l ∙ ap (gathered ys) e
+  begins i r l e = ap (λ (k : ℕ). gathered (dropped k ys) r) l ∙ ap (λ (a : Gathered). gathered ys a) e
 
   -- gives the whole's result
   abbrev Here : Type 0
@@ -207,7 +207,7 @@ module _ {M : Type 1} (𝓤 : URA M) (H : Heap 𝓤) (A : Atoms 𝓤) (W : Given
 
       abbrev next : (h : Here) (r : Gathered) (u : Val) → h .0 < n → r ≡ gatheredOf (h .1) (getD ys (h .0) noSlot) →
           Here
-      next h r u l e = (h .0 + 1, r, u, gathered-turn ys (h .0) (h .1) r l e ∙ h .3)
+      next h r u l e = (h .0 + 1, r, u, fold-turn gatheredOf ys (h .0) (h .1) r l e ∙ h .3)
 
       turns : (h : Here) → Sq W (At h) (runs C Λ En body.turn-1 (anyQ (Turned h)))
       unfolding afterTurn
@@ -252,8 +252,8 @@ module _ {M : Type 1} (𝓤 : URA M) (H : Heap 𝓤) (A : Atoms 𝓤) (W : Given
           ∷ 15 ∷ []) $ free1 ! $ move ! (12 ∷ 13 ∷ []) $ free1 ! $ move ! (10 ∷ 11 ∷ []) $ free1 ! $ move ! (8 ∷ 9 ∷
           []) $ free1 ! $ move ! (6 ∷ 7 ∷ []) $ free1 ! $ move ! (4 ∷ 5 ∷ []) $ free1 ! $ free0 ! $ keep ! (0 ∷ 1 ∷ 2
           ∷ 4 ∷ 5 ∷ []) $ by ! (exits r w (ws .1 .1 .0) (gathered-given ys (now y) r (ws .1 .1 .0) (subst (λ (a :
-          Gathered). Says a r (ws .1 .1 .0)) (sym (gathered-end ys (h .0) (h .1) (nltb→le (h .0) n over)) ∙ h .3) e))
-          l))))))))
+          Gathered). Says a r (ws .1 .1 .0)) (sym (fold-end gatheredOf ys (h .0) (h .1) (nltb→le (h .0) n over)) ∙ h
+          .3) e)) l))))))))
 
       loop-on : {i : ℕ} (r : Gathered) (u : Val) (l : i ≡ 0) (e : r ≡ headed n)
           → Sq W (At (i, r, u, begins i r l e)) (runs C Λ En body.t-4 (atRet En Post))
