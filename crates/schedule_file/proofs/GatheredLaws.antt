@@ -21,18 +21,20 @@ use Rattle.refusals.proofs.GivenLaws.{refused-alike}
 use Rattle.rules.specs.declared.Slot.{Slot}
 use Rattle.rules.specs.Slots.{mostSlots}
 use Rattle.schedule_file.specs.declared.write.Gathered.{Gathered}
-use Rattle.schedule_file.specs.ScheduleFile.{slotsFault, slotRecord, scheduleBytes}
-use Rattle.schedule_file.specs.inner.Gathered.{headBytes, headed, withSlot, gatheredOf, gathered}
+use Rattle.schedule_file.specs.ScheduleFile.{headerSize, slotSize, slotPlace, slotsFault, slotRecord}
+use Rattle.schedule_file.specs.ScheduleFile.{scheduleBytes}
+use Rattle.schedule_file.specs.inner.Gathered.{mostBytes, lastPlace, counts, headBytes, headed, withSlot}
+use Rattle.schedule_file.specs.inner.Gathered.{gatheredOf, gathered}
 use Rattle.schedule_file.specs.Calls.{WriteSchedule}
 
--- a file of 1,540 places with these bytes at its front
+-- a file with room for the longest, and these bytes at its front
 abbrev front : List ℕ → Gathered
-front bytes = record { at = length bytes; bytes = sets (replicate 1540 0) 0 bytes }
+front bytes = record { at = length bytes; bytes = sets (replicate mostBytes 0) 0 bytes }
 
-record-length : (slot : Slot) → length (slotRecord slot) ≡ 8
+record-length : (slot : Slot) → length (slotRecord slot) ≡ slotSize
 record-length slot = omega (arith, littleEndian-length 4 (slot .start))
 
-joinIn-length : (slots : List Slot) → length (joinIn slotRecord slots) ≡ 8 * length slots
+joinIn-length : (slots : List Slot) → length (joinIn slotRecord slots) ≡ slotSize * length slots
 unfolding joinIn
 joinIn-length [] = refl
 joinIn-length (slot ∷ rest) =
@@ -44,20 +46,20 @@ joinIn-length (slot ∷ rest) =
     )
 
 -- one record behind the bytes at the front
-front-next : (bytes : List ℕ) (slot : Slot) → length bytes ≤ 1532
+front-next : (bytes : List ℕ) (slot : Slot) → length bytes ≤ lastPlace
     → gatheredOf (front bytes) slot ≡ front (bytes ++ slotRecord slot)
 unfolding withSlot
 front-next bytes slot l =
-    let e : length bytes + 8 ≡ length (bytes ++ slotRecord slot) =
+    let e : length bytes + slotSize ≡ length (bytes ++ slotRecord slot) =
     omega (arith, length-append bytes (slotRecord slot), record-length slot) in
     rw (
-      le-ltb 1532 (length bytes) l,
+      le-ltb lastPlace (length bytes) l,
       e,
-      sets-behind (replicate 1540 0) 0 (length bytes) bytes (slotRecord slot) (omega arith),
+      sets-behind (replicate mostBytes 0) 0 (length bytes) bytes (slotRecord slot) (omega arith),
     )
 
 -- all of them
-front-all : (slots : List Slot) (bytes : List ℕ) → length bytes + 8 * length slots ≤ 1540
+front-all : (slots : List Slot) (bytes : List ℕ) → length bytes + slotSize * length slots ≤ mostBytes
     → gathered slots (front bytes) ≡ front (bytes ++ joinIn slotRecord slots)
 unfolding joinIn
 front-all [] bytes l = ap front (sym (append-nil bytes))
@@ -67,37 +69,58 @@ front-all (slot ∷ rest) bytes l =
     (omega (arith, length-append bytes (slotRecord slot), record-length slot))
     ∙ ap front (append-assoc bytes (slotRecord slot) (joinIn slotRecord rest)))
 
-head-length : (n : ℕ) → length (headBytes n) ≡ 4
-head-length n = omega (arith, littleEndian-length 2 (n % 65536))
+head-length : (n : ℕ) → length (headBytes n) ≡ headerSize
+head-length n = omega (arith, littleEndian-length 2 (n % counts))
+
+headed-front : (n : ℕ) → headed n ≡ front (headBytes n)
+unfolding headed
+headed-front n =
+    ap (λ at. record { at = at; bytes = sets (replicate mostBytes 0) 0 (headBytes n) }) (sym (head-length n))
+
+-- the bytes at the front are taken off it
+front-taken : (bytes : List ℕ) (k : ℕ) → length bytes ≡ k → k ≤ mostBytes → take k (front bytes .bytes) ≡ bytes
+front-taken bytes k e l =
+    ap (take k) (sets-front (replicate mostBytes 0) bytes (omega (arith, length-replicate {A = ℕ} mostBytes 0)))
+    ∙ take-at bytes (drop (length bytes) (replicate mostBytes 0)) k e
+
+-- the count of so few slots fits the header, and their file the room
+file-is : (slots : List Slot) → length slots ≤ mostSlots
+    → headBytes (length slots) ++ joinIn slotRecord slots ≡ scheduleBytes slots
+unfolding scheduleBytes
+file-is slots l =
+    let small : length slots % counts ≡ length slots = omega arith in
+    ap (λ (n : ℕ). (0x53 ∷ 0x43 ∷ littleEndian 2 n) ++ joinIn slotRecord slots) small
+
+file-length : (slots : List Slot)
+    → length (headBytes (length slots) ++ joinIn slotRecord slots) ≡ slotPlace (length slots)
+file-length slots =
+    omega (
+      arith,
+      length-append (headBytes (length slots)) (joinIn slotRecord slots),
+      head-length (length slots),
+      joinIn-length slots,
+    )
 
 gathered-bytes : (slots : List Slot) → length slots ≤ mostSlots
-    → take (4 + 8 * length slots) (gathered slots (headed (length slots)) .bytes) ≡ scheduleBytes slots
-unfolding headed scheduleBytes
+    → take (slotPlace (length slots)) (gathered slots (headed (length slots)) .bytes) ≡ scheduleBytes slots
 gathered-bytes slots l =
-    let n : ℕ = length slots in
-    let small : n % 65536 ≡ n = omega arith in
-    let file : List ℕ = headBytes n ++ joinIn slotRecord slots in
-    let sized : length file ≡ 4 + 8 * n =
-    omega (arith, length-append (headBytes n) (joinIn slotRecord slots), head-length n, joinIn-length slots) in
-    let whole : gathered slots (headed n) ≡ front file =
-    ap (gathered slots)
-    (ap (λ at. record { at = at; bytes = sets (replicate 1540 0) 0 (headBytes n) }) (sym (head-length n)))
-    ∙ front-all slots (headBytes n) (omega (arith, head-length n)) in
-    ap (λ (g : Gathered). take (4 + 8 * n) (g .bytes)) whole
-    ∙ (ap (take (4 + 8 * n))
-    (sets-front (replicate 1540 0) file (omega (arith, sized, length-replicate {A = ℕ} 1540 0)))
-    ∙ (take-at file (drop (length file) (replicate 1540 0)) (4 + 8 * n) sized
-    ∙ ap (λ m. (0x53 ∷ 0x43 ∷ littleEndian 2 m) ++ joinIn slotRecord slots) small))
+    let head : List ℕ = headBytes (length slots) in
+    let whole : gathered slots (headed (length slots)) ≡ front (head ++ joinIn slotRecord slots) =
+    ap (gathered slots) (headed-front (length slots))
+    ∙ front-all slots head (omega (arith, head-length (length slots))) in
+    ap (λ (file : Gathered). take (slotPlace (length slots)) (file .bytes)) whole
+    ∙ (front-taken (head ++ joinIn slotRecord slots) (slotPlace (length slots)) (file-length slots) (omega arith)
+    ∙ file-is slots l)
 
 pub gathered-given : (slots : List Slot) (out : List ℕ) (r : Checked) (after : List ℕ)
     → Given (firstMet ((ltb mostSlots (length slots), OutOfRange) ∷ []))
-    (take (4 + 8 * length slots) (gathered slots (headed (length slots)) .bytes)) out r after
+    (take (slotPlace (length slots)) (gathered slots (headed (length slots)) .bytes)) out r after
     → WriteSchedule slots out r after
 gathered-given slots out r after g =
     elim (decLt mostSlots (length slots)) [
       | yes l ↦
           refused-alike (slotsFault slots) OutOfRange
-          (take (4 + 8 * length slots) (gathered slots (headed (length slots)) .bytes)) (scheduleBytes slots)
+          (take (slotPlace (length slots)) (gathered slots (headed (length slots)) .bytes)) (scheduleBytes slots)
           out r after (rw (lt-ltb mostSlots (length slots) l)) g
       | no l ↦
           subst (λ answer. Given (firstMet ((ltb mostSlots (length slots), OutOfRange) ∷ [])) answer out r after)

@@ -12,13 +12,14 @@ use words::bytes32;
 use words::overwrite;
 ghost use mathlib.Core.Path.{_≡_};
 ghost use mathlib.Core.List.{[], _∷_};
-ghost use Prim.Native.Nat.{_+_, _*_, _<_, min};
+ghost use Prim.Native.Nat.{_<_, min};
 ghost use lib.Dec.{ltb};
 ghost use lib.ListN.{length, getD, take};
 ghost use Rattle.refusals.specs.declared.Refusal.the-variants.{OutOfRange};
 ghost use Rattle.refusals.specs.FirstMet.{firstMet};
 ghost use Rattle.refusals.specs.Given.{Given};
 ghost use Rattle.rules.specs.Slots.{noSlot, mostSlots, slotPlaces};
+ghost use Rattle.schedule_file.specs.ScheduleFile.{slotPlace};
 ghost use Rattle.schedule_file.specs.inner.Gathered.{headed, withSlot, gatheredOf};
 ghost use Rattle.schedule_file.specs.Calls.{WriteSchedule, WriteArray};
 
@@ -92,7 +93,7 @@ fn with_slot(file: Gathered, row: u8, step: u8, start: u32) -> Gathered
 // and bytes past the file stay.
 pub fn flush(n: usize, file: Gathered, out: &mut [u8]) -> Checked
     ensures { λ r. ⌜ Given (firstMet ((ltb mostSlots n, OutOfRange) ∷ []))
-        (take (4 + 8 * n) (file .bytes)) (now (out .entry)) r (now (out .exit)) ⌝ }
+        (take (slotPlace n) (file .bytes)) (now (out .entry)) r (now (out .exit)) ⌝ }
 {
     if MOST_SLOTS < n {
         return Checked::Refused(Refusal::OutOfRange);

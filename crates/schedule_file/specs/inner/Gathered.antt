@@ -1,6 +1,6 @@
 -- What the code of the writing call gathers, slot by slot. Nothing here is to be believed:
 -- write_schedule's own contract cites scheduleBytes.
-use Prim.Native.Nat.{ℕ, _+_, _%_}
+use Prim.Native.Nat.{ℕ, _+_, _-_, _%_}
 use mathlib.Core.Bool.{cond}
 use mathlib.Core.List.{List, _∷_, foldl}
 use lib.Dec.{ltb}
@@ -8,16 +8,29 @@ use lib.ListN.{replicate}
 use lib.Seq.{sets}
 use Rattle.words.specs.LittleEndian.{littleEndian}
 use Rattle.rules.specs.declared.Slot.{Slot}
+use Rattle.rules.specs.Slots.{mostSlots}
 use Rattle.schedule_file.specs.declared.write.Gathered.{Gathered}
-use Rattle.schedule_file.specs.ScheduleFile.{slotRecord}
+use Rattle.schedule_file.specs.ScheduleFile.{headerSize, slotSize, slotPlace, slotRecord}
+
+-- how many bytes the longest file has
+abbrev pub mostBytes : ℕ
+mostBytes = slotPlace mostSlots
+
+-- the last place at which the record of a slot fits
+abbrev pub lastPlace : ℕ
+lastPlace = mostBytes - slotSize
+
+-- how many numbers the header's count has room for
+abbrev pub counts : ℕ
+counts = 65536
 
 -- the head of the file of n slots
 abbrev pub headBytes : ℕ → List ℕ
-headBytes n = 0x53 ∷ 0x43 ∷ littleEndian 2 (n % 65536)
+headBytes n = 0x53 ∷ 0x43 ∷ littleEndian 2 (n % counts)
 
 -- no slot yet
 unfoldable pub headed : ℕ → Gathered
-headed n = record { at = 4; bytes = sets (replicate 1540 0) 0 (headBytes n) }
+headed n = record { at = headerSize; bytes = sets (replicate mostBytes 0) 0 (headBytes n) }
 
 -- the slot with these numbers
 abbrev pub slotOf : ℕ → ℕ → ℕ → Slot
@@ -26,9 +39,9 @@ slotOf row step start = record { row = row; step = step; start = start }
 -- a slot's record is added where it fits
 unfoldable pub withSlot : Gathered → ℕ → ℕ → ℕ → Gathered
 withSlot file row step start =
-    cond (ltb 1532 (file .at)) file
+    cond (ltb lastPlace (file .at)) file
     (record {
-      at = file .at + 8;
+      at = file .at + slotSize;
       bytes = sets (file .bytes) (file .at) (slotRecord (slotOf row step start));
     })
 

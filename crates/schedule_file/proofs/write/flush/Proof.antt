@@ -1,5 +1,4 @@
 -- `flush` asks the count, then the room, and then writes the first bytes of the file over the output's front.
-use Prim.Native.Nat.{_+_, _*_}
 use mathlib.Core.Path.{_≡_, refl, sym, _∙_}
 use native.Mathlib.Omega.{arith}
 use lib.ListN.{length, length-map, take}
@@ -7,18 +6,21 @@ use lib.Seq.{length-take-le}
 use borrow.Author.Needs.{needs}
 use borrow.Author.Tests.{lt-ltb, le-ltb}
 use Rattle.words.proofs.OverwriteLaws.{sets-front}
+use Rattle.schedule_file.specs.ScheduleFile.{slotPlace}
+use Rattle.schedule_file.specs.inner.Gathered.{mostBytes}
 use Rattle.schedule_file.proofs.write.flush.Statement.{statement}
 use Rattle.schedule_file.proofs.write.flush.Tie as tie
 
 many : tie.Need-returns
 many c = record { finding-is = rw (lt-ltb _ _ (c .if1 .taken)); output-is = refl }
 
--- the file that was gathered has 1,540 bytes, and so the bytes of n slots
-room : (c : tie.Start) → length (c .args .file .bytes) ≡ 1540
+-- the file that was gathered has the bytes of the longest, and so those of n slots
+room : (c : tie.Start) → length (c .args .file .bytes) ≡ mostBytes
 room c = simp length-map at (c .good .1 .0 .1 .1 .1 .0 .1 .0 .1)
 
 file-length : (c : tie.Else1)
-    → let args = c .before .before .args in length (take (4 + 8 * args .n) (args .file .bytes)) ≡ 4 + 8 * args .n
+    → let args = c .before .before .args in
+    length (take (slotPlace (args .n)) (args .file .bytes)) ≡ slotPlace (args .n)
 file-length c = length-take-le _ _ (omega (arith, room (c .before .before)))
 
 short : tie.Need-returns-2
@@ -45,7 +47,7 @@ written c =
       finding-is = rw (le-ltb _ _ (asked .before .if1 .left), e, le-ltb _ _ (asked .if2 .left));
       output-is =
           c .before .before .overwrite .ensures
-          ∙ sets-front _ (take (4 + 8 * args .n) (args .file .bytes)) (omega (arith, e, asked .if2 .left));
+          ∙ sets-front _ (take (slotPlace (args .n)) (args .file .bytes)) (omega (arith, e, asked .if2 .left));
     }
 
 pub flush-spec : {M : Type 1} → statement M

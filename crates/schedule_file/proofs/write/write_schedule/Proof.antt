@@ -2,7 +2,7 @@
 -- The loop's variant is the place with the file that the slots before it gave, its machine value, and that gathering
 -- the rest from there gives the whole's file, whose bytes are the schedule file's by `gathered-given`.
 use mathlib.Core.Path.{_≡_, refl, sym, _∙_, ap, subst}
-use Prim.Native.Nat.{ℕ, _+_, _-_, _*_, _<_}
+use Prim.Native.Nat.{ℕ, _+_, _-_, _<_}
 use native.Mathlib.Numerals.{add-one-dec}
 use native.Mathlib.Omega.{arith}
 use mathlib.Core.WellFounded.{WellFounded, InvImage·wf}
@@ -65,6 +65,7 @@ use Rattle.rules.proofs.Slot as T
 use Rattle.schedule.proofs.walks.FoldLaws.{fold-turn, fold-end}
 use Rattle.schedule.proofs.walks.SlotCalls.{slice, word, next-fits}
 use Rattle.schedule_file.specs.declared.write.Gathered.{Gathered}
+use Rattle.schedule_file.specs.ScheduleFile.{slotPlace}
 use Rattle.schedule_file.specs.inner.Gathered.{headed, gatheredOf, gathered}
 use Rattle.schedule_file.specs.Calls.{WriteSchedule}
 use Rattle.schedule_file.proofs.GatheredLaws.{gathered-given}
@@ -150,7 +151,7 @@ module _ {M : Type 1} (𝓤 : URA M) (H : Heap 𝓤) (A : Atoms 𝓤) (W : Given
       (refl, isX .0 .1 .0) $ fjoin ! $ nothing ! $ move ! (2 ∷ 0 ∷ []) $ join ! $ join ! $ frame ! $ done !
 
   abbrev Says : Gathered → Checked → List ℕ → Type 0
-  Says acc r zs = GivenBytes (firstMet ((ltb mostSlots n, OutOfRange) ∷ [])) (take (4 + 8 * n) (acc .bytes)) (now y)
+  Says acc r zs = GivenBytes (firstMet ((ltb mostSlots n, OutOfRange) ∷ [])) (take (slotPlace n) (acc .bytes)) (now y)
       r zs
 
   exits : (r : Checked) (w : Val) (zs : List ℕ) → WriteSchedule ys (now y) r zs → length zs ≡ length (now y) → ent 𝓤
