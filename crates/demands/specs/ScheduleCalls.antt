@@ -5,13 +5,14 @@ use mathlib.Core.List.{List}
 use Rattle.refusals.specs.declared.Checked.{Checked}
 use Rattle.load.specs.declared.Load.{Load}
 use Rattle.rules.specs.declared.Slot.{Slot}
-use Rattle.schedule.specs.Calls.{CheckSchedule, CheckArray}
+use Rattle.schedule.specs.Calls.{AtMostPlaces, CheckSchedule, CheckArray}
 use Rattle.schedule_file.specs.Calls.{WriteSchedule, WriteArray}
 use Rattle.demands.specs.FileCalls.{Wrote, Writes}
 
 -- what is claimed of the relation of each call on schedules, for all that it is given
 pub record EveryScheduleCall {ℓ} (Claim : (A : Type 0) → (A → Type 0) → Type ℓ) : Type ℓ where
   -- schedule
+  pub at-most-places : (n : ℕ) → Claim ℕ (AtMostPlaces n)
   pub check-schedule : (load : Load) (slots : List Slot) → Claim Checked (CheckSchedule load slots)
   pub check-array : (load : Load) (slots : List Slot) (n : ℕ)
       → Claim Checked (CheckArray load slots n)

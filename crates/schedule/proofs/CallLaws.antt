@@ -5,7 +5,10 @@ use mathlib.Core.Path.{_≡_, sym, _∙_}
 use Rattle.refusals.specs.declared.Checked.{Checked}
 use Rattle.load.specs.declared.Load.{Load}
 use Rattle.rules.specs.declared.Slot.{Slot}
-use Rattle.schedule.specs.Calls.{CheckSchedule, CheckArray}
+use Rattle.schedule.specs.Calls.{AtMostPlaces, CheckSchedule, CheckArray}
+
+pub AtMostPlaces-unique : (n r s : ℕ) → AtMostPlaces n r → AtMostPlaces n s → r ≡ s
+AtMostPlaces-unique n r s p q = p ∙ sym q
 
 pub CheckSchedule-unique : (load : Load) (slots : List Slot) (r s : Checked) → CheckSchedule load slots r
     → CheckSchedule load slots s → r ≡ s

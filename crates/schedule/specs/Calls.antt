@@ -13,6 +13,10 @@ use Rattle.rules.specs.Check.{checkSchedule}
 abbrev pub firstSlots : List Slot → ℕ → List Slot
 firstSlots slots n = take (min n slotPlaces) slots
 
+-- at_most_places(n): how many of the first n slots of an array there are
+abbrev pub AtMostPlaces : ℕ → ℕ → Type 0
+AtMostPlaces n r = r ≡ min n slotPlaces
+
 -- check_schedule(load, slots): the first of 3 to 7, then 12, then slot by slot 13 to 17, or Good
 abbrev pub CheckSchedule : Load → List Slot → Checked → Type 0
 CheckSchedule load slots r = r ≡ checkSchedule load slots

@@ -9,10 +9,10 @@ use load::steps_in;
 use refusals::Checked;
 use refusals::Refusal;
 ghost use mathlib.Core.Path.{_≡_};
-ghost use Prim.Native.Nat.{_-_, _≤_, min};
+ghost use Prim.Native.Nat.{_-_, _≤_};
 ghost use Rattle.schedule.specs.inner.Seen.{begun, counted};
 ghost use Rattle.schedule.specs.inner.SeenFold.{withFound};
-ghost use Rattle.rules.specs.Slots.{slotPlaces};
+ghost use Rattle.schedule.specs.Calls.{AtMostPlaces};
 
 // What the slots so far showed: what was found, when the last of them ends, how many each row has,
 // and when the slot of each step starts, eight places a row.
@@ -65,9 +65,9 @@ pub fn finish(seen: Seen) -> Checked
     found
 }
 
-// Gives n, or 256 where that is less.
+// Gives n, or 256 where that is less: of an array, no more slots than it has places count.
 pub fn at_most_places(n: usize) -> usize
-    ensures { λ r. ⌜ r ≡ min n slotPlaces ⌝ }
+    ensures { λ r. ⌜ AtMostPlaces n r ⌝ }
 {
     if n < SLOT_PLACES { n } else { SLOT_PLACES }
 }

@@ -7,18 +7,19 @@ use refusals::Refusal;
 use rules::SLOT_PLACES;
 use rules::Slot;
 use schedule::MOST_SLOTS;
+use schedule::at_most_places;
 use words::bytes16;
 use words::bytes32;
 use words::overwrite;
 ghost use mathlib.Core.Path.{_≡_};
 ghost use mathlib.Core.List.{[], _∷_};
-ghost use Prim.Native.Nat.{_<_, min};
+ghost use Prim.Native.Nat.{_<_};
 ghost use lib.Dec.{ltb};
 ghost use lib.ListN.{length, getD, take};
 ghost use Rattle.refusals.specs.declared.Refusal.the-variants.{OutOfRange};
 ghost use Rattle.refusals.specs.FirstMet.{firstMet};
 ghost use Rattle.refusals.specs.Given.{Given};
-ghost use Rattle.rules.specs.Slots.{noSlot, mostSlots, slotPlaces};
+ghost use Rattle.rules.specs.Slots.{noSlot, mostSlots};
 ghost use Rattle.schedule_file.specs.ScheduleFile.{slotPlace};
 ghost use Rattle.schedule_file.specs.inner.Gathered.{headed, withSlot, gatheredOf};
 ghost use Rattle.schedule_file.specs.Calls.{WriteSchedule, WriteArray};
@@ -129,13 +130,6 @@ pub fn write_schedule(slots: &[Slot], out: &mut [u8]) -> Checked
         i += 1;
     }
     flush(n, file, out)
-}
-
-// Gives n, or 256 where that is less.
-fn at_most_places(n: usize) -> usize
-    ensures { λ r. ⌜ r ≡ min n slotPlaces ⌝ }
-{
-    if n < SLOT_PLACES { n } else { SLOT_PLACES }
 }
 
 // Writes the schedule file of the first n slots of an array, at most 256, as write_schedule does

@@ -1,7 +1,7 @@
 -- The calls on schedules: each contract is its relation in ScheduleCalls, which a result meets, and one only.
 use mathlib.Core.Path.{refl}
 use Rattle.schedule.specs.Calls.{firstSlots}
-use Rattle.schedule.proofs.CallLaws.{CheckSchedule-unique, CheckArray-unique}
+use Rattle.schedule.proofs.CallLaws.{AtMostPlaces-unique, CheckSchedule-unique, CheckArray-unique}
 use Rattle.schedule_file.specs.ScheduleFile.{slotsFault, scheduleBytes}
 use Rattle.schedule_file.proofs.CallLaws.{WriteSchedule-unique, WriteArray-unique}
 use Rattle.demands.specs.ScheduleCalls.{EveryScheduleCall}
@@ -14,6 +14,7 @@ use Rattle.demands.proofs.calls.CallAnswers.{listed, both, is, given}
 abbrev pub schedule-relations : EveryScheduleCall Relation
 schedule-relations =
     record {
+      at-most-places = λ n. listed;
       check-schedule = λ load slots. listed;
       check-array = λ load slots n. listed;
       write-schedule = λ slots out. listed;
@@ -23,6 +24,7 @@ schedule-relations =
 pub schedule-contracts : ScheduleContracts schedule-relations
 schedule-contracts =
     record {
+      at-most-places = refl;
       check-schedule = refl;
       check-array = refl;
       write-schedule = refl;
@@ -32,6 +34,7 @@ schedule-contracts =
 pub schedule-same : EveryScheduleCall OneResult
 schedule-same =
     record {
+      at-most-places = AtMostPlaces-unique;
       check-schedule = CheckSchedule-unique;
       check-array = CheckArray-unique;
       write-schedule = λ slots out. both _ (WriteSchedule-unique slots out);
@@ -41,6 +44,7 @@ schedule-same =
 pub schedule-answers : EveryScheduleCall Answer
 schedule-answers =
     record {
+      at-most-places = λ n. is _;
       check-schedule = λ load slots. is _;
       check-array = λ load slots n. is _;
       write-schedule = λ slots out. given (slotsFault slots) (scheduleBytes slots) out;

@@ -7,6 +7,8 @@ use Rattle.demands.specs.JoinedContract.{Says, Relation, wrote}
 
 pub record ScheduleContracts (relation : EveryScheduleCall Relation) : Type 2 where
   -- schedule
+  pub at-most-places : Says schedule.at_most_places.ended (λ M. schedule.at_most_places.spec)
+      (λ κs a r s. relation .at-most-places (a .0) .meets r)
   pub check-schedule : Says schedule.check_schedule.ended (λ M. schedule.check_schedule.spec)
       (λ κs a r s. relation .check-schedule (a .0) (a .1 .0 .now) .meets r)
   pub check-array : Says schedule.check_array.ended (λ M. schedule.check_array.spec)

@@ -60,7 +60,15 @@ use Rattle.rules.proofs.Slot.Laws as T′
 use Rattle.schedule.proofs.walks.SlotCalls.{word}
 use Rattle.schedule.proofs.walks.SlotFields.{slotVals}
 use Rattle.schedule.proofs.walks.LentFront.{Slots, listVals, only, front-length, room, row, others, front-out}
-use Rattle.schedule.proofs.walks.LentFront.{front-in, cell-out, cell-in}
+use Rattle.schedule.proofs.walks.LentFront.{
+  front-in,
+  cell-out,
+  cell-in,
+  Counts,
+  to-counts,
+  goes-counts,
+  said-counts,
+}
 use Rattle.schedule.proofs.seen.at_most_places as counts
 use Rattle.schedule.proofs.seen.at_most_places.Symbol as counts-def
 use Rattle.schedule.proofs.seen.at_most_places.Symbol.{name as #schedule·at-most-places}
@@ -84,27 +92,6 @@ module _ {M : Type 1} (𝓤 : URA M) (H : Heap 𝓤) (A : Atoms 𝓤) (at-mem : 
   -- the contract that the proof cites
   abbrev Callee : Contract 𝓤
   Callee = tripleOf 𝓤 H A callee.signature (callee.spec 𝓤 H A at-mem run)
-
--- the call of `at_most_places`
-module _ {M : Type 1} (𝓤 : URA M) (H : Heap 𝓤) (A : Atoms 𝓤) (at-mem : Memory → SProp 𝓤) (run : Routine → Fun 𝓤) where
-  abbrev Counts : Contract 𝓤
-  Counts = tripleOf 𝓤 H A counts.signature (counts.spec 𝓤 H A at-mem run)
-
-module _ {M : Type 1} (𝓤 : URA M) (H : Heap 𝓤) (A : Atoms 𝓤) (W : Given 𝓤 H A) (at-mem : Memory → SProp 𝓤)
-    (run : Routine → Fun 𝓤) (n : ℕ) where
-  abbrev to-counts : Counts 𝓤 H A at-mem run .Ghost
-  to-counts = ((tt, tt, tt, (n, tt), (vint w64 n ∷ [], tt)), tt)
-
-  goes-counts : n < 2 ^ 64 → ent 𝓤 (emp 𝓤) (Counts 𝓤 H A at-mem run .pre to-counts)
-  goes-counts small = qed W [] ∵ nothing ! $ nothing ! $
-      owned ! usize (Is usize) (uint-makes 𝓤 H A W w64) n _ (refl, small) $
-      fjoin ! $ move ! (1 ∷ 0 ∷ []) $ join ! $ frame ! $ done !
-
-  said-counts : (r : ℕ)
-      → ent 𝓤 (ensured 𝓤 H A counts.ended (counts.clauses 𝓤 H A at-mem run) tt (n, tt) tt r)
-      (fact 𝓤 (r ≡ min n slotPlaces))
-  said-counts r =
-      exE 𝓤 _ (λ ws. snd∗ 𝓤 (sem 𝓤 H A (lasts counts.ended tt (n, tt) ws)) (fact 𝓤 (r ≡ min n slotPlaces)))
 
 -- the local that holds the slice
 abbrev slice : Ty
