@@ -15,10 +15,11 @@ use Rattle.refusals.proofs.GivenLaws.{ifGood-good}
 use Rattle.load.specs.declared.Load.{Load}
 use Rattle.load.specs.View.{viewOf}
 use Rattle.load.specs.Check.{checkLoad}
+use Rattle.load_records.specs.Writing.{loadBytes}
+use Rattle.load_records.specs.Calls.{WriteLoad}
 use Rattle.load_file.specs.declared.Reading.{Reading}
-use Rattle.load_file.specs.Writing.{loadBytes}
 use Rattle.load_file.specs.Reading.{readLoad}
-use Rattle.load_file.specs.Calls.{ReadLoad, WriteLoad}
+use Rattle.load_file.specs.Calls.{ReadLoad}
 use Rattle.load_file.specs.RoundTrip.{Held, accepted, WrittenLoad}
 use Rattle.load_file.proofs.round_trip.RoundTrip.{round-trip, write-read}
 use Rattle.rules.specs.Bound.{bound}

@@ -7,7 +7,7 @@ use Rattle.refusals.specs.Refusals.{numberOf}
 use Rattle.load.specs.Check.{checkLoad}
 use Rattle.load.specs.View.{viewOf}
 use Rattle.load.specs.Notation.{padded}
-use Rattle.load_file.specs.Writing.{loadBytes}
+use Rattle.load_records.specs.Writing.{loadBytes}
 use Rattle.load_file.specs.Reading.{readLoad}
 use Rattle.load_file.specs.RoundTrip.{accepted}
 use Rattle.rules.specs.Margins.{marginBytes}

@@ -14,9 +14,10 @@ use Rattle.refusals.specs.Given.{Given}
 use Rattle.load.specs.declared.Load.{Load}
 use Rattle.load.specs.View.{viewOf}
 use Rattle.load.specs.Calls.{CheckLoad}
+use Rattle.load_records.specs.Writing.{loadBytes}
+use Rattle.load_records.specs.Calls.{WriteLoad}
 use Rattle.load_file.specs.declared.Reading.{Reading}
-use Rattle.load_file.specs.Writing.{loadBytes}
-use Rattle.load_file.specs.Calls.{ReadLoad, WriteLoad}
+use Rattle.load_file.specs.Calls.{ReadLoad}
 use Rattle.load_file.specs.RoundTrip.{Held, accepted, RoundTrip}
 use Rattle.rules.specs.declared.Slot.{Slot}
 use Rattle.rules.specs.Bound.{bound}

@@ -4,8 +4,9 @@ use Prim.Native.Nat.{ℕ}
 use mathlib.Core.List.{List}
 use Rattle.refusals.specs.declared.Checked.{Checked}
 use Rattle.load.specs.declared.Load.{Load}
+use Rattle.load_records.specs.Calls.{WriteLoad}
 use Rattle.load_file.specs.declared.Reading.{Reading}
-use Rattle.load_file.specs.Calls.{ReadLoad, WriteLoad}
+use Rattle.load_file.specs.Calls.{ReadLoad}
 
 -- what a writing call gives, and what its output holds afterwards
 pub record Wrote (A : Type 0) : Type 0 where
@@ -18,7 +19,8 @@ Writes meets wrote = meets (wrote .gives) (wrote .after)
 
 -- what is claimed of the relation of each call on load files, for all that it is given
 pub record EveryFileCall {ℓ} (Claim : (A : Type 0) → (A → Type 0) → Type ℓ) : Type ℓ where
-  -- load_file
-  pub read-load : (bs : List ℕ) → Claim Reading (ReadLoad bs)
+  -- load_records
   pub write-load : (load : Load) (out : List ℕ)
       → Claim (Wrote Checked) (Writes (WriteLoad load out))
+  -- load_file
+  pub read-load : (bs : List ℕ) → Claim Reading (ReadLoad bs)

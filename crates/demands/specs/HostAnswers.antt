@@ -12,8 +12,8 @@ use Rattle.refusals.specs.declared.Checked.the-variants.{Good, Refused}
 use Rattle.refusals.specs.Refusals.{numberOf}
 use Rattle.refusals.specs.Given.{ifGood, Given}
 use Rattle.load.specs.View.{View, viewOf}
+use Rattle.load_records.specs.Records.{mostFileBytes}
 use Rattle.load_file.specs.declared.Reading.{Reading}
-use Rattle.load_file.specs.Records.{mostFileBytes}
 use Rattle.load_file.specs.Calls.{ReadLoad}
 use Rattle.rules.specs.Bound.{bound}
 use Rattle.rules.specs.Margins.{marginBytes, verdict}

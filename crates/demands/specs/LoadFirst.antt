@@ -9,7 +9,7 @@ use Rattle.refusals.specs.declared.Checked.{Checked}
 use Rattle.refusals.specs.declared.Checked.the-variants.{Refused}
 use Rattle.load.specs.declared.Load.{Load}
 use Rattle.load.specs.Calls.{CheckLoad}
-use Rattle.load_file.specs.Calls.{WriteLoad}
+use Rattle.load_records.specs.Calls.{WriteLoad}
 use Rattle.rules.specs.declared.Slot.{Slot}
 use Rattle.rules.specs.declared.Outcome.the-variants as outcome
 use Rattle.bound.specs.declared.Bounded.{Bounded}

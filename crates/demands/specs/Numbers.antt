@@ -11,8 +11,9 @@ use Rattle.refusals.specs.Refusals.{numberGiven}
 use Rattle.load.specs.declared.Row.{Row}
 use Rattle.load.specs.declared.Load.{Load}
 use Rattle.load.specs.Calls.{CheckLoad, CheckFields, CheckStep, CheckWindow}
+use Rattle.load_records.specs.Calls.{WriteLoad}
 use Rattle.load_file.specs.declared.Reading.{Reading}
-use Rattle.load_file.specs.Calls.{ReadLoad, WriteLoad}
+use Rattle.load_file.specs.Calls.{ReadLoad}
 use Rattle.rules.specs.declared.Slot.{Slot}
 use Rattle.rules.specs.Outcomes.{toldBy}
 use Rattle.bound.specs.declared.Bounded.{Bounded}

@@ -21,7 +21,7 @@ use Rattle.refusals.proofs.FirstMetLaws.{
 use Rattle.load.specs.declared.Row.{Row}
 use Rattle.load.specs.Load.{mostRows, mostSteps, mostWindows, rowAt}
 use Rattle.load.specs.Faults.{takenTests, stepTests, windowTests}
-use Rattle.load_file.specs.Records.{rowKind, stepKind, windowKind, mostRowBytes, mostFileBytes}
+use Rattle.load_records.specs.Records.{rowKind, stepKind, windowKind, mostRowBytes, mostFileBytes}
 use Rattle.load_file.specs.Places.{
   stepsSaid,
   windowsSaid,

@@ -17,7 +17,7 @@ use Rattle.load.specs.declared.Window.{Window}
 use Rattle.load.specs.declared.Row.{Row}
 use Rattle.load.specs.Load.{mostSteps, mostWindows, noStep, noWindow}
 use Rattle.load.specs.Faults.{rowTests}
-use Rattle.load_file.specs.Records.{Kind, mostRowBytes}
+use Rattle.load_records.specs.Records.{Kind, mostRowBytes}
 use Rattle.load_file.specs.Places.{
   stepIn,
   windowIn,

@@ -26,7 +26,7 @@ use Rattle.refusals.proofs.FirstMetLaws.{
 use Rattle.refusals.proofs.FirstFaultLaws.{firstMet-good}
 use Rattle.load.specs.Load.{mostRows}
 use Rattle.load.specs.View.{viewOf, stepsInAll}
-use Rattle.load_file.specs.Records.{headerKind, endKind, version, mostFileBytes}
+use Rattle.load_records.specs.Records.{headerKind, endKind, version, mostFileBytes}
 use Rattle.load_file.specs.Places.{stepsSaid, rowPlace, rowsSaid, loadIn}
 use Rattle.load_file.specs.Reading.{dueTests, headerTests, rowFaultIn, endTests, fileFault}
 use Rattle.load_file.proofs.faults.ReadingLaws.{stepsInAll-read}

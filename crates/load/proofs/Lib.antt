@@ -2,6 +2,7 @@
 pub mod TakenLaws
 pub mod RangeLaws
 pub mod AcceptableLaws
+pub mod CheckLaws
 pub mod AcceptableGood
 pub mod WindowChain
 pub mod ChainFits

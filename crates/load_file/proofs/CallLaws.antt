@@ -1,22 +1,18 @@
--- Any two results that meet a call's contract are equal, and so is what the output holds afterwards. Also: what a
--- reading finds, the load that it gives with Good, and that this load passes its check.
+-- Any two results that meet the call's contract are equal. Also: what a reading finds, the load that it gives with
+-- Good, and that this load passes its check.
 use Prim.Native.Nat.{ℕ}
 use mathlib.Core.List.{List}
 use mathlib.Core.Path.{_≡_, ap, sym, _∙_}
 use Rattle.words.specs.LittleEndian.{Bytes}
-use Rattle.refusals.specs.declared.Checked.{Checked}
 use Rattle.refusals.specs.declared.Checked.the-variants.{Good}
 use Rattle.refusals.proofs.GivenLaws.{ifGood-good}
-use Rattle.refusals.proofs.CallLaws.{Given-unique-finding, Given-unique-output}
-use Rattle.load.specs.declared.Load.{Load}
 use Rattle.load.specs.Load.{zeroLoad}
 use Rattle.load.specs.Check.{checkLoad}
+use Rattle.load.proofs.CheckLaws.{good-checkLoad}
 use Rattle.load_file.specs.declared.Reading.{Reading}
-use Rattle.load_file.specs.Writing.{loadBytes}
 use Rattle.load_file.specs.Places.{loadIn}
 use Rattle.load_file.specs.Reading.{fileFault, readLoad}
-use Rattle.load_file.specs.Calls.{ReadLoad, WriteLoad}
-use Rattle.load_file.proofs.faults.CheckLaws.{good-checkLoad}
+use Rattle.load_file.specs.Calls.{ReadLoad}
 use Rattle.load_file.proofs.faults.FaultLaws.{fileFault-good}
 use Rattle.load_file.proofs.round_trip.ReadFile.{read-good}
 
@@ -37,10 +33,3 @@ module _ (bs : List ℕ) (r : Reading) (e : ReadLoad bs r) where
   ReadLoad-accepted bytes good =
       let file = fileFault-good bs (sym ReadLoad-answer ∙ good) in
       ap checkLoad (ReadLoad-load good) ∙ good-checkLoad (loadIn bs) (read-good bs bytes file)
-
-pub WriteLoad-unique : (load : Load) (out : List ℕ) (r s : Checked) (after later : List ℕ)
-    → WriteLoad load out r after → WriteLoad load out s later → (r ≡ s) × (after ≡ later)
-WriteLoad-unique load out r s after later p q = (
-  Given-unique-finding (checkLoad load) (loadBytes load) out r s after later p q,
-  Given-unique-output (checkLoad load) (loadBytes load) out r s after later p q,
-)

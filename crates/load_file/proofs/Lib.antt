@@ -1,4 +1,4 @@
--- Laws of load files: what stands at a place, lengths, the two round trips, and worked cases.
+-- Laws of load files: what stands at a place, the two round trips, and worked cases.
 pub mod layout
 pub mod faults
 pub mod round_trip

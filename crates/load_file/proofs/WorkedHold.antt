@@ -8,7 +8,7 @@ use Rattle.refusals.specs.FirstMet.{firstFaultTo}
 use Rattle.load.specs.Load.{zeroRow, zeroLoad}
 use Rattle.load.specs.View.{viewOf, chain}
 use Rattle.load.specs.Faults.{rowTests, takenTests, stepTests, windowTests}
-use Rattle.load.specs.Check.{rowFault, checkLoad}
+use Rattle.load_records.specs.WorkedFile.{joined, file, spelled}
 use Rattle.load_file.specs.Places.{rowWith, rowFrom, rowPlace, loadIn}
 use Rattle.load_file.specs.Reading.{
   headerTests,
@@ -20,15 +20,13 @@ use Rattle.load_file.specs.Reading.{
   fileFault,
   readLoad,
 }
-use Rattle.load_file.specs.Writing.{rowBytes, loadBytes}
-use Rattle.load_file.specs.WorkedFile.{joined, numbersRead, file, spelled}
-use Rattle.load_file.specs.WorkedCases.{WorkedCases}
+use Rattle.load_file.specs.WorkedCases.{numbersRead, WorkedCases}
 
 -- to open this is to open all that its line names
 unfoldable computing : ℕ
 unfolding sumTo allTo anyTo joinTo joinIn littleEndian numberAt firstFaultTo zeroRow zeroLoad viewOf chain rowTests
-    takenTests stepTests windowTests rowFault checkLoad rowWith rowFrom rowPlace loadIn headerTests stepFaultIn
-    windowFaultIn ownFault rowFaultAt endTests fileFault readLoad rowBytes loadBytes joined numbersRead file spelled
+    takenTests stepTests windowTests rowWith rowFrom rowPlace loadIn headerTests stepFaultIn windowFaultIn ownFault
+    rowFaultAt endTests fileFault readLoad joined numbersRead file spelled
 computing = 0
 
 pub worked-hold : WorkedCases
@@ -36,9 +34,6 @@ unfolding computing
 worked-hold =
     record {
       read = refl;
-      written = record { finding-is = refl; output-is = refl };
-      room-more = record { finding-is = refl; output-is = refl };
-      room-less = record { finding-is = refl; output-is = refl };
       refused = refl;
       ends-early = refl;
       row-too-many = refl;

@@ -1,5 +1,4 @@
 -- What reading asks, part by part, beside what the check in memory asks.
-pub mod CheckLaws
 pub mod ZeroLaws
 pub mod FaultLaws
 pub mod ReadingLaws

@@ -3,4 +3,3 @@ pub mod RecordLaws
 pub mod FieldLaws
 pub mod PlaceLaws
 pub mod ByteLaws
-pub mod WritingLaws

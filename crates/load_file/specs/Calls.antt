@@ -1,21 +1,11 @@
--- What each public call's contract says: one relation a call, over what it takes, what it gives,
--- and what the lent bytes hold afterwards. To be read after Writing and Reading.
+-- What the public call's contract says: a relation over what it takes and what it gives. To be read
+-- after Reading.
 use Prim.Native.Nat.{ℕ}
 use mathlib.Core.List.{List}
 use mathlib.Core.Path.{_≡_}
-use Rattle.refusals.specs.declared.Checked.{Checked}
-use Rattle.refusals.specs.Given.{Given}
-use Rattle.load.specs.declared.Load.{Load}
-use Rattle.load.specs.Check.{checkLoad}
 use Rattle.load_file.specs.declared.Reading.{Reading}
-use Rattle.load_file.specs.Writing.{loadBytes}
 use Rattle.load_file.specs.Reading.{readLoad}
 
 -- read_load(bytes): 1 to 8 with the all-zero load, or Good with the load that the bytes spell
 abbrev pub ReadLoad : List ℕ → Reading → Type 0
 ReadLoad bs r = r ≡ readLoad bs
-
--- write_load(load, out): 3 to 7, then 9, and the output as it was; or Good, and the file at the
--- output's front
-abbrev pub WriteLoad : Load → List ℕ → Checked → List ℕ → Type 0
-WriteLoad load out r after = Given (checkLoad load) (loadBytes load) out r after

@@ -9,7 +9,7 @@ use Rattle.load.specs.declared.Window.{Window}
 use Rattle.load.specs.declared.Row.{Row}
 use Rattle.load.specs.declared.Load.{Load}
 use Rattle.load.specs.Load.{mostRows, mostSteps, mostWindows, noStep, noWindow, zeroRow}
-use Rattle.load_file.specs.Records.{headerKind, rowKind, stepKind, windowKind}
+use Rattle.load_records.specs.Records.{headerKind, rowKind, stepKind, windowKind}
 
 -- the step that the record at a place spells
 abbrev pub stepIn : List ℕ → ℕ → Step

@@ -16,8 +16,7 @@ use Rattle.refusals.specs.Given.{ifGood}
 use Rattle.load.specs.Load.{mostRows, zeroLoad}
 use Rattle.load.specs.View.{viewOf, stepsInAll}
 use Rattle.load.specs.Faults.{rowTests, takenTests, stepTests, windowTests}
-use Rattle.load_file.specs.declared.Reading.{Reading}
-use Rattle.load_file.specs.Records.{
+use Rattle.load_records.specs.Records.{
   Kind,
   headerKind,
   rowKind,
@@ -26,6 +25,7 @@ use Rattle.load_file.specs.Records.{
   endKind,
   version,
 }
+use Rattle.load_file.specs.declared.Reading.{Reading}
 use Rattle.load_file.specs.Places.{
   stepsSaid,
   windowsSaid,

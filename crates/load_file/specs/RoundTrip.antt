@@ -12,8 +12,8 @@ use Rattle.load.specs.declared.Row.{Row}
 use Rattle.load.specs.declared.Load.{Load}
 use Rattle.load.specs.Load.{mostRows, mostSteps, mostWindows, rowAt, stepAt, windowAt}
 use Rattle.load.specs.Check.{checkLoad}
+use Rattle.load_records.specs.Writing.{loadBytes}
 use Rattle.load_file.specs.declared.Reading.{Reading}
-use Rattle.load_file.specs.Writing.{loadBytes}
 use Rattle.load_file.specs.Reading.{readLoad}
 
 -- a step as it is held in memory: what its type alone says

@@ -1,16 +1,16 @@
--- "Numbers given back", 1 to 8, worked: what reading and writing small files gives. The answers are
--- the document's, taken by hand; those of reading were asked of the second program too. To be read
--- after WorkedFile. Rests on D1, D6 to D8, D25 and D29.
-use mathlib.Core.List.{[], _∷_, _++_}
+-- "Numbers given back", 1 to 8, worked: what reading small files gives. The answers are the
+-- document's, taken by hand, and were asked of the second program too. To be read after Calls, and
+-- after load_records' WorkedFile. Rests on D1, D6 to D8, D25 and D29.
+use Prim.Native.Nat.{ℕ}
+use mathlib.Core.List.{List, [], _∷_, _++_, map}
 use mathlib.Core.Path.{_≡_}
 use lib.ListN.{replicate, take, drop}
-use Rattle.refusals.specs.declared.Refusal.the-variants.{EndDiffers, OutputShort}
+use Rattle.refusals.specs.declared.Refusal.the-variants.{EndDiffers}
 use Rattle.refusals.specs.declared.Checked.the-variants.{Good, Refused}
+use Rattle.refusals.specs.Refusals.{numberGiven}
 use Rattle.load.specs.Load.{zeroLoad}
-use Rattle.load_file.specs.Calls.{ReadLoad, WriteLoad}
-use Rattle.load_file.specs.WorkedFile.{
+use Rattle.load_records.specs.WorkedFile.{
   joined,
-  numbersRead,
   header,
   row,
   steps,
@@ -19,17 +19,17 @@ use Rattle.load_file.specs.WorkedFile.{
   file,
   spelled,
 }
+use Rattle.load_file.specs.Reading.{readLoad}
+use Rattle.load_file.specs.Calls.{ReadLoad}
+
+-- the numbers that files are refused with, and 0 for one that is accepted
+unfoldable pub numbersRead : List (List (List ℕ)) → List ℕ
+numbersRead files = map (λ parts. numberGiven (readLoad (joined parts) .answer)) files
 
 -- files, by their numbers and by the load that is read
 pub record WorkedCases : Type 0 where
   -- a file of one row is read as its load
   pub read : ReadLoad (joined file) (record { answer = Good; load = spelled })
-  -- that load is written as its file, into a room of exactly its 46 bytes
-  pub written : WriteLoad spelled (replicate 46 7) Good (joined file)
-  -- into a room of one byte more, which stays
-  pub room-more : WriteLoad spelled (replicate 47 7) Good (joined file ++ 7 ∷ [])
-  -- and into one of a byte less it is not written
-  pub room-less : WriteLoad spelled (replicate 45 7) (Refused OutputShort) (replicate 45 7)
   -- a refused file gives the load of zeros
   pub refused :
       ReadLoad (joined file ++ 0 ∷ []) (record { answer = Refused EndDiffers; load = zeroLoad })

@@ -1,8 +1,5 @@
 // The parts of a load file, as they are read: whether a record that is due stands at a place, and
 // what it spells. A byte past the end reads as 0.
-use crate::records::ROW_SIZE;
-use crate::records::STEP_SIZE;
-use crate::records::WINDOW_SIZE;
 use load::BoxNumber;
 use load::Identifier;
 use load::MOST_STEPS;
@@ -10,6 +7,9 @@ use load::MOST_WINDOWS;
 use load::Row;
 use load::Step;
 use load::Window;
+use load_records::ROW_SIZE;
+use load_records::STEP_SIZE;
+use load_records::WINDOW_SIZE;
 use refusals::Checked;
 use refusals::Refusal;
 use words::byte_at;

@@ -5,7 +5,7 @@ use libc::STDIN_FILENO;
 use libc::STDOUT_FILENO;
 use lines::Text;
 use lines::text_of;
-use load_file::MOST_FILE_BYTES;
+use load_records::MOST_FILE_BYTES;
 ghost use Prim.Native.Nat.{_≤_};
 ghost use lib.ListN.{length};
 ghost use Rattle.report.specs.Program.{Answer};

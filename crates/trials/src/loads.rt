@@ -10,7 +10,7 @@ use crate::rooms::Room;
 use crate::rooms::answered;
 use load::Load;
 use load::row_at;
-use load_file::write_load;
+use load_records::write_load;
 
 // Gives how many bytes the file of a load has, where the load has one: a header and an end of four
 // bytes, and for each row its record of 20 bytes and one of six for each step and window.

@@ -1,12 +1,14 @@
 -- The contract of each call on load files is its relation in FileCalls, at the call's own parameters,
 -- and asks nothing. This is a statement, a part of Joined.
+use Rattle.load_records.proofs as load_records
 use Rattle.load_file.proofs as load_file
 use Rattle.demands.specs.FileCalls.{EveryFileCall}
 use Rattle.demands.specs.JoinedContract.{Says, Relation, wrote}
 
 pub record FileContracts (relation : EveryFileCall Relation) : Type 2 where
+  -- load_records
+  pub write-load : Says load_records.write_load.ended (λ M. load_records.write_load.spec)
+      (λ κs a r s. relation .write-load (a .0) (a .1 .0 .now) .meets (wrote r (s .1 .0 .now)))
   -- load_file
   pub read-load : Says load_file.read_load.ended (λ M. load_file.read_load.spec)
       (λ κs a r s. relation .read-load (a .0 .now) .meets r)
-  pub write-load : Says load_file.write_load.ended (λ M. load_file.write_load.spec)
-      (λ κs a r s. relation .write-load (a .0) (a .1 .0 .now) .meets (wrote r (s .1 .0 .now)))

@@ -30,7 +30,7 @@ use Rattle.load.specs.Check.{
   rowFault,
   checkLoad,
 }
-use Rattle.load_file.specs.Records.{rowKind, stepKind, windowKind}
+use Rattle.load_records.specs.Records.{rowKind, stepKind, windowKind}
 use Rattle.load_file.specs.Places.{
   stepsSaid,
   windowsSaid,

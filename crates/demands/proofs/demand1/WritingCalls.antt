@@ -17,10 +17,10 @@ use Rattle.refusals.proofs.GivenLaws.{ifGood-refused}
 use Rattle.load.specs.declared.Load.{Load}
 use Rattle.load.specs.View.{View, viewOf}
 use Rattle.load.specs.Check.{checkLoad}
-use Rattle.load_file.specs.Writing.{loadBytes}
+use Rattle.load_records.specs.Writing.{loadBytes}
+use Rattle.load_records.specs.Calls.{WriteLoad}
 use Rattle.load_file.specs.Places.{loadIn}
 use Rattle.load_file.specs.Reading.{fileFault, readLoad}
-use Rattle.load_file.specs.Calls.{WriteLoad}
 use Rattle.rules.specs.declared.Slot.{Slot}
 use Rattle.rules.specs.Slots.{mostSlots}
 use Rattle.schedule_file.specs.ScheduleFile.{slotsFault, scheduleBytes}

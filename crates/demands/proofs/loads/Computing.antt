@@ -4,7 +4,7 @@ use Prim.Native.Nat.{ℕ}
 use Rattle.words.specs.LittleEndian.{numberAt}
 use Rattle.words.specs.Decimal.{text, decimalTo}
 use Rattle.load.specs.Load.{zeroLoad}
-use Rattle.load_file.specs.Writing.{rowBytes, loadBytes}
+use Rattle.load_records.specs.Writing.{rowBytes, loadBytes}
 use Rattle.load_file.specs.Places.{rowWith, rowFrom, rowPlace, loadIn}
 use Rattle.load_file.specs.Reading.{
   headerTests,

@@ -20,7 +20,7 @@ use Rattle.load.specs.Load.{mostRows}
 use Rattle.load.specs.View.{viewOf, stepsInAll}
 use Rattle.load.specs.Faults.{rowTests, takenTests, stepTests, windowTests}
 use Rattle.load.specs.Check.{checkFields, checkTaken, checkStep, checkWindow}
-use Rattle.load_file.specs.Records.{headerKind, rowKind, stepKind, windowKind, endKind, version}
+use Rattle.load_records.specs.Records.{headerKind, rowKind, stepKind, windowKind, endKind, version}
 use Rattle.load_file.specs.Places.{
   stepsSaid,
   windowsSaid,

@@ -28,11 +28,11 @@ use Rattle.load.specs.declared.Window.{Window}
 use Rattle.load.specs.Load.{mostRows, mostSteps, mostWindows, noRow, zeroRow, rowAt}
 use Rattle.load.specs.View.{viewOf, stepsInAll}
 use Rattle.load.specs.Faults.{rowTests, takenTests, identifierTaken, boxTaken}
-use Rattle.load_file.specs.Records.{rowKind}
+use Rattle.load.proofs.CheckLaws.{fields-steps-le, fields-windows-le}
+use Rattle.load_records.specs.Records.{rowKind}
 use Rattle.load_file.specs.Places.{stepsSaid, windowsSaid, rowFrom, rowPlace, rowsSaid, loadIn, rowWith}
 use Rattle.load_file.specs.Reading.{dueTests, rowFaultAt, ownFault, stepsFault, windowsFault}
 use Rattle.load_file.specs.inner.ReadingSteps.{RowsBefore, readRow}
-use Rattle.load_file.proofs.faults.CheckLaws.{fields-steps-le, fields-windows-le}
 
 -- tests, of which the first is found, and the tests behind them
 module _ (ts us : List (Bool × Refusal)) {c : Checked} (found : c ≡ firstMet ts) where

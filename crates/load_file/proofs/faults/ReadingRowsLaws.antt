@@ -28,8 +28,8 @@ use Rattle.load.specs.declared.BoxNumber.{BoxNumber}
 use Rattle.load.specs.declared.Row.{Row}
 use Rattle.load.specs.Load.{mostRows, mostSteps, mostWindows, zeroRow, zeroLoad}
 use Rattle.load.specs.View.{viewOf, stepsInAll}
+use Rattle.load_records.specs.Records.{mostRowBytes}
 use Rattle.load_file.specs.declared.read_row.RowReading.{RowReading}
-use Rattle.load_file.specs.Records.{mostRowBytes}
 use Rattle.load_file.specs.Places.{
   stepsSaid,
   windowsSaid,

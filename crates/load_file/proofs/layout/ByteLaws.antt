@@ -13,16 +13,16 @@ use Rattle.load.specs.declared.Row.{Row}
 use Rattle.load.specs.declared.Load.{Load}
 use Rattle.load.specs.Load.{mostWindows, rowAt, stepAt, windowAt}
 use Rattle.load.specs.View.{viewOf, stepsInAll}
-use Rattle.load_file.specs.Records.{
+use Rattle.load.proofs.CheckLaws.{LoadGood, fields-windows-le}
+use Rattle.load_records.specs.Records.{
   headerRecord,
   rowRecord,
   stepRecord,
   windowRecord,
   endRecord,
 }
-use Rattle.load_file.specs.Writing.{rowBytes, loadBytes}
+use Rattle.load_records.specs.Writing.{rowBytes, loadBytes}
 use Rattle.load_file.specs.RoundTrip.{HeldRow, Held}
-use Rattle.load_file.proofs.faults.CheckLaws.{LoadGood, fields-windows-le}
 
 -- a piece of bytes
 record Piece (bs : List ℕ) : Type 0 where

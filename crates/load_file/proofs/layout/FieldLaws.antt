@@ -11,7 +11,7 @@ use Rattle.words.proofs.LittleEndianLaws.{littleEndian-length}
 use Rattle.load.specs.declared.Step.{Step}
 use Rattle.load.specs.declared.Window.{Window}
 use Rattle.load.specs.declared.Row.{Row}
-use Rattle.load_file.specs.Records.{
+use Rattle.load_records.specs.Records.{
   headerKind,
   rowKind,
   stepKind,
@@ -37,18 +37,6 @@ use Rattle.load_file.proofs.layout.RecordLaws.{
   record-fields,
   record-stands,
 }
-
-pub rowRecord-length : (row : Row) → length (rowRecord row) ≡ rowKind .size
-rowRecord-length row = simp (length-append, littleEndian-length)
-
-pub stepRecord-length : (s : Step) → length (stepRecord s) ≡ stepKind .size
-stepRecord-length s = simp (length-append, littleEndian-length)
-
-pub windowRecord-length : (w : Window) → length (windowRecord w) ≡ windowKind .size
-windowRecord-length w = simp littleEndian-length
-
-pub endRecord-length : (n : ℕ) → length (endRecord n) ≡ endKind .size
-endRecord-length n = simp littleEndian-length
 
 module _ (bs : List ℕ) (at : ℕ) where
   -- a step

@@ -1,14 +1,11 @@
--- Where the parts of a row and of a file stand, and how long they are: a row's bytes stand at a place exactly when
+-- Where the parts of a row and of a file stand: a row's bytes stand at a place exactly when
 -- its own record, its steps and its windows stand at theirs.
-use Prim.Native.Nat.{ℕ, suc, _+_, _*_, _≤_, _<_}
+use Prim.Native.Nat.{ℕ, suc, _+_, _*_, _<_}
 use mathlib.Core.List.{List, _++_}
 use mathlib.Core.Path.{_≡_, refl, ap, sym, _∙_}
 use native.Mathlib.Omega.{arith}
 use lib.ListN.{length, length-append}
-use Rattle.counting.specs.Sums.{sumTo}
 use Rattle.counting.specs.Lists.{joinTo}
-use Rattle.counting.proofs.sums.SumLaws.{sumTo-ext, sumTo-le}
-use Rattle.counting.proofs.lists.ListLaws.{joinTo-length, joinTo-length-same}
 use Rattle.counting.proofs.lists.PieceLaws.{
   Stands,
   append-stands,
@@ -24,55 +21,26 @@ use Rattle.load.specs.declared.Row.{Row}
 use Rattle.load.specs.declared.Load.{Load}
 use Rattle.load.specs.Load.{rowAt, stepAt, windowAt}
 use Rattle.load.specs.View.{viewOf, stepsInAll}
-use Rattle.load_file.specs.Records.{
-  mostRowBytes,
-  mostFileBytes,
+use Rattle.load_records.specs.Records.{
   headerRecord,
   rowRecord,
   stepRecord,
   windowRecord,
   endRecord,
 }
-use Rattle.load_file.specs.Writing.{rowBytes, loadBytes}
-use Rattle.load_file.specs.Places.{stepPlace, stepsSaid, windowsSaid, placeBehind, rowPlace}
-use Rattle.load_file.proofs.layout.FieldLaws.{
+use Rattle.load_records.specs.Writing.{rowBytes, loadBytes}
+use Rattle.load_records.proofs.LengthLaws.{
   rowRecord-length,
   stepRecord-length,
   windowRecord-length,
   endRecord-length,
+  stepsBytes,
+  windowsBytes,
+  rowBytes-parts,
+  front-length,
+  rowBytes-length,
 }
-
--- the bytes of a row with so many steps and windows
-abbrev pub rowSize : Row → ℕ
-rowSize row = 20 + 6 * row .steps + 6 * row .windows
-
-stepsBytes : Row → List ℕ
-stepsBytes row = joinTo (λ j. stepRecord (stepAt row j)) (row .steps)
-
-windowsBytes : Row → List ℕ
-windowsBytes row = joinTo (λ k. windowRecord (windowAt row k)) (row .windows)
-
-stepsBytes-length : (row : Row) → length (stepsBytes row) ≡ row .steps * 6
-unfolding stepsBytes
-stepsBytes-length row = joinTo-length-same _ 6 (row .steps) (λ j. stepRecord-length (stepAt row j))
-
-windowsBytes-length : (row : Row) → length (windowsBytes row) ≡ row .windows * 6
-unfolding windowsBytes
-windowsBytes-length row = joinTo-length-same _ 6 (row .windows) (λ k. windowRecord-length (windowAt row k))
-
-rowBytes-parts : (row : Row) → rowBytes row ≡ rowRecord row ++ stepsBytes row ++ windowsBytes row
-unfolding rowBytes stepsBytes windowsBytes
-rowBytes-parts row = refl
-
-front-length : (row : Row) → length (rowRecord row ++ stepsBytes row) ≡ 20 + row .steps * 6
-front-length row =
-    omega (arith, length-append (rowRecord row) (stepsBytes row), rowRecord-length row, stepsBytes-length row)
-
-pub rowBytes-length : (row : Row) → length (rowBytes row) ≡ rowSize row
-rowBytes-length row =
-    let front : List ℕ = rowRecord row ++ stepsBytes row in
-    ap length (rowBytes-parts row)
-    ∙ omega (arith, length-append front (windowsBytes row), front-length row, windowsBytes-length row)
+use Rattle.load_file.specs.Places.{stepPlace, stepsSaid, windowsSaid, placeBehind, rowPlace}
 
 module _ (bs : List ℕ) (at : ℕ) (row : Row) where
   -- where a window record stands, behind the row's steps
@@ -130,25 +98,6 @@ module _ (bs : List ℕ) (at : ℕ) (row : Row) where
       (r .each-step)))
       (joined-stands (λ k. windowRecord (windowAt row k)) behindSteps bs (row .windows) (λ k l. window-behind k)
       (r .each-window)))
-
--- the file of a load: its length, to the byte
-pub loadBytes-length : (load : Load)
-    → length (loadBytes load) ≡ 8 + sumTo (λ i. rowSize (rowAt load i)) (load .rows)
-unfolding loadBytes
-loadBytes-length load =
-    simp (length-append, endRecord-length, joinTo-length)
-    (omega (arith, sumTo-ext _ _ (load .rows) (λ i l. rowBytes-length (rowAt load i))))
-
--- a load whose check refuses nothing has at most 24 rows of at most 8 steps and 4 windows
-pub loadBytes-length-le : (load : Load) → load .rows ≤ 24
-    → ((i : ℕ) → i < load .rows → (rowAt load i .steps ≤ 8) × (rowAt load i .windows ≤ 4))
-    → length (loadBytes load) ≤ mostFileBytes
-loadBytes-length-le load few small =
-    let row-le : (i : ℕ) → i < load .rows → rowSize (rowAt load i) ≤ mostRowBytes =
-    λ i l. omega (arith, small i l .0, small i l .1) in
-    let sum-le : sumTo (λ i. rowSize (rowAt load i)) (load .rows) ≤ load .rows * mostRowBytes =
-    sumTo-le (λ i. rowSize (rowAt load i)) (load .rows) mostRowBytes row-le in
-    omega (arith, loadBytes-length load)
 
 -- the next row stands behind a row's bytes, where the counts that are read are the row's
 pub row-behind : (bs : List ℕ) (at : ℕ) (row : Row) → stepsSaid bs at ≡ row .steps → windowsSaid bs at ≡ row .windows

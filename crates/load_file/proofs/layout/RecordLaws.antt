@@ -24,7 +24,7 @@ use Rattle.words.proofs.LittleEndianLaws.{littleEndian-length, littleEndian-rea
 use Rattle.refusals.specs.declared.Checked.the-variants.{Good}
 use Rattle.refusals.specs.FirstMet.{firstMet}
 use Rattle.refusals.proofs.FirstFaultLaws.{firstMet-good}
-use Rattle.load_file.specs.Records.{Kind, recordOf}
+use Rattle.load_records.specs.Records.{Kind, recordOf}
 use Rattle.load_file.specs.Reading.{dueTests}
 
 -- a number of so many bytes

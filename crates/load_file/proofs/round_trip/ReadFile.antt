@@ -24,7 +24,8 @@ use Rattle.load.specs.Load.{
   windowAt,
 }
 use Rattle.load.specs.Check.{isZeroRow}
-use Rattle.load_file.specs.Writing.{rowBytes, loadBytes}
+use Rattle.load.proofs.CheckLaws.{RowGood, LoadGood, fields-steps-le, fields-windows-le}
+use Rattle.load_records.specs.Writing.{rowBytes, loadBytes}
 use Rattle.load_file.specs.Places.{
   stepIn,
   windowIn,
@@ -48,7 +49,6 @@ use Rattle.load_file.proofs.layout.FieldLaws.{
   header-stands,
 }
 use Rattle.load_file.proofs.layout.PlaceLaws.{parts-row, row-behind, parts-file}
-use Rattle.load_file.proofs.faults.CheckLaws.{RowGood, LoadGood, fields-steps-le, fields-windows-le}
 use Rattle.load_file.proofs.faults.ZeroLaws.{
   unused-steps,
   unused-windows,

@@ -1,27 +1,17 @@
 -- Demand 2 for load files: the witness of the round trip, and what follows from it. An accepted file reads to one
--- load, which is written back to the same bytes; a written load reads back as itself; and a file has at most
--- `mostFileBytes` bytes.
-use Prim.Native.Nat.{ℕ, _≤_}
+-- load, which is written back to the same bytes; a written load reads back as itself.
+use Prim.Native.Nat.{ℕ}
 use mathlib.Core.List.{List}
 use mathlib.Core.Path.{_≡_, refl, ap, sym, _∙_}
-use lib.ListN.{length}
 use Rattle.words.specs.LittleEndian.{Bytes}
 use Rattle.refusals.specs.declared.Checked.the-variants.{Good}
 use Rattle.load.specs.declared.Load.{Load}
-use Rattle.load.specs.Load.{rowAt}
 use Rattle.load.specs.Check.{checkLoad}
-use Rattle.load_file.specs.Records.{mostFileBytes}
-use Rattle.load_file.specs.Writing.{loadBytes}
+use Rattle.load.proofs.CheckLaws.{checkLoad-good, good-checkLoad}
+use Rattle.load_records.specs.Writing.{loadBytes}
 use Rattle.load_file.specs.Places.{loadIn}
 use Rattle.load_file.specs.Reading.{fileFault, readLoad}
 use Rattle.load_file.specs.RoundTrip.{Held, accepted, AcceptedFile, WrittenLoad, RoundTrip}
-use Rattle.load_file.proofs.layout.PlaceLaws.{loadBytes-length-le}
-use Rattle.load_file.proofs.faults.CheckLaws.{
-  checkLoad-good,
-  good-checkLoad,
-  fields-steps-le,
-  fields-windows-le,
-}
 use Rattle.load_file.proofs.faults.FaultLaws.{fileFault-good, good-fileFault}
 use Rattle.load_file.proofs.layout.ByteLaws.{loadBytes-bytes}
 use Rattle.load_file.proofs.round_trip.WrittenFile.{written-load, written-accepted}
@@ -87,13 +77,3 @@ read-write bs load b h = sym (round-trip .read-write bs load (record { bytes = b
 pub write-read : (load : Load) → Held load → checkLoad load ≡ Good → readLoad (loadBytes load) ≡ accepted load
 write-read load held good =
     round-trip .write-read (loadBytes load) load (record { held = held; good = good; file = refl }) .reads
-
--- the longest file: 24 rows of 8 steps and 4 windows
-pub loadBytes-le : (load : Load) → checkLoad load ≡ Good → length (loadBytes load) ≤ mostFileBytes
-loadBytes-le load h =
-    let g = checkLoad-good load h in
-    loadBytes-length-le load (g .few-rows)
-    (λ i l. (
-      fields-steps-le (rowAt load i) (g .each-row-good i l .fields-good),
-      fields-windows-le (rowAt load i) (g .each-row-good i l .fields-good),
-    ))

@@ -24,8 +24,9 @@ use Rattle.load.specs.Load.{
 }
 use Rattle.load.specs.View.{viewOf, stepsInAll}
 use Rattle.load.specs.Check.{isZeroRow, checkFields, checkTaken, checkStep, checkWindow}
-use Rattle.load_file.specs.Records.{windowRecord}
-use Rattle.load_file.specs.Writing.{rowBytes, loadBytes}
+use Rattle.load.proofs.CheckLaws.{RowGood, LoadGood, fields-steps-le, fields-windows-le}
+use Rattle.load_records.specs.Records.{windowRecord}
+use Rattle.load_records.specs.Writing.{rowBytes, loadBytes}
 use Rattle.load_file.specs.Places.{
   stepIn,
   windowIn,
@@ -55,7 +56,6 @@ use Rattle.load_file.proofs.layout.FieldLaws.{
   rows-read,
 }
 use Rattle.load_file.proofs.layout.PlaceLaws.{RowStands, row-parts, row-behind, FileStands, file-parts}
-use Rattle.load_file.proofs.faults.CheckLaws.{RowGood, LoadGood, fields-steps-le, fields-windows-le}
 use Rattle.load_file.proofs.faults.ZeroLaws.{steps-unused, windows-unused, zero-row}
 use Rattle.load_file.proofs.faults.FaultLaws.{RowAccepted, endPlace, FileAccepted}
 

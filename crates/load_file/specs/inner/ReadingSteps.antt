@@ -13,9 +13,9 @@ use Rattle.load.specs.declared.BoxNumber.{BoxNumber}
 use Rattle.load.specs.declared.Step.{Step}
 use Rattle.load.specs.declared.Window.{Window}
 use Rattle.load.specs.Load.{mostRows, mostSteps, mostWindows, noStep, noWindow, zeroRow, zeroLoad}
+use Rattle.load_records.specs.Records.{Kind, stepKind, windowKind}
 use Rattle.load_file.specs.declared.Reading.{Reading}
 use Rattle.load_file.specs.declared.read_row.RowReading.{RowReading}
-use Rattle.load_file.specs.Records.{Kind, stepKind, windowKind}
 use Rattle.load_file.specs.Places.{stepIn, windowIn, rowFrom, rowPlace, rowsSaid, loadIn}
 use Rattle.load_file.specs.Reading.{rowFaultAt, rowFaultIn, endTests}
 

@@ -6,7 +6,7 @@ use native.Mathlib.Omega.{arith}
 use borrow.Author.Needs.{needs}
 use lib.ListN.{length, take}
 use lib.Seq.{length-take-le}
-use Rattle.load_file.specs.Records.{mostFileBytes}
+use Rattle.load_records.specs.Records.{mostFileBytes}
 use Rattle.lines.specs.Lines.{printed}
 use Rattle.lines.specs.Calls.{textHolding}
 use Rattle.lines.proofs.PrintedFront.{printed-front}

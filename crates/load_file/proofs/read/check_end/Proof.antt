@@ -12,7 +12,7 @@ use Rattle.refusals.specs.declared.Refusal.{Refusal}
 use Rattle.refusals.specs.declared.Refusal.the-variants.{EndDiffers}
 use Rattle.refusals.specs.FirstMet.{firstMet}
 use Rattle.load.specs.View.{viewOf, stepsInAll}
-use Rattle.load_file.specs.Records.{endKind}
+use Rattle.load_records.specs.Records.{endKind}
 use Rattle.load_file.specs.Places.{loadIn}
 use Rattle.load_file.specs.Reading.{dueTests, endTests}
 use Rattle.load_file.proofs.faults.ReadingLaws.{behind-refused, behind-good}

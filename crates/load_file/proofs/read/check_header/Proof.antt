@@ -11,7 +11,7 @@ use Rattle.refusals.specs.declared.Refusal.{Refusal}
 use Rattle.refusals.specs.declared.Refusal.the-variants.{MarkDiffers, OutOfRange}
 use Rattle.refusals.specs.FirstMet.{firstMet}
 use Rattle.load.specs.Load.{mostRows}
-use Rattle.load_file.specs.Records.{headerKind, version}
+use Rattle.load_records.specs.Records.{headerKind, version}
 use Rattle.load_file.specs.Places.{rowsSaid}
 use Rattle.load_file.specs.Reading.{dueTests, headerTests}
 use Rattle.load_file.proofs.faults.ReadingLaws.{behind-refused, behind-good}

@@ -5,7 +5,7 @@ use mathlib.Core.Path.{_≡_, refl, sym, ap, _∙_}
 use borrow.Author.Needs.{needs}
 use Rattle.refusals.specs.FirstMet.{firstMet}
 use Rattle.load.specs.Faults.{rowTests, takenTests, identifierTaken, boxTaken}
-use Rattle.load_file.specs.Records.{rowKind}
+use Rattle.load_records.specs.Records.{rowKind}
 use Rattle.load_file.specs.Places.{rowFrom, loadIn}
 use Rattle.load_file.specs.Reading.{dueTests, ownFault}
 use Rattle.load_file.proofs.faults.ReadingLaws.{

@@ -9,7 +9,7 @@ use Rattle.refusals.specs.FirstMet.{firstMet, firstFaultTo}
 use Rattle.refusals.proofs.FirstMetLaws.{firstFaultTo-zero, firstFaultTo-next, firstFaultTo-refused, andThen-both}
 use Rattle.load.specs.declared.Row.{Row}
 use Rattle.load.specs.Faults.{stepTests}
-use Rattle.load_file.specs.Records.{stepKind}
+use Rattle.load_records.specs.Records.{stepKind}
 use Rattle.load_file.specs.Places.{stepPlace, stepsSaid, rowFrom, rowWith}
 use Rattle.load_file.specs.Reading.{dueTests, stepFaultIn}
 use Rattle.load_file.proofs.read_row.check_steps.Statement.{statement}

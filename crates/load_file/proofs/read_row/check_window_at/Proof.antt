@@ -2,7 +2,7 @@
 use mathlib.Core.Path.{_∙_}
 use borrow.Author.Needs.{needs}
 use Rattle.load.specs.Faults.{windowTests}
-use Rattle.load_file.specs.Records.{windowKind}
+use Rattle.load_records.specs.Records.{windowKind}
 use Rattle.load_file.specs.Reading.{dueTests}
 use Rattle.load_file.proofs.faults.ReadingLaws.{behind-refused, behind-good}
 use Rattle.load_file.proofs.read_row.check_window_at.Statement.{statement}

@@ -1,0 +1,29 @@
+-- The worked cases hold: each is decided by computing.
+use Prim.Native.Nat.{ℕ}
+use mathlib.Core.Path.{refl}
+use Rattle.counting.specs.Sums.{sumTo, allTo, anyTo}
+use Rattle.counting.specs.Lists.{joinTo, joinIn}
+use Rattle.words.specs.LittleEndian.{littleEndian}
+use Rattle.refusals.specs.FirstMet.{firstFaultTo}
+use Rattle.load.specs.Load.{zeroRow}
+use Rattle.load.specs.View.{viewOf, chain}
+use Rattle.load.specs.Faults.{rowTests, takenTests, stepTests, windowTests}
+use Rattle.load.specs.Check.{rowFault, checkLoad}
+use Rattle.load_records.specs.Writing.{rowBytes, loadBytes}
+use Rattle.load_records.specs.WorkedFile.{joined, file, spelled}
+use Rattle.load_records.specs.WorkedCases.{WorkedCases}
+
+-- to open this is to open all that its line names
+unfoldable computing : ℕ
+unfolding sumTo allTo anyTo joinTo joinIn littleEndian firstFaultTo zeroRow viewOf chain rowTests takenTests stepTests
+    windowTests rowFault checkLoad rowBytes loadBytes joined file spelled
+computing = 0
+
+pub worked-hold : WorkedCases
+unfolding computing
+worked-hold =
+    record {
+      written = record { finding-is = refl; output-is = refl };
+      room-more = record { finding-is = refl; output-is = refl };
+      room-less = record { finding-is = refl; output-is = refl };
+    }

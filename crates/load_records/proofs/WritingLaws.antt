@@ -1,0 +1,106 @@
+-- What writing a load needs: the facts that the check leaves, how long the rows are so far, and that the header, the
+-- rows and the end record, written one behind the other, are the file.
+use Prim.Native.Nat.{ℕ, _+_, _*_, _≤_, _<_}
+use mathlib.Core.List.{List, _++_}
+use mathlib.Core.Path.{_≡_, ap, _∙_}
+use native.Mathlib.Omega.{arith}
+use lib.ListN.{length, length-append}
+use lib.Seq.{sets}
+use Rattle.counting.specs.Lists.{joinTo}
+use Rattle.counting.proofs.sums.SumLaws.{sumTo-le}
+use Rattle.counting.proofs.lists.ListLaws.{joinTo-zero, joinTo-next, joinTo-length, joinTo-length-same}
+use Rattle.words.proofs.OverwriteLaws.{sets-more}
+use Rattle.refusals.specs.declared.Checked.the-variants.{Good}
+use Rattle.load.specs.declared.Row.{Row}
+use Rattle.load.specs.declared.Load.{Load}
+use Rattle.load.specs.Load.{mostRows, mostSteps, mostWindows, rowAt, stepAt, windowAt}
+use Rattle.load.specs.View.{viewOf, stepsInAll}
+use Rattle.load.specs.Check.{checkLoad}
+use Rattle.load.proofs.CheckLaws.{checkLoad-good, fields-steps-le, fields-windows-le}
+use Rattle.load_records.specs.Records.{
+  mostRowBytes,
+  headerRecord,
+  rowRecord,
+  stepRecord,
+  windowRecord,
+  endRecord,
+}
+use Rattle.load_records.specs.Writing.{rowBytes, loadBytes}
+use Rattle.load_records.proofs.LengthLaws.{
+  rowRecord-length,
+  stepRecord-length,
+  endRecord-length,
+  rowBytes-length,
+}
+
+-- the bytes of the first n rows
+abbrev pub rowsBytes : Load → ℕ → List ℕ
+rowsBytes load n = joinTo (λ i. rowBytes (rowAt load i)) n
+
+pub rowsBytes-length-zero : (load : Load) → length (rowsBytes load 0) ≡ 0
+rowsBytes-length-zero load = ap length (joinTo-zero (λ i. rowBytes (rowAt load i)))
+
+pub rowsBytes-length-next : (load : Load) (n : ℕ)
+    → length (rowsBytes load (n + 1)) ≡ length (rowsBytes load n) + length (rowBytes (rowAt load n))
+rowsBytes-length-next load n =
+    ap length (joinTo-next (λ i. rowBytes (rowAt load i)) n)
+    ∙ length-append (rowsBytes load n) (rowBytes (rowAt load n))
+
+-- the header and the end record have four bytes each
+pub loadBytes-length-rows : (load : Load) → length (loadBytes load) ≡ 8 + length (rowsBytes load (load .rows))
+unfolding loadBytes
+loadBytes-length-rows load = simp (length-append, endRecord-length) (omega arith)
+
+-- what the check of a load leaves to its writing
+module _ (load : Load) (good : checkLoad load ≡ Good) where
+  pub rows-le : load .rows ≤ mostRows
+  rows-le = checkLoad-good load good .few-rows
+
+  module _ (i : ℕ) (l : i < load .rows) where
+    pub steps-le : rowAt load i .steps ≤ mostSteps
+    steps-le = fields-steps-le (rowAt load i) (checkLoad-good load good .each-row-good i l .fields-good)
+
+    pub windows-le : rowAt load i .windows ≤ mostWindows
+    windows-le = fields-windows-le (rowAt load i) (checkLoad-good load good .each-row-good i l .fields-good)
+
+    pub rowBytes-length-le : length (rowBytes (rowAt load i)) ≤ mostRowBytes
+    rowBytes-length-le = omega (arith, rowBytes-length (rowAt load i), steps-le, windows-le)
+
+  pub rowsBytes-length-le : (n : ℕ) → n ≤ load .rows → length (rowsBytes load n) ≤ n * mostRowBytes
+  rowsBytes-length-le n h =
+      rw joinTo-length
+      (sumTo-le (λ i. length (rowBytes (rowAt load i))) n mostRowBytes (λ i l. rowBytes-length-le i (omega arith)))
+
+-- a row's own record, its steps and its windows, written one behind the other
+pub row-written : (row : Row) (out after-own after-steps after : List ℕ) (at : ℕ)
+    → after-own ≡ sets out at (rowRecord row)
+    → after-steps ≡ sets after-own (at + 20) (joinTo (λ j. stepRecord (stepAt row j)) (row .steps))
+    → after
+    ≡ sets after-steps (at + 20 + 6 * row .steps) (joinTo (λ k. windowRecord (windowAt row k)) (row .windows))
+    → after ≡ sets out at (rowBytes row)
+unfolding rowBytes
+row-written row out after-own after-steps after at p q r =
+    let steps : List ℕ = joinTo (λ j. stepRecord (stepAt row j)) (row .steps) in
+    let steps-length : length steps ≡ row .steps * 6 =
+    joinTo-length-same (λ j. stepRecord (stepAt row j)) 6 (row .steps) (λ j. stepRecord-length (stepAt row j)) in
+    let front-length : length (rowRecord row ++ steps) ≡ 20 + row .steps * 6 =
+    omega (arith, length-append (rowRecord row) steps, rowRecord-length row) in
+    let front-written : after-steps ≡ sets out at (rowRecord row ++ steps) =
+    sets-more out after-own after-steps at (at + 20) (rowRecord row) steps (rw (rowRecord-length row)) p q in
+    sets-more out after-steps after at (at + 20 + 6 * row .steps) (rowRecord row ++ steps) _ (omega arith)
+    front-written r
+
+-- the header, the rows and the end record, written one behind the other
+pub load-written : (load : Load) (out after-header after-rows after : List ℕ) (at : ℕ)
+    → after-header ≡ sets out 0 (headerRecord (load .rows))
+    → after-rows ≡ sets after-header 4 (rowsBytes load (load .rows))
+    → at ≡ 4 + length (rowsBytes load (load .rows))
+    → after ≡ sets after-rows at (endRecord (stepsInAll (viewOf load)))
+    → after ≡ sets out 0 (loadBytes load)
+unfolding loadBytes
+load-written load out after-header after-rows after at p q e r =
+    let rows : List ℕ = rowsBytes load (load .rows) in
+    let front-written : after-rows ≡ sets out 0 (headerRecord (load .rows) ++ rows) =
+    sets-more out after-header after-rows 0 4 (headerRecord (load .rows)) rows (omega arith) p q in
+    sets-more out after-rows after 0 at (headerRecord (load .rows) ++ rows) (endRecord (stepsInAll (viewOf load)))
+    (omega arith) front-written r

@@ -1,0 +1,100 @@
+-- `load_records::writing::write_rows` writes row by row: after i turns the first i rows stand behind the header's
+-- place, and the place is the one behind them. A checked load has few enough rows, steps and windows that the place
+-- fits.
+use Prim.Native.Nat.{_+_, _-_, _≤_}
+use mathlib.Core.Path.{_≡_, refl, _∙_}
+use native.Mathlib.Omega.{arith}
+use borrow.Author.Needs.{needs}
+use lib.ListN.{length}
+use lib.Seq.{sets}
+use Rattle.words.proofs.OverwriteLaws.{sets-joined-zero, sets-joined-next}
+use Rattle.load.specs.Load.{mostRows, rowAt}
+use Rattle.load_records.specs.Writing.{rowBytes}
+use Rattle.load_records.proofs.WritingLaws.{
+  rowsBytes,
+  rowsBytes-length-zero,
+  rowsBytes-length-next,
+  rowsBytes-length-le,
+  rowBytes-length-le,
+  rows-le,
+  steps-le,
+  windows-le,
+}
+use Rattle.load_records.proofs.writing.write_rows.Statement.{statement}
+use Rattle.load_records.proofs.writing.write_rows.Tie as tie
+
+abbrev Inv-loop : tie.InvT-loop
+Inv-loop out₀ load at₀ i₀ i-end out at i =
+    (i ≤ load .rows)
+    × (load .rows ≤ mostRows)
+    × (at ≡ 4 + length (rowsBytes load i))
+    × (length out ≡ length out₀)
+    × (out ≡ sets out₀ 4 (rowsBytes load i))
+
+abbrev μ-loop : tie.MeasureT-loop
+μ-loop out₀ load at₀ i₀ i-end out at i = load .rows - i
+
+starts : tie.Need-loop-holds Inv-loop μ-loop
+starts c =
+    let e = rowsBytes-length-zero (c .before .args .t2) in
+    (search needs, rows-le _ (c .before .pre), omega arith, refl, sets-joined-zero _ _ _)
+
+row-asks : tie.Need-write-row-requires Inv-loop μ-loop
+row-asks c κs =
+    let a = c .before .before .before in
+    let start = a .before .before in
+    let load = start .args .t2 in
+    let i = a .loop .i in
+    let so-far = rowsBytes-length-le load (start .pre) i (omega arith) in (
+      omega arith,
+      steps-le load (start .pre) i (omega arith),
+      windows-le load (start .pre) i (omega arith),
+    )
+
+place-fits : tie.Need-add-at Inv-loop μ-loop
+place-fits c =
+    let a = c .before .before .before .before .before .before .before in
+    let start = a .before .before in
+    let load = start .args .t2 in
+    let so-far = rowsBytes-length-le load (start .pre) (a .loop .i) (omega arith) in
+    let row = rowBytes-length-le load (start .pre) (a .loop .i) (omega arith) in
+    omega arith
+
+goes-on : tie.Need-loop-again Inv-loop μ-loop
+goes-on c =
+    let w = c .before .before .before in
+    let a = w .before .before .before .before in
+    let load = a .before .before .args .t2 in
+    let e = rowsBytes-length-next load (a .loop .i) in (
+      search needs,
+      search needs,
+      omega arith,
+      w .write-row .kept .0 ∙ a .loop .inv .3,
+      sets-joined-next (λ i. rowBytes (rowAt load i)) _ _ _ 4 (a .loop .at) (a .loop .i)
+          (a .loop .inv .2) (a .loop .inv .4) (w .write-row .ensures),
+    )
+
+ends : tie.Need-returns Inv-loop μ-loop
+ends c =
+    let a = c .before in
+    let e : a .loop .i ≡ a .before .before .args .t2 .rows = omega arith in
+    (rw e at (a .loop .inv .2), rw e at (a .loop .inv .4))
+
+pub write-rows-spec : {M : Type 1} → statement M
+write-rows-spec =
+    tie.close
+    (tie.spec
+    Inv-loop
+    μ-loop
+    (λ c. search needs)
+    starts
+    (λ c. search needs)
+    (λ c. search needs)
+    row-asks
+    (λ c κs. search needs)
+    place-fits
+    (λ c. search needs)
+    (λ c. search needs)
+    goes-on
+    (λ c. c .before .loop .inv .3)
+    ends)

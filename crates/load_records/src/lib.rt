@@ -1,0 +1,18 @@
+// The records of a load file: their bytes, and writing a load as its file. A load to be written is
+// refused with 3 to 7 or 9.
+mod records;
+mod writing;
+
+pub use records::END_MARK;
+pub use records::END_SIZE;
+pub use records::HEADER_MARK;
+pub use records::HEADER_SIZE;
+pub use records::MOST_FILE_BYTES;
+pub use records::ROW_MARK;
+pub use records::ROW_SIZE;
+pub use records::STEP_MARK;
+pub use records::STEP_SIZE;
+pub use records::VERSION;
+pub use records::WINDOW_MARK;
+pub use records::WINDOW_SIZE;
+pub use writing::write_load;
