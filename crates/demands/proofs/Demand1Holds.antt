@@ -1,12 +1,12 @@
 -- Demand 1 holds: an equation is met, the table gives each refusal a number of its own, the definitions refuse with no
 -- other and exactly then, and a refusal leaves what it was lent.
 use mathlib.Core.Path.{ap, sym, _∙_}
+use Rattle.refusals.proofs.TableLaws.{numberOf-apart, numberOf-least, numberOf-le}
 use Rattle.rules.specs.Margins.{marginBytes}
 use Rattle.bench.specs.declared.Moved.{Moved}
 use Rattle.reading_bench.specs.Calls.{boundBytes, verdictBytes, scheduleFile}
 use Rattle.demands.specs.Demand1.{Demand1}
 use Rattle.demands.proofs.CallsDecided.{every-answer}
-use Rattle.demands.proofs.demand1.TableLaws.{numberOf-apart, numberOf-in-table}
 use Rattle.demands.proofs.demand1.RefusedAlone.{
   refused-load,
   refused-bound,
@@ -24,7 +24,7 @@ pub demand1 : Demand1
 demand1 =
     record {
       answered = every-answer;
-      numbered = λ refusal n e. rw e (numberOf-in-table refusal);
+      numbered = λ refusal n e. rw e (record { least = numberOf-least refusal; most = numberOf-le refusal });
       apart = λ a b n p q. numberOf-apart a b (sym p ∙ q);
       numbers = numbers;
       exactly = exactly-then;

@@ -27,7 +27,7 @@ use Rattle.rules.proofs.Demand3.{accepted-demand3, accepted-passes}
 use Rattle.bound.specs.declared.Judged.{Judged}
 use Rattle.bound.specs.Calls.{VerdictOf}
 use Rattle.bench.proofs.running.RunsLaws.{Runs-schedule}
-use Rattle.demands.specs.Numbers.{OneOf}
+use Rattle.demands.specs.NumberLists.{OneOf}
 use Rattle.demands.specs.Demand3.{Run, startsOf, RunKept, Demand3}
 use Rattle.demands.proofs.Demand2Holds.{file-back, demand2}
 use Rattle.demands.proofs.moves.RunByCalls.{run-of, run-states, run-moves}

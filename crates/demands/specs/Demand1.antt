@@ -3,7 +3,7 @@
 -- slot lent to it." That a call ends is part of what is proved of its code, and what is lent to be
 -- read, as slots are, is altered by no call. To be read after Numbers and ExactlyThen. Rests on
 -- D49.
-use Prim.Native.Nat.{ℕ, _≤_}
+use Prim.Native.Nat.{ℕ}
 use mathlib.Core.Bool.{false}
 use mathlib.Core.List.{List}
 use mathlib.Core.Logic.{_≢_}
@@ -34,6 +34,7 @@ use Rattle.reading_bench.specs.Calls.{BenchBound, BenchVerdict, BenchMargins, B
 use Rattle.lines.specs.declared.Printed.{Printed}
 use Rattle.lines.specs.Calls.{PrintLines}
 use Rattle.demands.specs.PublicCalls.{EveryCall}
+use Rattle.demands.specs.NumberLists.{InTable}
 use Rattle.demands.specs.Numbers.{Numbers}
 use Rattle.demands.specs.ExactlyThen.{ExactlyThen}
 use Rattle.demands.specs.LoadFirst.{LoadFirst}
@@ -42,11 +43,6 @@ use Rattle.demands.specs.LoadFirst.{LoadFirst}
 pub record Answer (A : Type 0) (meets : A → Type 0) : Type 0 where
   pub result : A
   pub met : meets result
-
--- a number is one of the table's
-pub record InTable (n : ℕ) : Type 0 where
-  pub least : 1 ≤ n
-  pub most : n ≤ 17
 
 -- a call for C whose number is not 0 leaves the output as it was
 abbrev pub Stays : (List ℕ → List ℕ → ℕ → List ℕ → Type 0) → Type 0

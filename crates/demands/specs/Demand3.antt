@@ -34,7 +34,7 @@ use Rattle.bench.specs.declared.Bench.{Bench}
 use Rattle.bench.specs.declared.Moved.{Moved}
 use Rattle.bench.specs.declared.Ran.{Ran}
 use Rattle.bench.specs.Calls.{Fresh, NextMove, Runs}
-use Rattle.demands.specs.Numbers.{OneOf}
+use Rattle.demands.specs.NumberLists.{OneOf}
 use Rattle.demands.specs.Demand2.{SameMove}
 
 -- a run by the calls: a fresh bench, and one move after the other

@@ -9,6 +9,7 @@ pub mod HostCalls
 pub mod PublicCalls
 pub mod Sameness
 pub mod JoinedContract
+pub mod NumberLists
 pub mod Numbers
 pub mod ExactlyThen
 pub mod LoadFirst

@@ -1,83 +1,22 @@
 -- "Numbers given back", worked: the table number by number, tests in their order, and small outputs
 -- whose bytes are told before and after. The answers are the document's, taken by hand. To be read
--- after Given. Rests on D26.
+-- after Table and Given. Rests on D26.
 use mathlib.Core.Bool.{true, false}
-use mathlib.Core.List.{List, [], _∷_, map}
+use mathlib.Core.List.{[], _∷_, map}
 use mathlib.Core.Path.{_≡_}
 use lib.Dec.{eqb}
-use Rattle.refusals.specs.declared.Refusal.{Refusal}
-use Rattle.refusals.specs.declared.Refusal.the-variants.{
-  FileShort,
-  MarkDiffers,
-  OutOfRange,
-  IdentifierTaken,
-  BoxTaken,
-  WindowSteps,
-  LimitBelowChain,
-  EndDiffers,
-  OutputShort,
-  StateShape,
-  ClockFull,
-  SlotCount,
-  NoSuchSlot,
-  SlotOverlaps,
-  SlotEarly,
-  WindowLate,
-  RowLate,
-}
+use Rattle.refusals.specs.declared.Refusal.the-variants.{MarkDiffers, OutOfRange, BoxTaken}
+use Rattle.refusals.specs.declared.Refusal.the-variants.{OutputShort, ClockFull}
 use Rattle.refusals.specs.declared.Checked.the-variants.{Good, Refused}
-use Rattle.refusals.specs.Refusals.{numberOf, numberGiven}
+use Rattle.refusals.specs.Refusals.{numberOf, lastNumber, numberGiven}
+use Rattle.refusals.specs.Table.{table, numbersTo}
 use Rattle.refusals.specs.FirstMet.{firstMet, firstFault, firstFaultTo}
 use Rattle.refusals.specs.Given.{Given}
 
--- the lines of the document's table, from 1 on
-unfoldable pub table : List Refusal
-table =
-    -- the file ends before or inside a record that is due
-    FileShort
-    -- a mark differs, or the version is not 1
-    ∷ MarkDiffers
-    -- a number is outside its range, or an unused place is not zero
-    ∷ OutOfRange
-    -- the identifier stands in an earlier row
-    ∷ IdentifierTaken
-    -- the box stands in an earlier row
-    ∷ BoxTaken
-    -- a window's last step is not after its first, names no step, or it shares or precedes a step
-    -- of the window before
-    ∷ WindowSteps
-    -- a limit is below its chain
-    ∷ LimitBelowChain
-    -- the end count is wrong, or bytes follow
-    ∷ EndDiffers
-    -- the lent output is too short
-    ∷ OutputShort
-    -- a bench state does not have the load's shape
-    ∷ StateShape
-    -- the bench clock is at 1,000,000 with work left, and no move remains
-    ∷ ClockFull
-    -- slot count differs from step count
-    ∷ SlotCount
-    -- a slot's row or step does not exist, the step is not that row's next, or its start exceeds
-    -- 1,000,000
-    ∷ NoSuchSlot
-    -- a slot starts before the previous slot ends
-    ∷ SlotOverlaps
-    -- it starts before its phase, or before the step before it in the row has ended and its wait
-    -- has passed
-    ∷ SlotEarly
-    -- it ends a window late
-    ∷ WindowLate
-    -- it ends its row late
-    ∷ RowLate
-    ∷ []
-
 -- the worked cases
 pub record WorkedCases : Type 0 where
-  -- the table's numbers, in the table's order
-  pub numbers :
-      map numberOf table
-      ≡ 1 ∷ 2 ∷ 3 ∷ 4 ∷ 5 ∷ 6 ∷ 7 ∷ 8 ∷ 9 ∷ 10 ∷ 11 ∷ 12 ∷ 13 ∷ 14 ∷ 15 ∷ 16 ∷ 17 ∷ []
+  -- the numbers of the table's lines are 1, 2, 3 and so on, up to the last
+  pub numbers : map numberOf table ≡ numbersTo lastNumber
   -- nothing refused is 0
   pub nothing-refused : numberGiven Good ≡ 0
   -- of two tests that are met the first decides, and one that is not met decides nothing

@@ -64,7 +64,7 @@ use Rattle.rules.proofs.moves.MoveLaws.{Way, unshaped, finished, full, goes, mo
 use Rattle.bench.specs.declared.Bench.{Bench}
 use Rattle.bench.specs.Held.{stateOf, nextMove}
 use Rattle.bench.proofs.choice.NextLaws.{nextMove-good, nextMove-refused}
-use Rattle.demands.specs.Numbers.{OneOf, ofLoad, ofFile, ofSlots, ofRange, ofWindow, ofState}
+use Rattle.demands.specs.NumberLists.{OneOf, ofLoad, ofFile, ofRange, ofWindow, ofSchedule, ofMove}
 use Rattle.demands.proofs.demand1.NumberLaws.{
   Gives,
   tests-give,
@@ -135,10 +135,6 @@ file-gives bs =
     (rowsSaid bs))
     (last-gives ofFile _ (tests-give ofFile (endTests bs (rowPlace bs (rowsSaid bs))) refl)))
 
--- 3 to 7, then 12 to 17
-abbrev ofSchedule : List ℕ
-ofSchedule = ofLoad ++ ofSlots
-
 pub schedule-gives : (load : Load) (slots : List Slot) → Gives ofSchedule (checkSchedule load slots)
 unfolding checkSchedule checkSlots slotTests anyIn
 schedule-gives load slots =
@@ -150,10 +146,6 @@ schedule-gives load slots =
     (last-gives ofSchedule _
     (faultsTo-give ofSchedule (λ k. firstMet (slotTests (viewOf load) slots k (slotAt slots k)))
     (λ k. tests-give ofSchedule (slotTests (viewOf load) slots k (slotAt slots k)) refl) (length slots)))))
-
--- 3 to 7, 10 and 11
-abbrev ofMove : List ℕ
-ofMove = ofLoad ++ ofState
 
 -- the number of an answer
 abbrev numberIn : Outcome → ℕ

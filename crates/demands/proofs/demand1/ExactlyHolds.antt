@@ -37,7 +37,7 @@ use Rattle.schedule.specs.Calls.{CheckSchedule}
 use Rattle.bench.specs.Held.{stateOf}
 use Rattle.bench.specs.Calls.{NextMove}
 use Rattle.bench.proofs.choice.NextLaws.{nextMove-good, nextMove-refused}
-use Rattle.demands.specs.Numbers.{OneOf, ofLoad}
+use Rattle.demands.specs.NumberLists.{OneOf, ofLoad}
 use Rattle.demands.specs.ExactlyThen.{InOrder, Then, ExactlyThen}
 use Rattle.demands.proofs.demand1.CallNumbers.{load-gives}
 

@@ -14,7 +14,7 @@ use Rattle.refusals.specs.declared.Checked.{Checked}
 use Rattle.refusals.specs.declared.Checked.the-variants.{Good, Refused}
 use Rattle.refusals.specs.Refusals.{numberOf, numberGiven}
 use Rattle.refusals.specs.FirstMet.{firstMet, andThen, firstFaultTo}
-use Rattle.demands.specs.Numbers.{OneOf}
+use Rattle.demands.specs.NumberLists.{OneOf}
 
 -- what a check finds is Good, or its number is one of these
 pub record Gives (numbers : List ℕ) (found : Checked) : Type 0 where

@@ -29,7 +29,7 @@ use Rattle.reading_bench.specs.Calls.{ForC}
 use Rattle.lines.specs.declared.Printed.{Printed}
 use Rattle.lines.specs.Lines.{printed}
 use Rattle.lines.specs.Calls.{PrintLines}
-use Rattle.demands.specs.Numbers.{OneOf, ofLoad, ofFile, ofRange, ofOutput}
+use Rattle.demands.specs.NumberLists.{OneOf, ofLoad, ofFile, ofOutput, ofC, ofWriting, ofSlotWriting}
 use Rattle.demands.proofs.demand1.NumberLaws.{Gives, tests-give, then-gives, last-gives, eachAmong, OneOf-more}
 use Rattle.demands.proofs.demand1.CallNumbers.{load-gives, file-gives}
 
@@ -51,25 +51,25 @@ with-nine numbers found each g =
     record { number = OneOf-more numbers (numbers ++ ofOutput) each (numberGiven found) (g .number) }
 
 pub load-written-gives : (load : Load) (out : List ℕ) (r : Checked) (after : List ℕ) → WriteLoad load out r after
-    → OneOf (ofLoad ++ ofOutput) (numberGiven r)
+    → OneOf ofWriting (numberGiven r)
 unfolding anyIn
 load-written-gives load out r after g =
-    given-gives (ofLoad ++ ofOutput) (checkLoad load) (loadBytes load) out r after refl
+    given-gives ofWriting (checkLoad load) (loadBytes load) out r after refl
     (with-nine ofLoad (checkLoad load) refl (load-gives load)) g
 
 pub slots-written-give : (slots : List Slot) (out : List ℕ) (r : Checked) (after : List ℕ)
-    → WriteSchedule slots out r after → OneOf (ofRange ++ ofOutput) (numberGiven r)
+    → WriteSchedule slots out r after → OneOf ofSlotWriting (numberGiven r)
 unfolding anyIn
 slots-written-give slots out r after g =
-    given-gives (ofRange ++ ofOutput) (slotsFault slots) (scheduleBytes slots) out r after refl
-    (tests-give (ofRange ++ ofOutput) ((ltb mostSlots (length slots), OutOfRange) ∷ []) refl) g
+    given-gives ofSlotWriting (slotsFault slots) (scheduleBytes slots) out r after refl
+    (tests-give ofSlotWriting ((ltb mostSlots (length slots), OutOfRange) ∷ []) refl) g
 
 pub c-gives : (answer : View → List ℕ) (bs out : List ℕ) (r : ℕ) (after : List ℕ) → ForC answer bs out r after
-    → OneOf (ofFile ++ ofOutput) r
+    → OneOf ofC r
 unfolding readLoad anyIn
 c-gives answer bs out r after c =
     rw (c .number-is)
-    (given-gives (ofFile ++ ofOutput) (fileFault bs) (answer (viewOf (loadIn bs))) out (c .found) after refl
+    (given-gives ofC (fileFault bs) (answer (viewOf (loadIn bs))) out (c .found) after refl
     (with-nine ofFile (fileFault bs) refl (file-gives bs)) (c .given))
 
 pub lines-give : (bs out : List ℕ) (r : Printed) (after : List ℕ) → PrintLines bs out r after

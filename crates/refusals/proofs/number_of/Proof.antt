@@ -1,10 +1,16 @@
 -- `refusals::number_of` gives the table's number: in each arm the refusal is told, and the table's line for it
 -- computes.
-use mathlib.Core.Path.{ap, sym}
+use Prim.Native.Nat.{ℕ}
+use mathlib.Core.Path.{_≡_, ap, sym, _∙_}
 use borrow.Author.Needs.{needs}
+use Rattle.refusals.specs.declared.Refusal.{Refusal}
 use Rattle.refusals.specs.Refusals.{numberOf}
 use Rattle.refusals.proofs.number_of.Statement.{statement}
 use Rattle.refusals.proofs.number_of.Tie as tie
+
+-- the number of a refusal that is told
+told : (n : ℕ) (refusal known : Refusal) → refusal ≡ known → n ≡ numberOf known → n ≡ numberOf refusal
+told n refusal known e h = h ∙ ap numberOf (sym e)
 
 pub number-of-spec : {M : Type 1} → statement M
 number-of-spec =
@@ -27,20 +33,20 @@ number-of-spec =
     (λ c. search needs)
     (λ c. search needs)
     (λ c. search needs)
-    (λ c. ap numberOf (sym (c .enum-told .given .1)))
-    (λ c. ap numberOf (sym (c .enum-told2 .given .1)))
-    (λ c. ap numberOf (sym (c .enum-told3 .given .1)))
-    (λ c. ap numberOf (sym (c .enum-told4 .given .1)))
-    (λ c. ap numberOf (sym (c .enum-told5 .given .1)))
-    (λ c. ap numberOf (sym (c .enum-told6 .given .1)))
-    (λ c. ap numberOf (sym (c .enum-told7 .given .1)))
-    (λ c. ap numberOf (sym (c .enum-told8 .given .1)))
-    (λ c. ap numberOf (sym (c .enum-told9 .given .1)))
-    (λ c. ap numberOf (sym (c .enum-told10 .given .1)))
-    (λ c. ap numberOf (sym (c .enum-told11 .given .1)))
-    (λ c. ap numberOf (sym (c .enum-told12 .given .1)))
-    (λ c. ap numberOf (sym (c .enum-told13 .given .1)))
-    (λ c. ap numberOf (sym (c .enum-told14 .given .1)))
-    (λ c. ap numberOf (sym (c .enum-told15 .given .1)))
-    (λ c. ap numberOf (sym (c .enum-told16 .given .1)))
-    (λ c. ap numberOf (sym (c .enum-told17 .given .1))))
+    (λ c. search (needs, told))
+    (λ c. search (needs, told))
+    (λ c. search (needs, told))
+    (λ c. search (needs, told))
+    (λ c. search (needs, told))
+    (λ c. search (needs, told))
+    (λ c. search (needs, told))
+    (λ c. search (needs, told))
+    (λ c. search (needs, told))
+    (λ c. search (needs, told))
+    (λ c. search (needs, told))
+    (λ c. search (needs, told))
+    (λ c. search (needs, told))
+    (λ c. search (needs, told))
+    (λ c. search (needs, told))
+    (λ c. search (needs, told))
+    (λ c. search (needs, told)))

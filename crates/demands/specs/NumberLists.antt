@@ -1,0 +1,66 @@
+-- "Numbers given back": the numbers of the table, and which of them go together. Each list stands
+-- here once. To be read before Numbers.
+use Prim.Native.Nat.{ℕ, _≤_}
+use mathlib.Core.Bool.{true}
+use mathlib.Core.List.{List, [], _∷_, _++_}
+use mathlib.Core.Path.{_≡_}
+use lib.Dec.{eqb}
+use Rattle.counting.specs.Lists.{anyIn}
+use Rattle.refusals.specs.Refusals.{lastNumber}
+
+-- a number is one of the table's
+pub record InTable (n : ℕ) : Type 0 where
+  pub least : 1 ≤ n
+  pub most : n ≤ lastNumber
+
+-- a number given back is 0, or one of these
+abbrev pub OneOf : List ℕ → ℕ → Type 0
+OneOf numbers n = anyIn (eqb n) (0 ∷ numbers) ≡ true
+
+-- 3 to 7: a load in memory
+abbrev pub ofLoad : List ℕ
+ofLoad = 3 ∷ 4 ∷ 5 ∷ 6 ∷ 7 ∷ []
+
+-- 1 to 8: a file
+abbrev pub ofFile : List ℕ
+ofFile = 1 ∷ 2 ∷ ofLoad ++ 8 ∷ []
+
+-- 12 to 17: slots
+abbrev pub ofSlots : List ℕ
+ofSlots = 12 ∷ 13 ∷ 14 ∷ 15 ∷ 16 ∷ 17 ∷ []
+
+-- 3: a number out of its range
+abbrev pub ofRange : List ℕ
+ofRange = 3 ∷ []
+
+-- 3, 6 and 7: a window
+abbrev pub ofWindow : List ℕ
+ofWindow = 3 ∷ 6 ∷ 7 ∷ []
+
+-- 10 and 11: a state
+abbrev pub ofState : List ℕ
+ofState = 10 ∷ 11 ∷ []
+
+-- 9: an output that is too short
+abbrev pub ofOutput : List ℕ
+ofOutput = 9 ∷ []
+
+-- 1 to 9: a call for C
+abbrev pub ofC : List ℕ
+ofC = ofFile ++ ofOutput
+
+-- 3 to 7 and 9: a load that is written
+abbrev pub ofWriting : List ℕ
+ofWriting = ofLoad ++ ofOutput
+
+-- 3 and 9: slots that are written
+abbrev pub ofSlotWriting : List ℕ
+ofSlotWriting = ofRange ++ ofOutput
+
+-- 3 to 7, then 12 to 17: a schedule that is checked
+abbrev pub ofSchedule : List ℕ
+ofSchedule = ofLoad ++ ofSlots
+
+-- 3 to 7, 10 and 11: a move
+abbrev pub ofMove : List ℕ
+ofMove = ofLoad ++ ofState
