@@ -13,7 +13,7 @@ NumberOf-unique refusal r s p q = p ∙ sym q
 pub NumberGiven-unique : (found : Checked) (r s : ℕ) → NumberGiven found r → NumberGiven found s → r ≡ s
 NumberGiven-unique found r s p q = p ∙ sym q
 
-module _ (finding : Checked) (answer out : List ℕ) (r s : Checked) (after later : List ℕ)
+module _ {A : Type 0} (finding : Checked) (answer out : List A) (r s : Checked) (after later : List A)
     (p : Given finding answer out r after) (q : Given finding answer out s later) where
   pub Given-unique-finding : r ≡ s
   Given-unique-finding = p .finding-is ∙ sym (q .finding-is)

@@ -1,6 +1,6 @@
 -- What comes with a finding, by what it is. The three ways in which a writing call ends, each with what the contract
 -- asks of it: the finding is refused, the output is too short for the answer, or the answer is written.
-use Prim.Native.Nat.{ℕ, _≤_, _<_}
+use Prim.Native.Nat.{_≤_, _<_}
 use mathlib.Core.List.{List}
 use mathlib.Core.Path.{_≡_, refl, sym, _∙_}
 use lib.ListN.{length}
@@ -18,7 +18,7 @@ module _ {A : Type 0} (finding : Checked) (answer none : A) where
   pub ifGood-refused : (refusal : Refusal) → finding ≡ Refused refusal → ifGood finding answer none ≡ none
   ifGood-refused refusal e = rw e
 
-module _ (finding : Checked) (answer out : List ℕ) where
+module _ {A : Type 0} (finding : Checked) (answer out : List A) where
   pub refused-given : (refusal : Refusal) → finding ≡ Refused refusal
       → Given finding answer out (Refused refusal) out
   refused-given refusal e = record { finding-is = rw e; output-is = refl }
@@ -27,13 +27,13 @@ module _ (finding : Checked) (answer out : List ℕ) where
       → Given finding answer out (Refused OutputShort) out
   short-given e h = record { finding-is = rw (e, lt-ltb _ _ h); output-is = refl }
 
-  pub written-given : (after : List ℕ) → finding ≡ Good → length answer ≤ length out → after ≡ written answer out
+  pub written-given : (after : List A) → finding ≡ Good → length answer ≤ length out → after ≡ written answer out
       → Given finding answer out Good after
   written-given after e h w = record { finding-is = rw (e, le-ltb _ _ h); output-is = w }
 
 -- an answer that is not written does not matter
-pub refused-alike : (finding : Checked) (refusal : Refusal) (answer other out : List ℕ)
-    → (found : Checked) (after : List ℕ) → finding ≡ Refused refusal
+pub refused-alike : {A : Type 0} (finding : Checked) (refusal : Refusal) (answer other out : List A)
+    → (found : Checked) (after : List A) → finding ≡ Refused refusal
     → Given finding answer out found after → Given finding other out found after
 refused-alike finding refusal answer other out found after e g =
     let refused : found ≡ Refused refusal = rw e at (g .finding-is) in

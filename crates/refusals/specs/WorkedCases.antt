@@ -1,6 +1,7 @@
 -- "Numbers given back", worked: the table number by number, tests in their order, and small outputs
 -- whose bytes are told before and after. The answers are the document's, taken by hand. To be read
 -- after Table and Given. Rests on D26.
+use Prim.Native.Nat.{ℕ}
 use mathlib.Core.Bool.{true, false}
 use mathlib.Core.List.{[], _∷_, map}
 use mathlib.Core.Path.{_≡_}
@@ -31,16 +32,17 @@ pub record WorkedCases : Type 0 where
       firstFaultTo (λ i. firstMet ((eqb i 1, BoxTaken) ∷ (eqb i 2, OutOfRange) ∷ [])) 3
       ≡ Refused BoxTaken
   -- a room of exactly the answer's length is enough
-  pub exact-room : Given Good (1 ∷ 2 ∷ []) (7 ∷ 8 ∷ []) Good (1 ∷ 2 ∷ [])
+  pub exact-room : Given {A = ℕ} Good (1 ∷ 2 ∷ []) (7 ∷ 8 ∷ []) Good (1 ∷ 2 ∷ [])
   -- an answer of no bytes needs no room
-  pub no-room-needed : Given Good [] [] Good []
+  pub no-room-needed : Given {A = ℕ} Good [] [] Good []
   -- one byte less is 9, and what is lent stays
-  pub one-byte-less : Given Good (1 ∷ 2 ∷ 3 ∷ []) (7 ∷ 8 ∷ []) (Refused OutputShort) (7 ∷ 8 ∷ [])
+  pub one-byte-less :
+      Given {A = ℕ} Good (1 ∷ 2 ∷ 3 ∷ []) (7 ∷ 8 ∷ []) (Refused OutputShort) (7 ∷ 8 ∷ [])
   -- bytes past the answer stay as they were
-  pub bytes-past : Given Good (1 ∷ 2 ∷ []) (7 ∷ 8 ∷ 9 ∷ 6 ∷ []) Good (1 ∷ 2 ∷ 9 ∷ 6 ∷ [])
+  pub bytes-past : Given {A = ℕ} Good (1 ∷ 2 ∷ []) (7 ∷ 8 ∷ 9 ∷ 6 ∷ []) Good (1 ∷ 2 ∷ 9 ∷ 6 ∷ [])
   -- a refused call leaves the output, though the answer would fit
   pub refused-leaves :
-      Given (Refused OutOfRange) (1 ∷ []) (7 ∷ 8 ∷ []) (Refused OutOfRange) (7 ∷ 8 ∷ [])
+      Given {A = ℕ} (Refused OutOfRange) (1 ∷ []) (7 ∷ 8 ∷ []) (Refused OutOfRange) (7 ∷ 8 ∷ [])
   -- 9 comes last: a finding and a short room at once give the finding
   pub nine-last :
-      Given (Refused ClockFull) (1 ∷ 2 ∷ []) (7 ∷ []) (Refused ClockFull) (7 ∷ [])
+      Given {A = ℕ} (Refused ClockFull) (1 ∷ 2 ∷ []) (7 ∷ []) (Refused ClockFull) (7 ∷ [])
