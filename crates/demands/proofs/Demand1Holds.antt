@@ -1,10 +1,12 @@
 -- Demand 1 holds: an equation is met, the table gives each refusal a number of its own, the definitions refuse with no
 -- other and exactly then, and a refusal leaves what it was lent.
 use mathlib.Core.Path.{ap, sym, _∙_}
+use Rattle.refusals.specs.declared.Checked.the-variants.{Good}
 use Rattle.refusals.proofs.TableLaws.{numberOf-apart, numberOf-least, numberOf-le}
 use Rattle.rules.specs.Margins.{marginBytes}
 use Rattle.bench.specs.declared.Moved.{Moved}
 use Rattle.reading_bench.specs.Calls.{boundBytes, verdictBytes, scheduleFile}
+use Rattle.lines.specs.Lines.{printed}
 use Rattle.demands.specs.Demand1.{Demand1}
 use Rattle.demands.proofs.CallsDecided.{every-answer}
 use Rattle.demands.proofs.demand1.RefusedAlone.{
@@ -14,7 +16,7 @@ use Rattle.demands.proofs.demand1.RefusedAlone.{
   refused-verdict,
   refused-slots,
 }
-use Rattle.demands.proofs.demand1.WritingCalls.{c-keeps, lines-keep}
+use Rattle.demands.proofs.demand1.WritingCalls.{c-keeps, out-keeps}
 use Rattle.demands.proofs.demand1.RefusedMoves.{bench-kept}
 use Rattle.demands.proofs.demand1.NumbersHold.{numbers}
 use Rattle.demands.proofs.demand1.ExactlyHolds.{exactly-then}
@@ -41,7 +43,7 @@ demand1 =
       verdict-stays = c-keeps verdictBytes;
       margins-stay = c-keeps marginBytes;
       c-schedule-stays = c-keeps scheduleFile;
-      lines-stay = lines-keep;
+      lines-stay = λ bs out refusal r after p e. out-keeps Good (printed bs) out refusal r after p e;
       bench-stays = λ load bench refusal r e h.
           e ∙ bench-kept load bench refusal (ap (λ (m : Moved). m .outcome) (sym e) ∙ h);
     }

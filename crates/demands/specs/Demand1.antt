@@ -12,6 +12,7 @@ use lib.IntN.{pos}
 use lib.ListN.{replicate}
 use Rattle.refusals.specs.declared.Refusal.{Refusal}
 use Rattle.refusals.specs.declared.Checked.the-variants.{Refused}
+use Rattle.refusals.specs.declared.Written.{Written}
 use Rattle.refusals.specs.Calls.{NumberOf}
 use Rattle.load.specs.declared.Load.{Load}
 use Rattle.load.specs.Load.{mostRows, zeroLoad}
@@ -31,7 +32,6 @@ use Rattle.bench.specs.declared.Ran.{Ran}
 use Rattle.bench.specs.Held.{refusedWith}
 use Rattle.bench.specs.Calls.{NextMove, Runs}
 use Rattle.reading_bench.specs.Calls.{BenchBound, BenchVerdict, BenchMargins, BenchSchedule}
-use Rattle.lines.specs.declared.Printed.{Printed}
 use Rattle.lines.specs.Calls.{PrintLines}
 use Rattle.demands.specs.PublicCalls.{EveryCall}
 use Rattle.demands.specs.NumberLists.{InTable}
@@ -84,7 +84,7 @@ pub record Demand1 : Type 0 where
   pub verdict-stays : Stays BenchVerdict
   pub margins-stay : Stays BenchMargins
   pub c-schedule-stays : Stays BenchSchedule
-  pub lines-stay : (bs out : List ℕ) (refusal : Refusal) (r : Printed) (after : List ℕ)
+  pub lines-stay : (bs out : List ℕ) (refusal : Refusal) (r : Written) (after : List ℕ)
       → PrintLines bs out r after → r .answer ≡ Refused refusal → after ≡ out
   -- and a refused move hands back the state it was given, with lamp word and count 0
   pub bench-stays : (load : Load) (bench : Bench) (refusal : Refusal) (r : Moved)

@@ -9,6 +9,7 @@ use Rattle.counting.specs.Sums.{bit}
 use Rattle.words.specs.LittleEndian.{littleEndian, Bytes}
 use Rattle.refusals.specs.declared.Refusal.{Refusal}
 use Rattle.refusals.specs.declared.Checked.the-variants.{Good, Refused}
+use Rattle.refusals.specs.declared.Written.{Written}
 use Rattle.refusals.specs.Refusals.{numberOf}
 use Rattle.refusals.specs.Given.{ifGood, Given}
 use Rattle.load.specs.View.{View, viewOf}
@@ -26,7 +27,6 @@ use Rattle.reading_bench.specs.Calls.{
   BenchMargins,
   BenchSchedule,
 }
-use Rattle.lines.specs.declared.Printed.{Printed}
 use Rattle.lines.specs.declared.Text.{Text}
 use Rattle.lines.specs.Lines.{printed}
 use Rattle.lines.specs.Calls.{textPlaces, TextOf, PrintLines}
@@ -68,7 +68,7 @@ pub record HostAnswers : Type 0 where
   -- which the first bytes decide: one more than the longest load file has
   pub fronts : (bs : List ℕ) (r : Text) → TextOf (take (mostFileBytes + 1) bs) r → TextOf bs r
   -- the program's lines stand in the output, and so many bytes of them are counted
-  pub lines : (bs out : List ℕ) (r : Printed) (after : List ℕ) → PrintLines bs out r after
+  pub lines : (bs out : List ℕ) (r : Written) (after : List ℕ) → PrintLines bs out r after
       → Given Good (printed bs) out (r .answer) after
-  pub lines-counted : (bs out : List ℕ) (r : Printed) (after : List ℕ) → PrintLines bs out r after
+  pub lines-counted : (bs out : List ℕ) (r : Written) (after : List ℕ) → PrintLines bs out r after
       → r .length ≡ ifGood (r .answer) (length (printed bs)) 0

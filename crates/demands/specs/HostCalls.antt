@@ -2,8 +2,8 @@
 -- To be read after the Calls of the crates that it names.
 use Prim.Native.Nat.{ℕ}
 use mathlib.Core.List.{List}
+use Rattle.refusals.specs.declared.Written.{Written}
 use Rattle.reading_bench.specs.Calls.{BenchBound, BenchVerdict, BenchMargins, BenchSchedule}
-use Rattle.lines.specs.declared.Printed.{Printed}
 use Rattle.lines.specs.declared.Text.{Text}
 use Rattle.lines.specs.Calls.{TextOf, PrintLines}
 use Rattle.demands.specs.FileCalls.{Wrote, Writes}
@@ -12,7 +12,7 @@ use Rattle.demands.specs.FileCalls.{Wrote, Writes}
 pub record EveryHostCall {ℓ} (Claim : (A : Type 0) → (A → Type 0) → Type ℓ) : Type ℓ where
   -- lines
   pub text-of : (bs : List ℕ) → Claim Text (TextOf bs)
-  pub print-lines : (bs out : List ℕ) → Claim (Wrote Printed) (Writes (PrintLines bs out))
+  pub print-lines : (bs out : List ℕ) → Claim (Wrote Written) (Writes (PrintLines bs out))
   -- reading_bench
   pub bench-bound : (bs out : List ℕ) → Claim (Wrote ℕ) (Writes (BenchBound bs out))
   pub bench-verdict : (bs out : List ℕ) → Claim (Wrote ℕ) (Writes (BenchVerdict bs out))

@@ -3,6 +3,7 @@
 use Prim.Native.Nat.{ℕ}
 use mathlib.Core.List.{List}
 use Rattle.refusals.specs.declared.Checked.{Checked}
+use Rattle.refusals.specs.declared.Written.{Written}
 use Rattle.refusals.specs.Refusals.{numberGiven}
 use Rattle.load.specs.declared.Row.{Row}
 use Rattle.load.specs.declared.Load.{Load}
@@ -23,7 +24,6 @@ use Rattle.bench.specs.declared.Moved.{Moved}
 use Rattle.bench.specs.declared.Ran.{Ran}
 use Rattle.bench.specs.Calls.{NextMove, Runs}
 use Rattle.reading_bench.specs.Calls.{BenchBound, BenchVerdict, BenchMargins, BenchSchedule}
-use Rattle.lines.specs.declared.Printed.{Printed}
 use Rattle.lines.specs.Calls.{PrintLines}
 use Rattle.demands.specs.NumberLists.{OneOf, ofLoad, ofFile, ofRange, ofWindow, ofOutput}
 use Rattle.demands.specs.NumberLists.{ofC, ofWriting, ofSlotWriting, ofSchedule, ofMove}
@@ -72,5 +72,5 @@ pub record Numbers : Type 0 where
   pub bench-verdict : NumbersForC BenchVerdict
   pub bench-margins : NumbersForC BenchMargins
   pub bench-schedule : NumbersForC BenchSchedule
-  pub print-lines : (bs out : List ℕ) (r : Printed) (after : List ℕ) → PrintLines bs out r after
+  pub print-lines : (bs out : List ℕ) (r : Written) (after : List ℕ) → PrintLines bs out r after
       → OneOf ofOutput (numberGiven (r .answer))

@@ -5,9 +5,9 @@ use mathlib.Core.List.{List, _++_}
 use mathlib.Core.Path.{_≡_}
 use lib.ListN.{length, replicate}
 use Rattle.refusals.specs.declared.Checked.the-variants.{Good}
-use Rattle.refusals.specs.Given.{ifGood, Given}
+use Rattle.refusals.specs.declared.Written.{Written}
+use Rattle.refusals.specs.Given.{WritesOut}
 use Rattle.load.specs.Load.{mostRows, mostSteps}
-use Rattle.lines.specs.declared.Printed.{Printed}
 use Rattle.lines.specs.declared.Text.{Text}
 use Rattle.lines.specs.Lines.{printed}
 
@@ -39,6 +39,5 @@ TextOf bs r = r ≡ textHolding (printed bs)
 
 -- print_lines(bytes, out): 9 where the output is too short, length 0, and the output as it was; or
 -- Good, the length of what the program prints for the file, and that at the output's front
-pub record PrintLines (bs out : List ℕ) (r : Printed) (after : List ℕ) : Type 0 where
-  pub given : Given Good (printed bs) out (r .answer) after
-  pub length-is : r .length ≡ ifGood (r .answer) (length (printed bs)) 0
+abbrev pub PrintLines : List ℕ → List ℕ → Written → List ℕ → Type 0
+PrintLines bs out r after = WritesOut Good (printed bs) out r after

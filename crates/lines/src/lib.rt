@@ -7,6 +7,7 @@ mod word;
 use gather::put_printed;
 use refusals::Checked;
 use refusals::Refusal;
+use refusals::Written;
 use words::overwrite;
 ghost use Rattle.lines.specs.Calls.{PrintLines, TextOf};
 
@@ -18,12 +19,6 @@ pub const TEXT_PLACES: usize = 8525;
 pub struct Text {
     pub length: usize,
     pub bytes: [u8; TEXT_PLACES],
-}
-
-// What a printing gives: Good and how many bytes were written, or the refusal and 0.
-pub struct Printed {
-    pub answer: Checked,
-    pub length: usize,
 }
 
 // Gives all that the program prints for a load file. It refuses nothing, as there is room for every
@@ -41,20 +36,20 @@ pub fn text_of(bytes: &[u8]) -> Text
 
 // Writes what the program prints for a load file at the output's front. Refuses an output that is
 // shorter (9), and then alters no byte. Bytes past what is printed stay.
-pub fn print_lines(bytes: &[u8], out: &mut [u8]) -> Printed
+pub fn print_lines(bytes: &[u8], out: &mut [u8]) -> Written
     ensures { λ r. ⌜ PrintLines (now (bytes .entry)) (now (out .entry)) r (now (out .exit)) ⌝ }
 {
     let text = text_of(bytes);
     let length = text.length;
     if out.len() < length {
-        return Printed {
+        return Written {
             answer: Checked::Refused(Refusal::OutputShort),
             length: 0,
         };
     }
     let held = text.bytes;
     overwrite(out, 0, &held[..length]);
-    Printed {
+    Written {
         answer: Checked::Good,
         length,
     }

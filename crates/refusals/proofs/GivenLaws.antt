@@ -1,15 +1,21 @@
 -- What comes with a finding, by what it is. The three ways in which a writing call ends, each with what the contract
--- asks of it: the finding is refused, the output is too short for the answer, or the answer is written.
+-- asks of it: the finding is refused, the output is too short for the answer, or the answer is written. And a length
+-- that is told: it is decided, and no more than the output has.
 use Prim.Native.Nat.{_≤_, _<_}
-use mathlib.Core.List.{List}
-use mathlib.Core.Path.{_≡_, refl, sym, _∙_}
+use mathlib.Core.List.{List, [], _∷_}
+use mathlib.Core.Path.{_≡_, refl, ap, ap₂, sym, _∙_}
+use native.Mathlib.Omega.{arith}
 use lib.ListN.{length}
-use borrow.Author.Tests.{lt-ltb, le-ltb}
+use borrow.Author.Tests.{lt-ltb, le-ltb, ltb-false}
 use Rattle.refusals.specs.declared.Refusal.{Refusal}
 use Rattle.refusals.specs.declared.Refusal.the-variants.{OutputShort}
 use Rattle.refusals.specs.declared.Checked.{Checked}
 use Rattle.refusals.specs.declared.Checked.the-variants.{Good, Refused}
-use Rattle.refusals.specs.Given.{ifGood, written, Given}
+use Rattle.refusals.specs.declared.Written.{Written}
+use Rattle.refusals.specs.FirstMet.{firstFault}
+use Rattle.refusals.specs.Given.{ifGood, written, roomFor, Given, WritesOut}
+use Rattle.refusals.proofs.FirstMetLaws.{andThen-good-first, andThen-good-second, firstMet-good-first}
+use Rattle.refusals.proofs.CallLaws.{Given-unique-finding, Given-unique-output}
 
 module _ {A : Type 0} (finding : Checked) (answer none : A) where
   pub ifGood-good : finding ≡ Good → ifGood finding answer none ≡ answer
@@ -44,3 +50,28 @@ refused-alike finding refusal answer other out found after e g =
           ∙ ifGood-refused found (written answer out) out refusal refused
           ∙ sym (ifGood-refused found (written other out) out refusal refused);
     }
+
+-- the length that is told
+module _ {A : Type 0} (finding : Checked) (answer out : List A) where
+  pub WritesOut-unique : (r s : Written) (after later : List A) → WritesOut finding answer out r after
+      → WritesOut finding answer out s later → (r ≡ s) × (after ≡ later)
+  WritesOut-unique r s after later p q =
+      let answers =
+      Given-unique-finding finding answer out (r .answer) (s .answer) after later (p .given) (q .given) in
+      let lengths = p .length-is ∙ ap (λ c. ifGood c (length answer) 0) answers ∙ sym (q .length-is) in (
+        ap₂ (λ c n. record { answer = c; length = n }) answers lengths,
+        Given-unique-output finding answer out (r .answer) (s .answer) after later (p .given) (q .given),
+      )
+
+  pub WritesOut-length-le : (r : Written) (after : List A) → WritesOut finding answer out r after
+      → r .length ≤ length out
+  WritesOut-length-le r after p = go (r .answer) (p .given .finding-is) (p .length-is)
+    where
+      go : (c : Checked) → c ≡ firstFault (finding ∷ roomFor answer out ∷ []) → r .length ≡ ifGood c (length answer) 0
+          → r .length ≤ length out
+      go (Refused refusal) e h = omega arith
+      go Good e h =
+          let behind = andThen-good-second finding (firstFault (roomFor answer out ∷ [])) (sym e) in
+          let fits = andThen-good-first (roomFor answer out) Good behind in
+          let room = ltb-false (length out) (length answer) (firstMet-good-first _ [] fits) in
+          omega arith

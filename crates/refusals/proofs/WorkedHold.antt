@@ -19,4 +19,7 @@ worked-hold =
       bytes-past = record { finding-is = refl; output-is = refl };
       refused-leaves = record { finding-is = refl; output-is = refl };
       nine-last = record { finding-is = refl; output-is = refl };
+      length-told = record { given = record { finding-is = refl; output-is = refl }; length-is = refl };
+      short-length = record { given = record { finding-is = refl; output-is = refl }; length-is = refl };
+      refused-length = record { given = record { finding-is = refl; output-is = refl }; length-is = refl };
     }

@@ -8,6 +8,7 @@ use lib.ListN.{length, drop}
 use Rattle.refusals.specs.declared.Refusal.the-variants.{OutputShort}
 use Rattle.refusals.specs.declared.Checked.{Checked}
 use Rattle.refusals.specs.declared.Checked.the-variants.{Good, Refused}
+use Rattle.refusals.specs.declared.Written.{Written}
 use Rattle.refusals.specs.FirstMet.{firstFault, firstMet}
 
 -- what comes with a finding: the answer where nothing is refused, else what a refusal leaves
@@ -28,3 +29,9 @@ pub record Given {A : Type 0} (finding : Checked) (answer out : List A) (found :
     (after : List A) : Type 0 where
   pub finding-is : found ≡ firstFault (finding ∷ roomFor answer out ∷ [])
   pub output-is : after ≡ ifGood found (written answer out) out
+
+-- what a writing call gives that tells a length: the answer's where it is written, else 0
+pub record WritesOut {A : Type 0} (finding : Checked) (answer out : List A) (r : Written)
+    (after : List A) : Type 0 where
+  pub given : Given finding answer out (r .answer) after
+  pub length-is : r .length ≡ ifGood (r .answer) (length answer) 0

@@ -8,11 +8,17 @@ use mathlib.Core.Path.{_≡_}
 use lib.Dec.{eqb}
 use Rattle.refusals.specs.declared.Refusal.the-variants.{MarkDiffers, OutOfRange, BoxTaken}
 use Rattle.refusals.specs.declared.Refusal.the-variants.{OutputShort, ClockFull}
+use Rattle.refusals.specs.declared.Checked.{Checked}
 use Rattle.refusals.specs.declared.Checked.the-variants.{Good, Refused}
+use Rattle.refusals.specs.declared.Written.{Written}
 use Rattle.refusals.specs.Refusals.{numberOf, lastNumber, numberGiven}
 use Rattle.refusals.specs.Table.{table, numbersTo}
 use Rattle.refusals.specs.FirstMet.{firstMet, firstFault, firstFaultTo}
-use Rattle.refusals.specs.Given.{Given}
+use Rattle.refusals.specs.Given.{Given, WritesOut}
+
+-- what a writing call gives that tells a length
+abbrev pub told : Checked → ℕ → Written
+told answer length = record { answer = answer; length = length }
 
 -- the worked cases
 pub record WorkedCases : Type 0 where
@@ -46,3 +52,12 @@ pub record WorkedCases : Type 0 where
   -- 9 comes last: a finding and a short room at once give the finding
   pub nine-last :
       Given {A = ℕ} (Refused ClockFull) (1 ∷ 2 ∷ []) (7 ∷ []) (Refused ClockFull) (7 ∷ [])
+  -- the length told is the answer's, and not the output's
+  pub length-told :
+      WritesOut {A = ℕ} Good (1 ∷ 2 ∷ []) (7 ∷ 8 ∷ 9 ∷ []) (told Good 2) (1 ∷ 2 ∷ 9 ∷ [])
+  -- where the room is too short the length is 0
+  pub short-length :
+      WritesOut {A = ℕ} Good (1 ∷ 2 ∷ []) (7 ∷ []) (told (Refused OutputShort) 0) (7 ∷ [])
+  -- and where the call is refused, though the answer would fit
+  pub refused-length :
+      WritesOut {A = ℕ} (Refused BoxTaken) (1 ∷ []) (7 ∷ []) (told (Refused BoxTaken) 0) (7 ∷ [])

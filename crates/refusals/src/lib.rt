@@ -28,6 +28,13 @@ pub enum Checked {
     Refused(Refusal),
 }
 
+// What a call gives that writes and tells a length: Good and the length of what was written, or the
+// refusal and 0.
+pub struct Written {
+    pub answer: Checked,
+    pub length: usize,
+}
+
 // Gives a refusal's number.
 pub fn number_of(refusal: Refusal) -> u32
     ensures { λ r. ⌜ NumberOf refusal r ⌝ }

@@ -3,9 +3,11 @@
 use Prim.Native.Nat.{ℕ}
 use mathlib.Core.List.{List, [], _∷_}
 use mathlib.Core.Path.{_≡_, refl}
+use lib.ListN.{length}
 use Rattle.refusals.specs.declared.Checked.{Checked}
+use Rattle.refusals.specs.declared.Written.{Written}
 use Rattle.refusals.specs.FirstMet.{firstFault}
-use Rattle.refusals.specs.Given.{ifGood, written, roomFor, Given}
+use Rattle.refusals.specs.Given.{ifGood, written, roomFor, Given, WritesOut}
 use Rattle.demands.specs.FileCalls.{Wrote, Writes}
 use Rattle.demands.specs.Sameness.{OneResult}
 use Rattle.demands.specs.JoinedContract.{Relation}
@@ -34,4 +36,18 @@ given finding answer out =
     record {
       result = record { gives = found; after = ifGood found (written answer out) out };
       met = record { finding-is = refl; output-is = refl };
+    }
+
+-- and one that tells a length by that besides
+pub writes-out : (finding : Checked) (answer out : List ℕ)
+    → Answer (Wrote Written) (Writes (WritesOut finding answer out))
+writes-out finding answer out =
+    let g = given finding answer out in
+    let found = g .result .gives in
+    record {
+      result = record {
+        gives = record { answer = found; length = ifGood found (length answer) 0 };
+        after = g .result .after;
+      };
+      met = record { given = g .met; length-is = refl };
     }

@@ -2,10 +2,8 @@
 use Prim.Native.Nat.{ℕ}
 use mathlib.Core.List.{List}
 use mathlib.Core.Path.{refl}
-use lib.ListN.{length}
 use Rattle.refusals.specs.declared.Checked.the-variants.{Good}
 use Rattle.refusals.specs.Refusals.{numberGiven}
-use Rattle.refusals.specs.Given.{ifGood}
 use Rattle.load.specs.View.{View, viewOf}
 use Rattle.load_file.specs.Places.{loadIn}
 use Rattle.load_file.specs.Reading.{fileFault}
@@ -17,9 +15,7 @@ use Rattle.reading_bench.proofs.CallLaws.{
   BenchMargins-unique,
   BenchSchedule-unique,
 }
-use Rattle.lines.specs.declared.Printed.{Printed}
 use Rattle.lines.specs.Lines.{printed}
-use Rattle.lines.specs.Calls.{PrintLines}
 use Rattle.lines.proofs.CallLaws.{TextOf-unique, PrintLines-unique}
 use Rattle.demands.specs.FileCalls.{Wrote, Writes}
 use Rattle.demands.specs.HostCalls.{EveryHostCall}
@@ -27,7 +23,7 @@ use Rattle.demands.specs.Sameness.{OneResult}
 use Rattle.demands.specs.JoinedContract.{Relation}
 use Rattle.demands.specs.Demand1.{Answer}
 use Rattle.demands.proofs.contracts.HostContracts.{HostContracts}
-use Rattle.demands.proofs.calls.CallAnswers.{listed, both, is, given}
+use Rattle.demands.proofs.calls.CallAnswers.{listed, both, is, given, writes-out}
 
 abbrev pub host-relations : EveryHostCall Relation
 host-relations =
@@ -71,24 +67,11 @@ for-c answer bs out =
       met = record { found = g .result .gives; given = g .met; number-is = refl };
     }
 
--- printing says how much is written
-printing : (bs out : List ℕ) → Answer (Wrote Printed) (Writes (PrintLines bs out))
-printing bs out =
-    let g = given Good (printed bs) out in
-    let found = g .result .gives in
-    record {
-      result = record {
-        gives = record { answer = found; length = ifGood found (length (printed bs)) 0 };
-        after = g .result .after;
-      };
-      met = record { given = g .met; length-is = refl };
-    }
-
 pub host-answers : EveryHostCall Answer
 host-answers =
     record {
       text-of = λ bs. is _;
-      print-lines = printing;
+      print-lines = λ bs out. writes-out Good (printed bs) out;
       bench-bound = for-c boundBytes;
       bench-verdict = for-c verdictBytes;
       bench-margins = for-c marginBytes;

@@ -3,6 +3,7 @@
 use Rattle.rules.specs.Margins.{marginBytes}
 use Rattle.schedule.specs.Calls.{firstSlots}
 use Rattle.reading_bench.specs.Calls.{boundBytes, verdictBytes, scheduleFile}
+use Rattle.lines.specs.Lines.{printed}
 use Rattle.demands.specs.Numbers.{Numbers}
 use Rattle.demands.proofs.demand1.CallNumbers.{
   load-gives,
@@ -13,7 +14,7 @@ use Rattle.demands.proofs.demand1.CallNumbers.{
   schedule-gives,
   move-gives,
 }
-use Rattle.demands.proofs.demand1.WritingCalls.{load-written-gives, slots-written-give, c-gives, lines-give}
+use Rattle.demands.proofs.demand1.WritingCalls.{load-written-gives, slots-written-give, c-gives, out-gives}
 
 pub numbers : Numbers
 numbers =
@@ -37,5 +38,5 @@ numbers =
       bench-verdict = c-gives verdictBytes;
       bench-margins = c-gives marginBytes;
       bench-schedule = c-gives scheduleFile;
-      print-lines = lines-give;
+      print-lines = λ bs out r after p. out-gives (printed bs) out r after p;
     }

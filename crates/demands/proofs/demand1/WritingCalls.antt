@@ -1,4 +1,4 @@
--- The calls that write: with which numbers a call for C and printing refuse, and that a refusal leaves the output.
+-- The calls that write: with which numbers they refuse, and that a refusal leaves the output.
 use Prim.Native.Nat.{ℕ}
 use mathlib.Core.Bool.{true}
 use mathlib.Core.List.{List, [], _∷_, _++_}
@@ -11,8 +11,9 @@ use Rattle.refusals.specs.declared.Refusal.{Refusal}
 use Rattle.refusals.specs.declared.Refusal.the-variants.{OutOfRange, OutputShort}
 use Rattle.refusals.specs.declared.Checked.{Checked}
 use Rattle.refusals.specs.declared.Checked.the-variants.{Good, Refused}
+use Rattle.refusals.specs.declared.Written.{Written}
 use Rattle.refusals.specs.Refusals.{numberGiven}
-use Rattle.refusals.specs.Given.{ifGood, written, Given}
+use Rattle.refusals.specs.Given.{ifGood, written, Given, WritesOut}
 use Rattle.refusals.proofs.GivenLaws.{ifGood-refused}
 use Rattle.load.specs.declared.Load.{Load}
 use Rattle.load.specs.View.{View, viewOf}
@@ -26,9 +27,6 @@ use Rattle.rules.specs.Slots.{mostSlots}
 use Rattle.schedule_file.specs.ScheduleFile.{slotsFault, scheduleBytes}
 use Rattle.schedule_file.specs.Calls.{WriteSchedule}
 use Rattle.reading_bench.specs.Calls.{ForC}
-use Rattle.lines.specs.declared.Printed.{Printed}
-use Rattle.lines.specs.Lines.{printed}
-use Rattle.lines.specs.Calls.{PrintLines}
 use Rattle.demands.specs.NumberLists.{OneOf, ofLoad, ofFile, ofOutput, ofC, ofWriting, ofSlotWriting}
 use Rattle.demands.proofs.demand1.NumberLaws.{Gives, tests-give, then-gives, last-gives, eachAmong, OneOf-more}
 use Rattle.demands.proofs.demand1.CallNumbers.{load-gives, file-gives}
@@ -72,11 +70,12 @@ c-gives answer bs out r after c =
     (given-gives ofC (fileFault bs) (answer (viewOf (loadIn bs))) out (c .found) after refl
     (with-nine ofFile (fileFault bs) refl (file-gives bs)) (c .given))
 
-pub lines-give : (bs out : List ℕ) (r : Printed) (after : List ℕ) → PrintLines bs out r after
+-- a call that refuses nothing but a short output gives 9 alone
+pub out-gives : (answer out : List ℕ) (r : Written) (after : List ℕ) → WritesOut Good answer out r after
     → OneOf ofOutput (numberGiven (r .answer))
 unfolding anyIn
-lines-give bs out r after p =
-    given-gives ofOutput Good (printed bs) out (r .answer) after refl (record { number = refl }) (p .given)
+out-gives answer out r after p =
+    given-gives ofOutput Good answer out (r .answer) after refl (record { number = refl }) (p .given)
 
 -- a finding whose number is not 0 leaves the output
 number-stays : (finding : Checked) (answer out : List ℕ) (found : Checked) (after : List ℕ)
@@ -93,7 +92,7 @@ c-keeps answer bs out r after c ne =
     number-stays (fileFault bs) (answer (viewOf (loadIn bs))) out (c .found) after (c .given)
     (λ e. ne (c .number-is ∙ e))
 
-pub lines-keep : (bs out : List ℕ) (refusal : Refusal) (r : Printed) (after : List ℕ) → PrintLines bs out r after
-    → r .answer ≡ Refused refusal → after ≡ out
-lines-keep bs out refusal r after p e =
-    p .given .output-is ∙ ifGood-refused (r .answer) (written (printed bs) out) out refusal e
+pub out-keeps : (finding : Checked) (answer out : List ℕ) (refusal : Refusal) (r : Written) (after : List ℕ)
+    → WritesOut finding answer out r after → r .answer ≡ Refused refusal → after ≡ out
+out-keeps finding answer out refusal r after p e =
+    p .given .output-is ∙ ifGood-refused (r .answer) (written answer out) out refusal e
