@@ -10,7 +10,7 @@ use Rattle.load.specs.declared.Step.{Step}
 use Rattle.load.specs.declared.Window.{Window}
 use Rattle.load.specs.declared.Row.{Row}
 use Rattle.load.specs.declared.Load.{Load}
-use Rattle.load.specs.Calls.{CheckLoad, CheckFields, CheckStep, CheckWindow}
+use Rattle.load.specs.Calls.{CheckLoad, CheckFields, CheckStep, CheckWindow, CheckParts}
 use Rattle.load.specs.Calls.{IdentifierTaken, BoxTaken, RowAt, StepAt, WindowAt, EmbeddedAt}
 use Rattle.load.specs.Calls.{ChainBetween, StepsIn, ZeroRow, ZeroLoad}
 
@@ -21,6 +21,7 @@ pub record EveryLoadCall {ℓ} (Claim : (A : Type 0) → (A → Type 0) → Type
   pub check-fields : (row : Row) → Claim Checked (CheckFields row)
   pub check-step : (row : Row) (j : ℕ) → Claim Checked (CheckStep row j)
   pub check-window : (row : Row) (k : ℕ) → Claim Checked (CheckWindow row k)
+  pub check-parts : (row : Row) → Claim Checked (CheckParts row)
   pub identifier-taken : (identifiers : List Identifier) (n : ℕ) (identifier : Identifier)
       → Claim Bool (IdentifierTaken identifiers n identifier)
   pub box-taken : (boxes : List BoxNumber) (n : ℕ) (box : BoxNumber)

@@ -33,7 +33,7 @@ ofSlots = 12 ∷ 13 ∷ 14 ∷ 15 ∷ 16 ∷ 17 ∷ []
 abbrev pub ofRange : List ℕ
 ofRange = 3 ∷ []
 
--- 3, 6 and 7: a window
+-- 3, 6 and 7: a window, and the parts of a row
 abbrev pub ofWindow : List ℕ
 ofWindow = 3 ∷ 6 ∷ 7 ∷ []
 

@@ -7,7 +7,7 @@ use Rattle.refusals.specs.declared.Written.{Written}
 use Rattle.refusals.specs.Refusals.{numberGiven}
 use Rattle.load.specs.declared.Row.{Row}
 use Rattle.load.specs.declared.Load.{Load}
-use Rattle.load.specs.Calls.{CheckLoad, CheckFields, CheckStep, CheckWindow}
+use Rattle.load.specs.Calls.{CheckLoad, CheckFields, CheckStep, CheckWindow, CheckParts}
 use Rattle.load_records.specs.Calls.{WriteLoad}
 use Rattle.load_file.specs.declared.Reading.{Reading}
 use Rattle.load_file.specs.Calls.{ReadLoad}
@@ -42,6 +42,7 @@ pub record Numbers : Type 0 where
       → OneOf ofRange (numberGiven r)
   pub check-window : (row : Row) (k : ℕ) (r : Checked) → CheckWindow row k r
       → OneOf ofWindow (numberGiven r)
+  pub check-parts : (row : Row) (r : Checked) → CheckParts row r → OneOf ofWindow (numberGiven r)
   -- a file that is read, and one that is written
   pub read-load : (bs : List ℕ) (r : Reading) → ReadLoad bs r
       → OneOf ofFile (numberGiven (r .answer))

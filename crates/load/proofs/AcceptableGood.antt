@@ -32,6 +32,7 @@ use Rattle.load.specs.Check.{
   checkTaken,
   checkStep,
   checkWindow,
+  checkParts,
   rowFault,
   checkLoad,
 }
@@ -116,7 +117,7 @@ module _ (load : Load) (ok : Acceptable (viewOf load)) (reg : Registered load) (
         )
 
     row-good : rowFault load i (rowAt load i) ≡ Good
-    unfolding rowFault
+    unfolding rowFault checkParts
     row-good =
         rw (
           fields-good,

@@ -44,6 +44,7 @@ use Rattle.load.specs.Check.{
   checkTaken,
   checkStep,
   checkWindow,
+  checkParts,
   rowFault,
   checkLoad,
 }
@@ -60,10 +61,12 @@ loadFindings load =
 
 -- what `rowFault` finds, in its order
 abbrev rowFindings : Load → ℕ → Row → List Checked
-rowFindings load i row =
-    checkFields row
-    ∷ checkTaken load i row
-    ∷ firstFaultTo (checkStep row) (row .steps)
+rowFindings load i row = checkFields row ∷ checkTaken load i row ∷ checkParts row ∷ []
+
+-- what `checkParts` finds, in its order
+abbrev partFindings : Row → List Checked
+partFindings row =
+    firstFaultTo (checkStep row) (row .steps)
     ∷ allZero (zeroStepsFrom row (row .steps))
     ∷ firstFaultTo (checkWindow row) (row .windows)
     ∷ allZero (zeroWindowsFrom row (row .windows))
@@ -106,6 +109,10 @@ module _ (load : Load) (e : checkLoad load ≡ Good) where
         (firstFaultTo-good (λ i. rowFault load i (rowAt load i)) (load .rows) (finding 1) i l)
         k
 
+    part-finding : (k : ℕ) → findingAt (partFindings (rowAt load i)) k ≡ Good
+    unfolding checkParts
+    part-finding k = firstFault-good (partFindings (rowAt load i)) (row-finding 2) k
+
     field : (k : ℕ) → testAt (rowTests (rowAt load i)) k ≡ false
     field k = firstMet-good (rowTests (rowAt load i)) (row-finding 0) k
 
@@ -115,13 +122,13 @@ module _ (load : Load) (e : checkLoad load ≡ Good) where
     step-test : (j : ℕ) → j < rowAt load i .steps → (k : ℕ) → testAt (stepTests (rowAt load i) j) k ≡ false
     step-test j h k =
         firstMet-good (stepTests (rowAt load i) j)
-        (firstFaultTo-good (checkStep (rowAt load i)) (rowAt load i .steps) (row-finding 2) j h)
+        (firstFaultTo-good (checkStep (rowAt load i)) (rowAt load i .steps) (part-finding 0) j h)
         k
 
     window-test : (p : ℕ) → p < rowAt load i .windows → (k : ℕ) → testAt (windowTests (rowAt load i) p) k ≡ false
     window-test p h k =
         firstMet-good (windowTests (rowAt load i) p)
-        (firstFaultTo-good (checkWindow (rowAt load i)) (rowAt load i .windows) (row-finding 4) p h)
+        (firstFaultTo-good (checkWindow (rowAt load i)) (rowAt load i .windows) (part-finding 2) p h)
         k
 
     -- the tests of a window that the view has
@@ -184,9 +191,9 @@ module _ (load : Load) (e : checkLoad load ≡ Good) where
         windows-there = windows-stand;
         rows-unused = allFrom-true (λ i. isZeroRow (rowAt load i)) _ _ (allZero-good _ (finding 2));
         steps-unused = λ i j l.
-            allFrom-true (λ j. isZeroStep (stepAt (rowAt load i) j)) _ _ (allZero-good _ (row-finding i l 3)) j;
+            allFrom-true (λ j. isZeroStep (stepAt (rowAt load i) j)) _ _ (allZero-good _ (part-finding i l 1)) j;
         windows-unused = λ i p l.
-            allFrom-true (λ p. isZeroWindow (windowAt (rowAt load i) p)) _ _ (allZero-good _ (row-finding i l 5)) p;
+            allFrom-true (λ p. isZeroWindow (windowAt (rowAt load i) p)) _ _ (allZero-good _ (part-finding i l 3)) p;
       }
 
   pub check-acceptable : Acceptable (viewOf load)

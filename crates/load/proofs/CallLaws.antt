@@ -15,6 +15,7 @@ use Rattle.load.specs.Calls.{
   CheckFields,
   CheckStep,
   CheckWindow,
+  CheckParts,
   IdentifierTaken,
   BoxTaken,
   RowAt,
@@ -38,6 +39,9 @@ CheckStep-unique row j r s p q = p ∙ sym q
 
 pub CheckWindow-unique : (row : Row) (k : ℕ) (r s : Checked) → CheckWindow row k r → CheckWindow row k s → r ≡ s
 CheckWindow-unique row k r s p q = p ∙ sym q
+
+pub CheckParts-unique : (row : Row) (r s : Checked) → CheckParts row r → CheckParts row s → r ≡ s
+CheckParts-unique row r s p q = p ∙ sym q
 
 pub IdentifierTaken-unique : (identifiers : List Identifier) (n : ℕ) (identifier : Identifier) (r s : Bool)
     → IdentifierTaken identifiers n identifier r → IdentifierTaken identifiers n identifier s → r ≡ s

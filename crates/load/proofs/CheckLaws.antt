@@ -24,6 +24,7 @@ use Rattle.load.specs.Check.{
   checkTaken,
   checkStep,
   checkWindow,
+  checkParts,
   rowFault,
   checkLoad,
 }
@@ -43,20 +44,21 @@ pub record RowGood (load : Load) (i : ℕ) (row : Row) : Type 0 where
 
 module _ (load : Load) (i : ℕ) (row : Row) where
   pub rowFault-good : rowFault load i row ≡ Good → RowGood load i row
-  unfolding rowFault
+  unfolding rowFault checkParts
   rowFault-good h =
-      let finding = firstFault-good (_ ∷ _ ∷ _ ∷ _ ∷ _ ∷ _ ∷ []) h in
+      let finding = firstFault-good (_ ∷ _ ∷ _ ∷ []) h in
+      let part = firstFault-good (_ ∷ _ ∷ _ ∷ _ ∷ []) (finding 2) in
       record {
         fields-good = finding 0;
         taken-good = finding 1;
-        each-step-good = firstFaultTo-good (checkStep row) (row .steps) (finding 2);
-        steps-zero = allZero-good (zeroStepsFrom row (row .steps)) (finding 3);
-        each-window-good = firstFaultTo-good (checkWindow row) (row .windows) (finding 4);
-        windows-zero = allZero-good (zeroWindowsFrom row (row .windows)) (finding 5);
+        each-step-good = firstFaultTo-good (checkStep row) (row .steps) (part 0);
+        steps-zero = allZero-good (zeroStepsFrom row (row .steps)) (part 1);
+        each-window-good = firstFaultTo-good (checkWindow row) (row .windows) (part 2);
+        windows-zero = allZero-good (zeroWindowsFrom row (row .windows)) (part 3);
       }
 
   pub good-rowFault : RowGood load i row → rowFault load i row ≡ Good
-  unfolding rowFault
+  unfolding rowFault checkParts
   good-rowFault r =
       let steps = good-firstFaultTo (checkStep row) (row .steps) (r .each-step-good) in
       let no-steps = good-allZero (zeroStepsFrom row (row .steps)) (r .steps-zero) in

@@ -7,15 +7,16 @@ use Rattle.refusals.specs.FirstMet.{firstFaultTo}
 use Rattle.load.specs.Load.{zeroRow}
 use Rattle.load.specs.View.{viewOf, chain, embedded}
 use Rattle.load.specs.Faults.{rowTests, takenTests, stepTests, windowTests}
-use Rattle.load.specs.Check.{rowFault, checkLoad}
+use Rattle.load.specs.Check.{checkParts, rowFault, checkLoad}
 use Rattle.load.specs.WorkedRanges.{numbersOf, five, WorkedRanges}
 use Rattle.load.specs.WorkedWindows.{WorkedWindows}
 use Rattle.load.specs.WorkedCases.{notZero, WorkedCases}
+use Rattle.load.specs.WorkedParts.{numbersOfParts, WorkedParts}
 
 -- to open this is to open all that its line names
 unfoldable computing : ℕ
 unfolding sumTo allTo anyTo joinTo anyIn firstFaultTo zeroRow viewOf chain embedded rowTests takenTests
-    stepTests windowTests rowFault checkLoad numbersOf
+    stepTests windowTests checkParts rowFault checkLoad numbersOf
 computing = 0
 
 pub ranges-hold : WorkedRanges
@@ -71,3 +72,7 @@ cases-hold =
       unused-windows = refl;
       unused-rows = refl;
     }
+
+pub parts-hold : WorkedParts
+unfolding computing five numbersOfParts
+parts-hold = record { fields-not-asked = refl; places = refl; in-order = refl }

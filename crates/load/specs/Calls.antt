@@ -16,7 +16,7 @@ use Rattle.load.specs.declared.Row.{Row}
 use Rattle.load.specs.declared.Load.{Load}
 use Rattle.load.specs.Load.{mostRows, rowAt, stepAt, windowAt, zeroRow, zeroLoad}
 use Rattle.load.specs.View.{viewOf, rowWindows, chainBetween, embeddedAmong, stepsInAll}
-use Rattle.load.specs.Check.{checkFields, checkStep, checkWindow, checkLoad}
+use Rattle.load.specs.Check.{checkFields, checkStep, checkWindow, checkParts, checkLoad}
 
 -- check_load(load): the first of 3 to 7, or Good
 abbrev pub CheckLoad : Load → Checked → Type 0
@@ -33,6 +33,10 @@ CheckStep row j r = r ≡ checkStep row j
 -- check_window(row, k): the window at a place, past the last a window of zeros
 abbrev pub CheckWindow : Row → ℕ → Checked → Type 0
 CheckWindow row k r = r ≡ checkWindow row k
+
+-- check_parts(row): a row's steps and windows, and their unused places
+abbrev pub CheckParts : Row → Checked → Type 0
+CheckParts row r = r ≡ checkParts row
 
 -- identifier_taken(identifiers, n, identifier): one of the first n, of at most 24, is that
 -- identifier

@@ -65,18 +65,19 @@ checkStep row j = firstMet (stepTests row j)
 abbrev pub checkWindow : Row → ℕ → Checked
 checkWindow row k = firstMet (windowTests row k)
 
--- the row at place i: its fields, 4 and 5, its steps, their unused places, its windows, their
--- unused places
-unfoldable pub rowFault : Load → ℕ → Row → Checked
-rowFault load i row =
+-- the parts of a row: its steps, their unused places, its windows, their unused places
+unfoldable pub checkParts : Row → Checked
+checkParts row =
     firstFault
-    (checkFields row
-    ∷ checkTaken load i row
-    ∷ firstFaultTo (checkStep row) (row .steps)
+    (firstFaultTo (checkStep row) (row .steps)
     ∷ allZero (zeroStepsFrom row (row .steps))
     ∷ firstFaultTo (checkWindow row) (row .windows)
     ∷ allZero (zeroWindowsFrom row (row .windows))
     ∷ [])
+
+-- the row at place i: its fields, 4 and 5, its parts
+unfoldable pub rowFault : Load → ℕ → Row → Checked
+rowFault load i row = firstFault (checkFields row ∷ checkTaken load i row ∷ checkParts row ∷ [])
 
 -- the check of a load in memory: the row count, the rows in order, the unused rows
 unfoldable pub checkLoad : Load → Checked

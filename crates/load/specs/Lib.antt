@@ -9,3 +9,4 @@ pub mod Notation
 pub mod WorkedRanges
 pub mod WorkedWindows
 pub mod WorkedCases
+pub mod WorkedParts

@@ -16,21 +16,13 @@ use crate::zeros::zero_windows_from;
 use refusals::Checked;
 use refusals::Refusal;
 ghost use mathlib.Core.Path.{_≡_};
-ghost use mathlib.Core.List.{[], _∷_};
 ghost use Prim.Native.Nat.{ℕ, _≤_};
-ghost use Rattle.refusals.specs.FirstMet.{firstFault, firstFaultTo};
+ghost use Rattle.refusals.specs.FirstMet.{firstFaultTo};
 ghost use Rattle.load.specs.declared.Load.{Load};
 ghost use Rattle.load.specs.Load.{mostRows, rowAt};
 ghost use Rattle.load.specs.Faults.{identifierTaken, boxTaken};
-ghost use Rattle.load.specs.Check.{
-  allZero,
-  checkStep,
-  checkWindow,
-  rowFault,
-  zeroStepsFrom,
-  zeroWindowsFrom,
-};
-ghost use Rattle.load.specs.Calls.{CheckLoad};
+ghost use Rattle.load.specs.Check.{checkStep, checkWindow, rowFault};
+ghost use Rattle.load.specs.Calls.{CheckLoad, CheckParts};
 
 // Checks the used steps of a row.
 fn check_steps(row: Row) -> Checked
@@ -66,14 +58,10 @@ fn check_windows(row: Row) -> Checked
     Checked::Good
 }
 
-// Checks the steps of a row, their unused places, its windows, and their unused places.
-fn check_parts(row: Row) -> Checked
-    ensures { λ r. ⌜ r ≡ firstFault
-        (firstFaultTo (checkStep row) (row .steps)
-        ∷ allZero (zeroStepsFrom row (row .steps))
-        ∷ firstFaultTo (checkWindow row) (row .windows)
-        ∷ allZero (zeroWindowsFrom row (row .windows))
-        ∷ []) ⌝ }
+// Checks the parts of a row, whatever its own fields hold: its steps, their unused places, its
+// windows, and their unused places. A step or a window that is counted past the last place is 3.
+pub fn check_parts(row: Row) -> Checked
+    ensures { λ r. ⌜ CheckParts row r ⌝ }
 {
     let steps = check_steps(row);
     match steps {

@@ -11,6 +11,7 @@ mod zeros;
 
 pub use chains::chain_between;
 pub use check::check_load;
+pub use check::check_parts;
 pub use faults::check_fields;
 pub use faults::check_step;
 pub use faults::check_window;

@@ -8,7 +8,7 @@ use Rattle.refusals.specs.FirstMet.{firstFaultTo}
 use Rattle.load.specs.Load.{zeroRow}
 use Rattle.load.specs.View.{viewOf, chain}
 use Rattle.load.specs.Faults.{rowTests, takenTests, stepTests, windowTests}
-use Rattle.load.specs.Check.{rowFault, checkLoad}
+use Rattle.load.specs.Check.{checkParts, rowFault, checkLoad}
 use Rattle.load_records.specs.Writing.{rowBytes, loadBytes}
 use Rattle.load_records.specs.WorkedFile.{joined, file, spelled}
 use Rattle.load_records.specs.WorkedCases.{WorkedCases}
@@ -16,7 +16,7 @@ use Rattle.load_records.specs.WorkedCases.{WorkedCases}
 -- to open this is to open all that its line names
 unfoldable computing : ℕ
 unfolding sumTo allTo anyTo joinTo joinIn littleEndian firstFaultTo zeroRow viewOf chain rowTests takenTests stepTests
-    windowTests rowFault checkLoad rowBytes loadBytes joined file spelled
+    windowTests checkParts rowFault checkLoad rowBytes loadBytes joined file spelled
 computing = 0
 
 pub worked-hold : WorkedCases

@@ -5,6 +5,7 @@ use Rattle.load.proofs.CallLaws.{
   CheckFields-unique,
   CheckStep-unique,
   CheckWindow-unique,
+  CheckParts-unique,
   IdentifierTaken-unique,
   BoxTaken-unique,
   RowAt-unique,
@@ -30,6 +31,7 @@ load-relations =
       check-fields = λ row. listed;
       check-step = λ row j. listed;
       check-window = λ row k. listed;
+      check-parts = λ row. listed;
       identifier-taken = λ identifiers n identifier. listed;
       box-taken = λ boxes n box. listed;
       row-at = λ load i. listed;
@@ -49,6 +51,7 @@ load-contracts =
       check-fields = refl;
       check-step = refl;
       check-window = refl;
+      check-parts = refl;
       identifier-taken = refl;
       box-taken = refl;
       row-at = refl;
@@ -68,6 +71,7 @@ load-same =
       check-fields = CheckFields-unique;
       check-step = CheckStep-unique;
       check-window = CheckWindow-unique;
+      check-parts = CheckParts-unique;
       identifier-taken = IdentifierTaken-unique;
       box-taken = BoxTaken-unique;
       row-at = RowAt-unique;
@@ -87,6 +91,7 @@ load-answers =
       check-fields = λ row. is _;
       check-step = λ row j. is _;
       check-window = λ row k. is _;
+      check-parts = λ row. is _;
       identifier-taken = λ identifiers n identifier. is _;
       box-taken = λ boxes n box. is _;
       row-at = λ load i. is _;

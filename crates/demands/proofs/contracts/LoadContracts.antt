@@ -14,6 +14,8 @@ pub record LoadContracts (relation : EveryLoadCall Relation) : Type 2 where
       (λ κs a r s. relation .check-step (a .0) (a .1 .0) .meets r)
   pub check-window : Says load.check_window.ended (λ M. load.check_window.spec)
       (λ κs a r s. relation .check-window (a .0) (a .1 .0) .meets r)
+  pub check-parts : Says load.check_parts.ended (λ M. load.check_parts.spec)
+      (λ κs a r s. relation .check-parts (a .0) .meets r)
   pub identifier-taken : Says load.identifier_taken.ended (λ M. load.identifier_taken.spec)
       (λ κs a r s. relation .identifier-taken (a .0) (a .1 .0) (a .1 .1 .0) .meets r)
   pub box-taken : Says load.box_taken.ended (λ M. load.box_taken.spec)

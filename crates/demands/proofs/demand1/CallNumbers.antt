@@ -27,6 +27,7 @@ use Rattle.load.specs.Check.{
   checkFields,
   checkStep,
   checkWindow,
+  checkParts,
   rowFault,
   checkLoad,
 }
@@ -72,6 +73,7 @@ use Rattle.demands.proofs.demand1.NumberLaws.{
   last-gives,
   faultsTo-give,
   OneOf-more,
+  Gives-more,
 }
 
 -- the parts of a load
@@ -87,21 +89,28 @@ pub window-gives : (row : Row) (k : ℕ) → Gives ofWindow (checkWindow row k)
 unfolding windowTests anyIn
 window-gives row k = tests-give ofWindow (windowTests row k) refl
 
-zeros-give : (zeros : Bool) → Gives ofLoad (allZero zeros)
+zeros-give : (zeros : Bool) → Gives ofRange (allZero zeros)
 unfolding anyIn
-zeros-give zeros = tests-give ofLoad ((not zeros, OutOfRange) ∷ []) refl
+zeros-give zeros = tests-give ofRange ((not zeros, OutOfRange) ∷ []) refl
+
+pub parts-give : (row : Row) → Gives ofWindow (checkParts row)
+unfolding checkParts anyIn
+parts-give row =
+    then-gives ofWindow _ _
+    (faultsTo-give ofWindow (checkStep row) (λ j. ranged (checkStep row j) (step-gives row j)) (row .steps))
+    (then-gives ofWindow _ _ (ranged _ (zeros-give (zeroStepsFrom row (row .steps))))
+    (then-gives ofWindow _ _ (faultsTo-give ofWindow (checkWindow row) (window-gives row) (row .windows))
+    (last-gives ofWindow _ (ranged _ (zeros-give (zeroWindowsFrom row (row .windows)))))))
+  where
+    ranged : (found : Checked) → Gives ofRange found → Gives ofWindow found
+    ranged = Gives-more ofRange ofWindow refl
 
 row-gives : (load : Load) (i : ℕ) (row : Row) → Gives ofLoad (rowFault load i row)
-unfolding rowFault rowTests takenTests stepTests windowTests anyIn
+unfolding rowFault takenTests anyIn
 row-gives load i row =
-    then-gives ofLoad _ _ (tests-give ofLoad (rowTests row) refl)
+    then-gives ofLoad _ _ (Gives-more ofRange ofLoad refl (checkFields row) (fields-give row))
     (then-gives ofLoad _ _ (tests-give ofLoad (takenTests load i row) refl)
-    (then-gives ofLoad _ _
-    (faultsTo-give ofLoad (checkStep row) (λ j. tests-give ofLoad (stepTests row j) refl) (row .steps))
-    (then-gives ofLoad _ _ (zeros-give (zeroStepsFrom row (row .steps)))
-    (then-gives ofLoad _ _
-    (faultsTo-give ofLoad (checkWindow row) (λ k. tests-give ofLoad (windowTests row k) refl) (row .windows))
-    (last-gives ofLoad _ (zeros-give (zeroWindowsFrom row (row .windows))))))))
+    (last-gives ofLoad _ (Gives-more ofWindow ofLoad refl (checkParts row) (parts-give row))))
 
 pub load-gives : (load : Load) → Gives ofLoad (checkLoad load)
 unfolding checkLoad anyIn
@@ -109,7 +118,8 @@ load-gives load =
     then-gives ofLoad _ _ (tests-give ofLoad ((ltb mostRows (load .rows), OutOfRange) ∷ []) refl)
     (then-gives ofLoad _ _
     (faultsTo-give ofLoad (λ i. rowFault load i (rowAt load i)) (λ i. row-gives load i (rowAt load i)) (load .rows))
-    (last-gives ofLoad _ (zeros-give (allFrom (λ i. isZeroRow (rowAt load i)) (load .rows) mostRows))))
+    (last-gives ofLoad _
+    (Gives-more ofRange ofLoad refl _ (zeros-give (allFrom (λ i. isZeroRow (rowAt load i)) (load .rows) mostRows)))))
 
 file-row-gives : (bs : List ℕ) (i place : ℕ) → Gives ofFile (rowFaultAt bs i place)
 unfolding rowFaultAt ownFault stepFaultIn windowFaultIn rowTests takenTests stepTests windowTests anyIn

@@ -78,3 +78,8 @@ pub OneOf-more : (numbers others : List ℕ) → eachAmong others numbers ≡ tr
     → OneOf others n
 unfolding anyIn
 OneOf-more numbers others each = among (0 ∷ numbers) others each
+
+pub Gives-more : (numbers others : List ℕ) → eachAmong others numbers ≡ true → (found : Checked) → Gives numbers found
+    → Gives others found
+Gives-more numbers others each found g =
+    record { number = OneOf-more numbers others each (numberGiven found) (g .number) }

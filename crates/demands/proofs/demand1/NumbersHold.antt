@@ -10,6 +10,7 @@ use Rattle.demands.proofs.demand1.CallNumbers.{
   fields-give,
   step-gives,
   window-gives,
+  parts-give,
   file-gives,
   schedule-gives,
   move-gives,
@@ -23,6 +24,7 @@ numbers =
       check-fields = λ row r e. rw e (fields-give row .number);
       check-step = λ row j r e. rw e (step-gives row j .number);
       check-window = λ row k r e. rw e (window-gives row k .number);
+      check-parts = λ row r e. rw e (parts-give row .number);
       read-load = λ bs r e. rw e (file-gives bs .number);
       write-load = load-written-gives;
       bound-of = λ load r e. rw e (load-gives load .number);

@@ -9,7 +9,7 @@ use Rattle.refusals.specs.FirstMet.{firstFaultTo}
 use Rattle.load.specs.Load.{zeroRow}
 use Rattle.load.specs.View.{viewOf, chain, embedded, opensAt, openAt}
 use Rattle.load.specs.Faults.{rowTests, takenTests, stepTests, windowTests}
-use Rattle.load.specs.Check.{rowFault, checkLoad}
+use Rattle.load.specs.Check.{checkParts, rowFault, checkLoad}
 use Rattle.rules.specs.Cut.{kept, cut}
 use Rattle.rules.specs.Bound.{
   allCosts,
@@ -34,9 +34,9 @@ use Rattle.rules.specs.Check.{slotTests, checkSlots, checkSchedule}
 -- to open this is to open all that its line names
 unfoldable pub computing : ℕ
 unfolding sumTo maxTo allTo anyTo joinTo joinIn anyIn keepIn firstIn sumIn changed firstTo found inserted sorted
-    littleEndian firstFaultTo zeroRow viewOf chain embedded rowTests takenTests stepTests windowTests rowFault
-    checkLoad kept cut allCosts largestPhase allEmbeddedWaits largestW boundBy partners pairCosts smallestCosts bound
-    rowBound margin verdict margins bytesOfMargins opensAt openAt shaped isAllowed isCandidate candidates due
+    littleEndian firstFaultTo zeroRow viewOf chain embedded rowTests takenTests stepTests windowTests checkParts
+    rowFault checkLoad kept cut allCosts largestPhase allEmbeddedWaits largestW boundBy partners pairCosts smallestCosts
+    bound rowBound margin verdict margins bytesOfMargins opensAt openAt shaped isAllowed isCandidate candidates due
     inTimeBy stackBy windowLeft lampWord lampCount started ticked passes chosen allFinished shapedMoveBy moveBy
     slotFor slotTests checkSlots checkSchedule
 computing = 0

@@ -6,7 +6,7 @@ use borrow.Author.Tests.{not-true, not-false}
 use Rattle.refusals.specs.declared.Checked.the-variants.{Good}
 use Rattle.refusals.specs.FirstMet.{firstFaultTo}
 use Rattle.load.specs.declared.Row.{Row}
-use Rattle.load.specs.Check.{checkStep, checkWindow, zeroStepsFrom}
+use Rattle.load.specs.Check.{checkStep, checkWindow, checkParts, zeroStepsFrom}
 use Rattle.load.proofs.check.check_parts.Statement.{statement}
 use Rattle.load.proofs.check.check_parts.Tie as tie
 
@@ -30,14 +30,17 @@ windows-good : (c : tie.After-enum-told2) → firstFaultTo (checkWindow (row3 c)
 windows-good c = sym (c .before .before .check-windows .ensures) ∙ c .enum-told2 .given .1
 
 steps : tie.Need-returns
+unfolding checkParts
 steps c = rw (sym (c .before .before .before .check-steps .ensures) ∙ c .before .steps .given .1)
 
 unused-steps : tie.Need-returns-2
+unfolding checkParts
 unused-steps c =
     rw
     (steps-good (c .before .before .before), sym (c .before .zero-steps-from .ensures) ∙ not-true _ (c .if1 .taken))
 
 windows : tie.Need-returns-3
+unfolding checkParts
 windows c =
     let asked = c .before .before .before in
     let at1 = asked .before in
@@ -48,6 +51,7 @@ windows c =
     )
 
 unused-windows : tie.Need-returns-4
+unfolding checkParts
 unused-windows c =
     let at2 = c .before .before .before in
     let at1 = at2 .before .before .before in
@@ -59,6 +63,7 @@ unused-windows c =
     )
 
 good : tie.Need-returns-5
+unfolding checkParts
 good c =
     let at2 = c .before .before .before in
     let at1 = at2 .before .before .before in

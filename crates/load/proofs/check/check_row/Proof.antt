@@ -3,6 +3,7 @@
 use mathlib.Core.Path.{_≡_, sym, _∙_}
 use borrow.Author.Needs.{needs}
 use Rattle.refusals.specs.declared.Checked.the-variants.{Good}
+use Rattle.refusals.proofs.FirstMetLaws.{andThen-last}
 use Rattle.load.specs.Faults.{takenTests}
 use Rattle.load.specs.Check.{checkFields, rowFault}
 use Rattle.load.proofs.check.check_row.Statement.{statement}
@@ -29,7 +30,8 @@ unfolding rowFault takenTests
 parts c load i p q =
     let at2 = c .before in
     let at1 = at2 .before in
-    rw (fields-good (at1 .before), sym p ∙ at1 .if1 .left, sym q ∙ at2 .if2 .left) (c .check-parts .ensures)
+    rw (fields-good (at1 .before), sym p ∙ at1 .if1 .left, sym q ∙ at2 .if2 .left)
+    (c .check-parts .ensures ∙ sym (andThen-last _))
 
 pub check-row-spec : {M : Type 1} → statement M
 check-row-spec =
