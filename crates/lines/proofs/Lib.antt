@@ -6,7 +6,5 @@ pub mod ScheduledLaws
 pub mod AnswerLaws
 pub mod PrintedLaws
 pub mod LengthLaws
-pub mod AgreeLaws
-pub mod AgreeFile
 pub mod PrintedFront
 pub mod CallLaws

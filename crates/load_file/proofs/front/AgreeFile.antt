@@ -8,8 +8,7 @@ use native.Mathlib.Omega.{arith}
 use lib.Dec.{eqb}
 use Rattle.counting.proofs.tests.TestLaws.{anyTo-ext}
 use Rattle.refusals.specs.declared.Refusal.the-variants.{IdentifierTaken, BoxTaken}
-use Rattle.refusals.specs.declared.Checked.{Checked}
-use Rattle.refusals.specs.declared.Checked.the-variants.{Good, Refused}
+use Rattle.refusals.specs.declared.Checked.the-variants.{Good}
 use Rattle.refusals.specs.FirstMet.{firstMet, andThen, firstFaultTo}
 use Rattle.refusals.proofs.FirstMetLaws.{
   andThen-good-first,
@@ -18,11 +17,12 @@ use Rattle.refusals.proofs.FirstMetLaws.{
   firstFaultTo-good,
   good-firstFaultTo,
 }
+use Rattle.refusals.proofs.FirstFaultLaws.{andThen-agree}
 use Rattle.load.specs.declared.Row.{Row}
 use Rattle.load.specs.Load.{mostRows, mostSteps, mostWindows, rowAt}
 use Rattle.load.specs.Faults.{takenTests, stepTests, windowTests}
 use Rattle.load_records.specs.Records.{rowKind, stepKind, windowKind, mostRowBytes, mostFileBytes}
 use Rattle.load_file.specs.Places.{
   stepsSaid,
   windowsSaid,
   stepPlace,
@@ -42,13 +42,13 @@ use Rattle.load_file.specs.Reading.{
   stepsFault,
   windowsFault,
 }
 use Rattle.load_file.proofs.faults.ReadingLaws.{
   rowAt-read,
   rowFaultAt-parts,
   own-steps-le,
   own-windows-le,
 }
-use Rattle.lines.proofs.AgreeLaws.{
+use Rattle.load_file.proofs.front.AgreeLaws.{
   Agree,
   dueTests-agree,
   stepsSaid-agree,
@@ -59,19 +59,6 @@ use Rattle.lines.proofs.AgreeLaws.{
   windowPlace-agree,
   rowFrom-agree,
 }
-
--- one finding, and where it is Good the next
-pub andThen-agree : (a b x y : Checked) → a ≡ b → (a ≡ Good → x ≡ y) → andThen a x ≡ andThen b y
-andThen-agree Good b x y e h = h refl ∙ ap (λ c. andThen c y) e
-andThen-agree (Refused r) b x y e h = ap (λ c. andThen c y) e
-
-pub firstFaultTo-agree : (f g : ℕ → Checked) (m : ℕ) → ((i : ℕ) → i < m → firstFaultTo f i ≡ Good → f i ≡ g i)
-    → firstFaultTo f m ≡ firstFaultTo g m
-unfolding firstFaultTo
-firstFaultTo-agree f g zero h = refl
-firstFaultTo-agree f g (suc m) h =
-    andThen-agree (firstFaultTo f m) (firstFaultTo g m) (f m) (g m)
-    (firstFaultTo-agree f g m (λ i l. h i (omega arith))) (h m (omega arith))
 
 -- where row i stands is the same, and how far that is
 pub record Placed (bs cs : List ℕ) (i : ℕ) : Type 0 where
