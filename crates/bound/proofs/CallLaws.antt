@@ -4,10 +4,14 @@ use mathlib.Core.List.{List}
 use mathlib.Core.Path.{_≡_, sym, _∙_}
 use lib.IntN.{ℤ}
 use Rattle.load.specs.declared.Load.{Load}
+use Rattle.bound.specs.declared.Answered.{Answered}
 use Rattle.bound.specs.declared.Bounded.{Bounded}
 use Rattle.bound.specs.declared.Margined.{Margined}
 use Rattle.bound.specs.declared.Judged.{Judged}
-use Rattle.bound.specs.Calls.{BoundOf, MarginsOf, VerdictOf, MarginBytes}
+use Rattle.bound.specs.Calls.{AnswersOf, BoundOf, MarginsOf, VerdictOf, MarginBytes}
+
+pub AnswersOf-unique : (load : Load) (r s : Answered) → AnswersOf load r → AnswersOf load s → r ≡ s
+AnswersOf-unique load r s p q = p ∙ sym q
 
 pub BoundOf-unique : (load : Load) (r s : Bounded) → BoundOf load r → BoundOf load s → r ≡ s
 BoundOf-unique load r s p q = p ∙ sym q

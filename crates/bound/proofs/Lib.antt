@@ -7,3 +7,4 @@ pub mod KeptLaws
 pub mod SignLaws
 pub mod MarginsRead
 pub mod CallLaws
+pub mod GoodLaws

@@ -14,6 +14,7 @@ use Rattle.counting.proofs.sums.MaxLaws.{maxTo-none}
 use Rattle.counting.proofs.tests.TestLaws.{and-left, anyTo-false}
 use Rattle.counting.proofs.lists.ListLaws.{getD-filled}
 use Rattle.counting.proofs.sorting.PairLaws.{pairsSmallest, pairsSmallest-is, pairsSmallest-ext}
+use Rattle.load.specs.Load.{mostRows}
 use Rattle.load.specs.View.{View, isFree, embedded}
 use Rattle.load.specs.Acceptable.{Acceptable}
 use Rattle.rules.specs.Bound.{waitLeft, largestW, isPartner, partners, pairCosts, smallestCosts}
@@ -27,11 +28,11 @@ smallestCosts-is L j i = pairsSmallest-is (λ k. L .cost k j) (λ k. L .cost k (
 -- the arrays of place j
 pub record AtPlace (L : View) (j : ℕ) (here next : List ℕ) (pairs : List Bool) (waits : List ℕ) (frees : List Bool)
     : Type 0 where
-  pub here-is : here ≡ filled (λ i. L .cost i j) (L .rows) 24 0
-  pub next-is : next ≡ filled (λ i. L .cost i (suc j)) (L .rows) 24 0
-  pub pairs-is : pairs ≡ filled (λ i. isFree L i j && isFree L i (suc j)) (L .rows) 24 false
-  pub waits-is : waits ≡ filled (λ i. L .wait i j) (L .rows) 24 0
-  pub frees-is : frees ≡ filled (λ i. isFree L i (suc j)) (L .rows) 24 false
+  pub here-is : here ≡ filled (λ i. L .cost i j) (L .rows) mostRows 0
+  pub next-is : next ≡ filled (λ i. L .cost i (suc j)) (L .rows) mostRows 0
+  pub pairs-is : pairs ≡ filled (λ i. isFree L i j && isFree L i (suc j)) (L .rows) mostRows false
+  pub waits-is : waits ≡ filled (λ i. L .wait i j) (L .rows) mostRows 0
+  pub frees-is : frees ≡ filled (λ i. isFree L i (suc j)) (L .rows) mostRows false
 
 -- what stands in a filled array
 read : {A : Type 0} (f : ℕ → A) (n last : ℕ) (z : A) (l : List A) → l ≡ filled f n last z → (k : ℕ) → k < n
@@ -40,45 +41,47 @@ read f n last z l e k h = ap (λ l. getD l k z) e ∙ getD-filled f n last k z z
 
 module _ (L : View) (j : ℕ) (here next : List ℕ) (pairs : List Bool) (waits : List ℕ) (frees : List Bool)
     (h : AtPlace L j here next pairs waits frees) where
-  pub place-costed : Acceptable L → Costed (L .rows) here pairs
-  place-costed ok =
-      record {
+  pub place-costed : (n : ℕ) → n ≡ L .rows → Acceptable L → Costed n here pairs
+  place-costed n e ok =
+      rw e (record {
         few = ok .rows-most;
         small = λ k l e.
-            let paired = sym (read _ _ 24 false pairs (h .pairs-is) k l) ∙ e in
+            let paired = sym (read _ _ mostRows false pairs (h .pairs-is) k l) ∙ e in
             let free = and-left (isFree L k j) (isFree L k (suc j)) paired in
             let there = ltb-true j (L .steps k) (and-left (ltb j (L .steps k)) (not (embedded L k j)) free) in
-            rw (read _ _ 24 0 here (h .here-is) k l) (ok .cost-most k j l there);
-      }
+            rw (read _ _ mostRows 0 here (h .here-is) k l) (ok .cost-most k j l there);
+      })
 
   smallest-read : (i : ℕ)
       → pairsSmallest (memberAt here) (memberAt next) (isOther pairs i) (L .rows) ≡ smallestCosts L j i
   smallest-read i =
       pairsSmallest-ext (memberAt here) (λ k. L .cost k j) (memberAt next) (λ k. L .cost k (suc j)) (isOther pairs i)
-      (isPartner L j i) (L .rows) (read _ _ 24 0 here (h .here-is)) (read _ _ 24 0 next (h .next-is))
+      (isPartner L j i) (L .rows) (read _ _ mostRows 0 here (h .here-is)) (read _ _ mostRows 0 next (h .next-is))
       (λ k l.
-      ap (λ b. not (eqb k i) && b) (read _ _ 24 false pairs (h .pairs-is) k l)
+      ap (λ b. not (eqb k i) && b) (read _ _ mostRows false pairs (h .pairs-is) k l)
       ∙ sym (and-assoc (not (eqb k i)) (isFree L k j) (isFree L k (suc j))))
       ∙ sym (smallestCosts-is L j i)
 
-  pub largestW-read : maxTo
+  pub largestW-read : (n : ℕ) → n ≡ L .rows
+      → maxTo
       (λ i. cond (isMarked frees i)
-      (memberAt waits i - pairsSmallest (memberAt here) (memberAt next) (isOther pairs i) (L .rows)) 0)
-      (L .rows)
+      (memberAt waits i - pairsSmallest (memberAt here) (memberAt next) (isOther pairs i) n) 0)
+      n
       ≡ largestW smallestCosts L j
   unfolding largestW
-  largestW-read =
-      maxTo-ext
+  largestW-read n e =
+      rw e
+      (maxTo-ext
       (λ i. cond (isMarked frees i)
       (memberAt waits i - pairsSmallest (memberAt here) (memberAt next) (isOther pairs i) (L .rows)) 0)
       (waitLeft smallestCosts L j) (L .rows)
       (λ i l.
-      ap₂ (λ b w. cond b w 0) (read _ _ 24 false frees (h .frees-is) i l)
-      (ap₂ _-_ (read _ _ 24 0 waits (h .waits-is) i l) (smallest-read i)))
+      ap₂ (λ b w. cond b w 0) (read _ _ mostRows false frees (h .frees-is) i l)
+      (ap₂ _-_ (read _ _ mostRows 0 waits (h .waits-is) i l) (smallest-read i))))
 
 -- where no row's wait is free, there is no W
 pub largestW-none : (L : View) (j : ℕ) (frees : List Bool)
-    → frees ≡ filled (λ i. isFree L i (suc j)) (L .rows) 24 false → anyTo (isMarked frees) (L .rows) ≡ false
+    → frees ≡ filled (λ i. isFree L i (suc j)) (L .rows) mostRows false → anyTo (isMarked frees) (L .rows) ≡ false
     → 0 ≡ largestW smallestCosts L j
 unfolding largestW
 largestW-none L j frees e none =
@@ -86,4 +89,4 @@ largestW-none L j frees e none =
     (maxTo-none (waitLeft smallestCosts L j) (L .rows)
     (λ i l.
     ap (λ b. cond b (L .wait i j - smallestCosts L j i) 0)
-    (sym (read _ _ 24 false frees e i l) ∙ anyTo-false (isMarked frees) (L .rows) none i l)))
+    (sym (read _ _ mostRows false frees e i l) ∙ anyTo-false (isMarked frees) (L .rows) none i l)))

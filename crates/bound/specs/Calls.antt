@@ -14,9 +14,20 @@ use Rattle.load.specs.View.{viewOf}
 use Rattle.load.specs.Check.{checkLoad}
 use Rattle.rules.specs.Bound.{bound}
 use Rattle.rules.specs.Margins.{margins, verdict, bytesOfMargins}
+use Rattle.bound.specs.declared.Answered.{Answered}
 use Rattle.bound.specs.declared.Bounded.{Bounded}
 use Rattle.bound.specs.declared.Margined.{Margined}
 use Rattle.bound.specs.declared.Judged.{Judged}
+
+-- answers_of(load): what the check finds, and bound, margins and verdict
+abbrev pub AnswersOf : Load → Answered → Type 0
+AnswersOf load r =
+    r ≡ record {
+      answer = checkLoad load;
+      bound = ifGood (checkLoad load) (bound (viewOf load)) 0;
+      margins = ifGood (checkLoad load) (margins (viewOf load)) (replicate mostRows (pos 0));
+      verdict = ifGood (checkLoad load) (verdict (viewOf load)) false;
+    }
 
 -- bound_of(load): what the check finds, and the load's bound
 abbrev pub BoundOf : Load → Bounded → Type 0

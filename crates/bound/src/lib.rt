@@ -1,5 +1,7 @@
 // The bound of a load, its margins and its verdict. Each call takes a load in memory and checks it
-// first; a refusal comes with bound 0, margins that are all 0, and the verdict no.
+// once; a refusal comes with bound 0, margins that are all 0, and the verdict no. One look at an
+// accepted load gives all three.
+mod answers;
 mod bounds;
 mod bytes;
 mod cut;
@@ -8,13 +10,12 @@ mod places;
 mod smallest;
 mod waits;
 
-use bounds::load_bound;
+pub use answers::answers_of;
+use answers::load_answers;
 pub use bytes::margin_bytes;
 use load::Load;
 use load::MOST_ROWS;
 use load::check_load;
-use margins::load_margins;
-use margins::load_verdict;
 use refusals::Checked;
 ghost use Rattle.bound.specs.Calls.{BoundOf, MarginsOf, VerdictOf};
 
@@ -36,16 +37,27 @@ pub struct Judged {
     pub verdict: bool,
 }
 
+// What the check of a load finds, and bound, margins and verdict; 0, all 0 and no with a refusal.
+pub struct Answered {
+    pub answer: Checked,
+    pub bound: u32,
+    pub margins: [i32; MOST_ROWS],
+    pub verdict: bool,
+}
+
 // Gives the bound of a load, or the first of 3 to 7 with bound 0.
 pub fn bound_of(load: Load) -> Bounded
     ensures { λ r. ⌜ BoundOf load r ⌝ }
 {
     let found = check_load(load);
     match found {
-        Checked::Good => Bounded {
-            answer: Checked::Good,
-            bound: load_bound(load),
-        },
+        Checked::Good => {
+            let answered = load_answers(load);
+            Bounded {
+                answer: Checked::Good,
+                bound: answered.bound,
+            }
+        }
         Checked::Refused(refusal) => Bounded {
             answer: Checked::Refused(refusal),
             bound: 0,
@@ -60,10 +72,14 @@ pub fn margins_of(load: Load) -> Margined
 {
     let found = check_load(load);
     match found {
-        Checked::Good => Margined {
-            answer: Checked::Good,
-            margins: load_margins(load),
-        },
+        Checked::Good => {
+            let answered = load_answers(load);
+            let margins = answered.margins;
+            Margined {
+                answer: Checked::Good,
+                margins,
+            }
+        }
         Checked::Refused(refusal) => Margined {
             answer: Checked::Refused(refusal),
             margins: [0; MOST_ROWS],
@@ -77,10 +93,13 @@ pub fn verdict_of(load: Load) -> Judged
 {
     let found = check_load(load);
     match found {
-        Checked::Good => Judged {
-            answer: Checked::Good,
-            verdict: load_verdict(load),
-        },
+        Checked::Good => {
+            let answered = load_answers(load);
+            Judged {
+                answer: Checked::Good,
+                verdict: answered.verdict,
+            }
+        }
         Checked::Refused(refusal) => Judged {
             answer: Checked::Refused(refusal),
             verdict: false,

@@ -9,7 +9,7 @@ ghost use mathlib.Core.Bool.{false, _&&_};
 ghost use mathlib.Core.Path.{_≡_};
 ghost use Prim.Native.Nat.{_+_, _≤_, _<_};
 ghost use Rattle.counting.specs.Lists.{filled};
-ghost use Rattle.load.specs.Load.{mostRows, rowAt, stepAt};
+ghost use Rattle.load.specs.Load.{mostRows, mostSteps, rowAt, stepAt};
 ghost use Rattle.bound.specs.inner.Marks.{freeIn, freesAt};
 
 // Says whether a row has a step at a place and that step is free.
@@ -24,7 +24,7 @@ fn free_in(row: Row, j: usize) -> bool
 
 // Says whether a row has a step at a place and one after it, and both are free.
 fn paired_in(row: Row, j: usize) -> bool
-    requires { ⌜ j < 8 ⌝ }
+    requires { ⌜ j < mostSteps ⌝ }
     ensures { λ r. ⌜ r ≡ (freeIn row j && freeIn row (j + 1)) ⌝ }
 {
     if free_in(row, j) {
@@ -76,7 +76,7 @@ pub fn frees_at(load: Load, j: usize) -> [bool; MOST_ROWS]
 
 // Marks the rows whose steps at a place and at the next are both there and free.
 pub fn pairs_at(load: Load, j: usize) -> [bool; MOST_ROWS]
-    requires { ⌜ (load .rows ≤ mostRows) × (j < 8) ⌝ }
+    requires { ⌜ (load .rows ≤ mostRows) × (j < mostSteps) ⌝ }
     ensures { λ r. ⌜ r ≡ filled (λ i. freeIn (rowAt load i) j && freeIn (rowAt load i) (j + 1))
         (load .rows) mostRows false ⌝ }
 {

@@ -13,7 +13,7 @@ ghost use Prim.Native.Nat.{_+_, _-_, _≤_, _<_, max};
 ghost use Rattle.counting.specs.Sums.{anyTo, maxTo};
 ghost use Rattle.counting.specs.Lists.{memberAt, isMarked};
 ghost use Rattle.counting.proofs.sorting.PairLaws.{pairsSmallest};
-ghost use Rattle.load.specs.Load.{mostRows};
+ghost use Rattle.load.specs.Load.{mostRows, mostSteps};
 ghost use Rattle.load.specs.View.{viewOf};
 ghost use Rattle.load.specs.Acceptable.{Acceptable};
 ghost use Rattle.rules.specs.Bound.{smallestCosts, largestW};
@@ -87,11 +87,11 @@ fn any_marked(n: usize, marks: &[bool; MOST_ROWS]) -> bool
 }
 
 // Gives the largest W at a place, for the rows whose wait there is free.
-fn largest_of(load: Load, j: usize, frees: &[bool; MOST_ROWS]) -> u16
-    requires { ⌜ Acceptable (viewOf load) × (j < 8) × (now frees ≡ freesAt load (j + 1)) ⌝ }
+fn largest_of(load: Load, rows: usize, j: usize, frees: &[bool; MOST_ROWS]) -> u16
+    requires { ⌜ Acceptable (viewOf load) × (rows ≡ load .rows) × (j < mostSteps)
+        × (now frees ≡ freesAt load (j + 1)) ⌝ }
     ensures { λ r. ⌜ r ≡ largestW smallestCosts (viewOf load) j ⌝ }
 {
-    let rows = load.rows as usize;
     let here = costs_at(load, j);
     let next = costs_at(load, j + 1);
     let pairs = pairs_at(load, j);
@@ -99,14 +99,15 @@ fn largest_of(load: Load, j: usize, frees: &[bool; MOST_ROWS]) -> u16
     largest_left(rows, &here, &next, pairs, &waits, frees)
 }
 
-// Gives the largest W at a place, and 0 where no row has a free wait there.
-pub fn largest_w(load: Load, j: usize) -> u16
-    requires { ⌜ Acceptable (viewOf load) × (j < 8) ⌝ }
+// Gives the largest W at a place of a load with so many rows, and 0 where no row has a free wait
+// there.
+pub fn largest_w(load: Load, rows: usize, j: usize) -> u16
+    requires { ⌜ Acceptable (viewOf load) × (rows ≡ load .rows) × (j < mostSteps) ⌝ }
     ensures { λ r. ⌜ r ≡ largestW smallestCosts (viewOf load) j ⌝ }
 {
     let frees = frees_at(load, j + 1);
-    if any_marked(load.rows as usize, &frees) {
-        return largest_of(load, j, &frees);
+    if any_marked(rows, &frees) {
+        return largest_of(load, rows, j, &frees);
     }
     0
 }

@@ -14,6 +14,7 @@ use Rattle.demands.proofs.demand1.RefusedAlone.{
   refused-bound,
   refused-margins,
   refused-verdict,
+  refused-answers,
   refused-slots,
 }
 use Rattle.demands.proofs.demand1.WritingCalls.{c-keeps, out-keeps}
@@ -35,6 +36,7 @@ demand1 =
       no-bound = refused-bound;
       no-margins = refused-margins;
       no-verdict = refused-verdict;
+      no-answers = refused-answers;
       no-slots = refused-slots;
       load-stays = λ load out refusal after g. g .output-is;
       schedule-stays = λ slots out refusal after g. g .output-is;

@@ -11,9 +11,7 @@ use Rattle.refusals.specs.declared.Checked.the-variants.{Good}
 use Rattle.refusals.specs.FirstMet.{firstFault}
 use Rattle.refusals.specs.Given.{Given, roomFor}
 use Rattle.refusals.proofs.FirstMetLaws.{andThen-good-first}
-use Rattle.refusals.proofs.GivenLaws.{ifGood-good}
 use Rattle.load.specs.declared.Load.{Load}
-use Rattle.load.specs.View.{viewOf}
 use Rattle.load.specs.Check.{checkLoad}
 use Rattle.load_records.specs.Writing.{loadBytes}
 use Rattle.load_records.specs.Calls.{WriteLoad}
@@ -22,12 +20,15 @@ use Rattle.load_file.specs.Reading.{readLoad}
 use Rattle.load_file.specs.Calls.{ReadLoad}
 use Rattle.load_file.specs.RoundTrip.{Held, accepted, WrittenLoad}
 use Rattle.load_file.proofs.round_trip.RoundTrip.{round-trip, write-read}
-use Rattle.rules.specs.Bound.{bound}
-use Rattle.rules.specs.Margins.{margins, bytesOfMargins, verdict}
-use Rattle.bound.specs.declared.Bounded.{Bounded}
-use Rattle.bound.specs.declared.Margined.{Margined}
-use Rattle.bound.specs.declared.Judged.{Judged}
-use Rattle.bound.specs.Calls.{BoundOf, MarginsOf, VerdictOf}
+use Rattle.rules.specs.Margins.{bytesOfMargins}
+use Rattle.bound.proofs.GoodLaws.{
+  BoundOf-good,
+  MarginsOf-good,
+  VerdictOf-good,
+  AnswersOf-bound,
+  AnswersOf-margins,
+  AnswersOf-verdict,
+}
 use Rattle.schedule.proofs.CheckExactly.{checkSchedule-exactly}
 use Rattle.demands.specs.Demand2.{fileIn, Demand2}
 use Rattle.demands.proofs.moves.MovesHeld.{next-same}
@@ -55,22 +56,6 @@ writes-reads load held out after h r e =
     ∙ take-append-seam (loadBytes load) (drop (length (loadBytes load)) out) in
     e ∙ ap readLoad front ∙ write-read load held good
 
-module _ (load : Load) where
-  bound-is : (r : Bounded) → BoundOf load r → r .answer ≡ Good → r .bound ≡ bound (viewOf load)
-  bound-is r e g =
-      ap (λ (x : Bounded). x .bound) e
-      ∙ ifGood-good (checkLoad load) (bound (viewOf load)) 0 (ap (λ (x : Bounded). x .answer) (sym e) ∙ g)
-
-  margins-is : (r : Margined) → MarginsOf load r → r .answer ≡ Good → r .margins ≡ margins (viewOf load)
-  margins-is r e g =
-      ap (λ (x : Margined). x .margins) e
-      ∙ ifGood-good (checkLoad load) (margins (viewOf load)) _ (ap (λ (x : Margined). x .answer) (sym e) ∙ g)
-
-  verdict-is : (r : Judged) → VerdictOf load r → r .answer ≡ Good → r .verdict ≡ verdict (viewOf load)
-  verdict-is r e g =
-      ap (λ (x : Judged). x .verdict) e
-      ∙ ifGood-good (checkLoad load) (verdict (viewOf load)) _ (ap (λ (x : Judged). x .answer) (sym e) ∙ g)
-
 pub demand2 : Demand2
 demand2 =
     record {
@@ -78,10 +63,15 @@ demand2 =
       one-load = λ bs r s p q. ap (λ (x : Reading). x .load) (p ∙ sym q);
       read-write = reads-writes;
       write-read = writes-reads;
-      bounds = bound-is;
-      margins-are = margins-is;
-      margins-written = λ load r e g bytes h. h ∙ ap bytesOfMargins (margins-is load r e g);
-      verdicts = verdict-is;
+      bounds = BoundOf-good;
+      margins-are = MarginsOf-good;
+      margins-written = λ load r e g bytes h. h ∙ ap bytesOfMargins (MarginsOf-good load r e g);
+      verdicts = VerdictOf-good;
+      together = λ load r e. record {
+        bound-is = AnswersOf-bound load r e;
+        margins-are = AnswersOf-margins load r e;
+        verdict-is = AnswersOf-verdict load r e;
+      };
       moves = λ load bench r good held e. rw e (next-same load (sym good) bench held);
       says-yes = λ load slots r e. rw e (checkSchedule-exactly load slots);
       host = host-answers;

@@ -4,14 +4,16 @@ use Prim.Native.Nat.{ℕ}
 use mathlib.Core.List.{List}
 use lib.IntN.{ℤ}
 use Rattle.load.specs.declared.Load.{Load}
+use Rattle.bound.specs.declared.Answered.{Answered}
 use Rattle.bound.specs.declared.Bounded.{Bounded}
 use Rattle.bound.specs.declared.Margined.{Margined}
 use Rattle.bound.specs.declared.Judged.{Judged}
-use Rattle.bound.specs.Calls.{BoundOf, MarginsOf, VerdictOf, MarginBytes}
+use Rattle.bound.specs.Calls.{AnswersOf, BoundOf, MarginsOf, VerdictOf, MarginBytes}
 
 -- what is claimed of the relation of each call on bounds and margins, for all that it is given
 pub record EveryBoundCall {ℓ} (Claim : (A : Type 0) → (A → Type 0) → Type ℓ) : Type ℓ where
   -- bound
+  pub answers-of : (load : Load) → Claim Answered (AnswersOf load)
   pub bound-of : (load : Load) → Claim Bounded (BoundOf load)
   pub margins-of : (load : Load) → Claim Margined (MarginsOf load)
   pub verdict-of : (load : Load) → Claim Judged (VerdictOf load)

@@ -21,10 +21,11 @@ use Rattle.load_file.specs.declared.Reading.{Reading}
 use Rattle.load_file.specs.Calls.{ReadLoad}
 use Rattle.rules.specs.declared.Slot.{Slot}
 use Rattle.rules.specs.declared.Outcome.the-variants as outcome
+use Rattle.bound.specs.declared.Answered.{Answered}
 use Rattle.bound.specs.declared.Bounded.{Bounded}
 use Rattle.bound.specs.declared.Margined.{Margined}
 use Rattle.bound.specs.declared.Judged.{Judged}
-use Rattle.bound.specs.Calls.{BoundOf, MarginsOf, VerdictOf}
+use Rattle.bound.specs.Calls.{AnswersOf, BoundOf, MarginsOf, VerdictOf}
 use Rattle.schedule_file.specs.Calls.{WriteSchedule, WriteArray}
 use Rattle.bench.specs.declared.Bench.{Bench}
 use Rattle.bench.specs.declared.Moved.{Moved}
@@ -43,6 +44,16 @@ use Rattle.demands.specs.LoadFirst.{LoadFirst}
 pub record Answer (A : Type 0) (meets : A → Type 0) : Type 0 where
   pub result : A
   pub met : meets result
+
+-- a refusal beside bound 0, margins 0 and the verdict no
+abbrev pub nothingBut : Refusal → Answered
+nothingBut refusal =
+    record {
+      answer = Refused refusal;
+      bound = 0;
+      margins = replicate mostRows (pos 0);
+      verdict = false;
+    }
 
 -- a call for C whose number is not 0 leaves the output as it was
 abbrev pub Stays : (List ℕ → List ℕ → ℕ → List ℕ → Type 0) → Type 0
@@ -71,6 +82,8 @@ pub record Demand1 : Type 0 where
       → r .answer ≡ Refused refusal → r .margins ≡ replicate mostRows (pos 0)
   pub no-verdict : (load : Load) (r : Judged) (refusal : Refusal) → VerdictOf load r
       → r .answer ≡ Refused refusal → r .verdict ≡ false
+  pub no-answers : (load : Load) (r : Answered) (refusal : Refusal) → AnswersOf load r
+      → r .answer ≡ Refused refusal → r ≡ nothingBut refusal
   pub no-slots : (load : Load) (r : Ran) (refusal : Refusal) → Runs load r
       → r .answer ≡ Refused refusal → r .count ≡ 0
   -- a refused call leaves the output as it was

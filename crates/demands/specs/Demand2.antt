@@ -23,10 +23,11 @@ use Rattle.rules.specs.declared.Slot.{Slot}
 use Rattle.rules.specs.Bound.{bound}
 use Rattle.rules.specs.Margins.{margins, marginBytes, verdict}
 use Rattle.rules.specs.Move.{Moved as Move, move}
+use Rattle.bound.specs.declared.Answered.{Answered}
 use Rattle.bound.specs.declared.Bounded.{Bounded}
 use Rattle.bound.specs.declared.Margined.{Margined}
 use Rattle.bound.specs.declared.Judged.{Judged}
-use Rattle.bound.specs.Calls.{BoundOf, MarginsOf, VerdictOf, MarginBytes}
+use Rattle.bound.specs.Calls.{AnswersOf, BoundOf, MarginsOf, VerdictOf, MarginBytes}
 use Rattle.schedule.specs.Calls.{CheckSchedule}
 use Rattle.schedule.specs.CheckExactly.{KeepsRules}
 use Rattle.bench.specs.declared.Bench.{Bench}
@@ -46,6 +47,12 @@ pub record SameMove (r : Moved) (m : Move) : Type 0 where
   pub outcome-is : r .outcome ≡ m .outcome
   pub lamps-are : r .lamps ≡ m .lamps
   pub count-is : r .count ≡ m .count
+
+-- what one call gives together is what three give one by one
+pub record Together (load : Load) (r : Answered) : Type 0 where
+  pub bound-is : BoundOf load (record { answer = r .answer; bound = r .bound })
+  pub margins-are : MarginsOf load (record { answer = r .answer; margins = r .margins })
+  pub verdict-is : VerdictOf load (record { answer = r .answer; verdict = r .verdict })
 
 -- demand 2
 pub record Demand2 : Type 0 where
@@ -71,6 +78,8 @@ pub record Demand2 : Type 0 where
   -- the verdict does
   pub verdicts : (load : Load) (r : Judged) → VerdictOf load r → r .answer ≡ Good
       → r .verdict ≡ verdict (viewOf load)
+  -- the three together do
+  pub together : (load : Load) (r : Answered) → AnswersOf load r → Together load r
   -- and every move, with the state after it
   pub moves : (load : Load) (bench : Bench) (r : Moved) → CheckLoad load Good → HeldBench bench
       → NextMove load bench r → SameMove r (move (viewOf load) (stateOf bench))

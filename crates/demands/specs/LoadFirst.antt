@@ -12,10 +12,11 @@ use Rattle.load.specs.Calls.{CheckLoad}
 use Rattle.load_records.specs.Calls.{WriteLoad}
 use Rattle.rules.specs.declared.Slot.{Slot}
 use Rattle.rules.specs.declared.Outcome.the-variants as outcome
+use Rattle.bound.specs.declared.Answered.{Answered}
 use Rattle.bound.specs.declared.Bounded.{Bounded}
 use Rattle.bound.specs.declared.Margined.{Margined}
 use Rattle.bound.specs.declared.Judged.{Judged}
-use Rattle.bound.specs.Calls.{BoundOf, MarginsOf, VerdictOf}
+use Rattle.bound.specs.Calls.{AnswersOf, BoundOf, MarginsOf, VerdictOf}
 use Rattle.schedule.specs.Calls.{CheckSchedule, CheckArray}
 use Rattle.bench.specs.declared.Bench.{Bench}
 use Rattle.bench.specs.declared.Moved.{Moved}
@@ -24,6 +25,7 @@ use Rattle.bench.specs.Calls.{NextMove, Runs}
 
 -- the calls that refuse nothing but the load answer with its finding
 pub record FindAlike (load : Load) (found : Checked) : Type 0 where
+  pub answers-of : (r : Answered) → AnswersOf load r → r .answer ≡ found
   pub bound-of : (r : Bounded) → BoundOf load r → r .answer ≡ found
   pub margins-of : (r : Margined) → MarginsOf load r → r .answer ≡ found
   pub verdict-of : (r : Judged) → VerdictOf load r → r .answer ≡ found

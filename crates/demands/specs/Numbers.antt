@@ -13,10 +13,11 @@ use Rattle.load_file.specs.declared.Reading.{Reading}
 use Rattle.load_file.specs.Calls.{ReadLoad}
 use Rattle.rules.specs.declared.Slot.{Slot}
 use Rattle.rules.specs.Outcomes.{toldBy}
+use Rattle.bound.specs.declared.Answered.{Answered}
 use Rattle.bound.specs.declared.Bounded.{Bounded}
 use Rattle.bound.specs.declared.Margined.{Margined}
 use Rattle.bound.specs.declared.Judged.{Judged}
-use Rattle.bound.specs.Calls.{BoundOf, MarginsOf, VerdictOf}
+use Rattle.bound.specs.Calls.{AnswersOf, BoundOf, MarginsOf, VerdictOf}
 use Rattle.schedule.specs.Calls.{CheckSchedule, CheckArray}
 use Rattle.schedule_file.specs.Calls.{WriteSchedule, WriteArray}
 use Rattle.bench.specs.declared.Bench.{Bench}
@@ -49,6 +50,8 @@ pub record Numbers : Type 0 where
   pub write-load : (load : Load) (out : List ℕ) (r : Checked) (after : List ℕ)
       → WriteLoad load out r after → OneOf ofWriting (numberGiven r)
   -- bound, margins and verdict
+  pub answers-of : (load : Load) (r : Answered) → AnswersOf load r
+      → OneOf ofLoad (numberGiven (r .answer))
   pub bound-of : (load : Load) (r : Bounded) → BoundOf load r
       → OneOf ofLoad (numberGiven (r .answer))
   pub margins-of : (load : Load) (r : Margined) → MarginsOf load r

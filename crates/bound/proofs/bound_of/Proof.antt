@@ -4,17 +4,20 @@ use borrow.Author.Needs.{needs}
 use Rattle.refusals.specs.declared.Checked.the-variants.{Good}
 use Rattle.load.specs.Check.{checkLoad}
 use Rattle.load.proofs.AcceptableLaws.{check-acceptable}
+use Rattle.bound.specs.declared.Answered.{Answered}
 use Rattle.bound.proofs.bound_of.Statement.{statement}
 use Rattle.bound.proofs.bound_of.Tie as tie
 
 good : (c : tie.After-enum-told) → checkLoad (c .before .before .before .args .load) ≡ Good
 good c = sym (c .before .before .check-load .ensures) ∙ c .enum-told .given .1
 
-requires : tie.Need-load-bound-requires
+requires : tie.Need-load-answers-requires
 requires c κs = check-acceptable (c .before .before .before .args .load) (good c)
 
 given : tie.Need-returns
-given c = rw (good (c .before)) (ap (λ answer. record { answer = Good; bound = answer }) (c .load-bound .ensures))
+given c =
+    rw (good (c .before))
+    (ap (λ (r : Answered). record { answer = Good; bound = r .bound }) (c .load-answers .ensures))
 
 refused : tie.Need-returns-2
 refused c = rw (sym (c .before .before .before .check-load .ensures) ∙ c .before .found .given .1)

@@ -7,7 +7,8 @@ use Rattle.counting.specs.Searches.{firstTo}
 use Rattle.load.specs.declared.Row.{Row}
 use Rattle.load.specs.Load.{stepAt}
 use Rattle.load.specs.View.{View, rowWindows, embeddedAmong}
-use Rattle.rules.specs.Bound.{largestW, smallestCosts}
+use Rattle.rules.specs.Cut.{cut}
+use Rattle.rules.specs.Bound.{largestW, smallestCosts, bound}
 
 -- how many steps a row keeps that keeps its first ones for certain
 unfoldable pub keptFrom : Row → ℕ → ℕ
@@ -30,3 +31,7 @@ ticksOf row m =
 -- the largest W's of the first k places, added
 abbrev pub waitsBelow : View → ℕ → ℕ
 waitsBelow L k = sumTo (largestW smallestCosts L) k
+
+-- the bound of the load cut at k + 1
+abbrev pub boundAt : View → ℕ → ℕ
+boundAt L k = bound (cut L (k + 1))

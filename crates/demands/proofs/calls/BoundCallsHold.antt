@@ -1,6 +1,12 @@
 -- The calls on bounds and margins: each contract is its relation in BoundCalls, which a result meets, and one only.
 use mathlib.Core.Path.{refl}
-use Rattle.bound.proofs.CallLaws.{BoundOf-unique, MarginsOf-unique, VerdictOf-unique, MarginBytes-unique}
+use Rattle.bound.proofs.CallLaws.{
+  AnswersOf-unique,
+  BoundOf-unique,
+  MarginsOf-unique,
+  VerdictOf-unique,
+  MarginBytes-unique,
+}
 use Rattle.demands.specs.BoundCalls.{EveryBoundCall}
 use Rattle.demands.specs.Sameness.{OneResult}
 use Rattle.demands.specs.JoinedContract.{Relation}
@@ -11,6 +17,7 @@ use Rattle.demands.proofs.calls.CallAnswers.{listed, is}
 abbrev pub bound-relations : EveryBoundCall Relation
 bound-relations =
     record {
+      answers-of = λ load. listed;
       bound-of = λ load. listed;
       margins-of = λ load. listed;
       verdict-of = λ load. listed;
@@ -20,6 +27,7 @@ bound-relations =
 pub bound-contracts : BoundContracts bound-relations
 bound-contracts =
     record {
+      answers-of = refl;
       bound-of = refl;
       margins-of = refl;
       verdict-of = refl;
@@ -29,6 +37,7 @@ bound-contracts =
 pub bound-same : EveryBoundCall OneResult
 bound-same =
     record {
+      answers-of = AnswersOf-unique;
       bound-of = BoundOf-unique;
       margins-of = MarginsOf-unique;
       verdict-of = VerdictOf-unique;
@@ -38,6 +47,7 @@ bound-same =
 pub bound-answers : EveryBoundCall Answer
 bound-answers =
     record {
+      answers-of = λ load. is _;
       bound-of = λ load. is _;
       margins-of = λ load. is _;
       verdict-of = λ load. is _;

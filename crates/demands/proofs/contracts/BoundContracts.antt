@@ -6,6 +6,8 @@ use Rattle.demands.specs.JoinedContract.{Says, Relation}
 
 pub record BoundContracts (relation : EveryBoundCall Relation) : Type 2 where
   -- bound
+  pub answers-of : Says bound.answers_of.ended (λ M. bound.answers_of.spec)
+      (λ κs a r s. relation .answers-of (a .0) .meets r)
   pub bound-of : Says bound.bound_of.ended (λ M. bound.bound_of.spec)
       (λ κs a r s. relation .bound-of (a .0) .meets r)
   pub margins-of : Says bound.margins_of.ended (λ M. bound.margins_of.spec)

@@ -9,6 +9,7 @@ use Rattle.load.specs.declared.Load.{Load}
 use Rattle.load.specs.Check.{checkLoad}
 use Rattle.rules.specs.declared.Slot.{Slot}
 use Rattle.rules.specs.Check.{checkSchedule}
+use Rattle.bound.specs.declared.Answered.{Answered}
 use Rattle.bound.specs.declared.Bounded.{Bounded}
 use Rattle.bound.specs.declared.Margined.{Margined}
 use Rattle.bound.specs.declared.Judged.{Judged}
@@ -32,6 +33,7 @@ pub load-first : LoadFirst
 load-first =
     record {
       alike = λ load found c. record {
+        answers-of = λ r e. ap (λ (x : Answered). x .answer) e ∙ sym c;
         bound-of = λ r e. ap (λ (x : Bounded). x .answer) e ∙ sym c;
         margins-of = λ r e. ap (λ (x : Margined). x .answer) e ∙ sym c;
         verdict-of = λ r e. ap (λ (x : Judged). x .answer) e ∙ sym c;

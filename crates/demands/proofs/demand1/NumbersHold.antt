@@ -27,6 +27,7 @@ numbers =
       check-parts = λ row r e. rw e (parts-give row .number);
       read-load = λ bs r e. rw e (file-gives bs .number);
       write-load = load-written-gives;
+      answers-of = λ load r e. rw e (load-gives load .number);
       bound-of = λ load r e. rw e (load-gives load .number);
       margins-of = λ load r e. rw e (load-gives load .number);
       verdict-of = λ load r e. rw e (load-gives load .number);

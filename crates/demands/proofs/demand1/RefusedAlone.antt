@@ -15,13 +15,15 @@ use Rattle.load_file.specs.declared.Reading.{Reading}
 use Rattle.load_file.specs.Places.{loadIn}
 use Rattle.load_file.specs.Reading.{fileFault, readLoad}
 use Rattle.load_file.specs.Calls.{ReadLoad}
+use Rattle.bound.specs.declared.Answered.{Answered}
 use Rattle.bound.specs.declared.Bounded.{Bounded}
 use Rattle.bound.specs.declared.Margined.{Margined}
 use Rattle.bound.specs.declared.Judged.{Judged}
-use Rattle.bound.specs.Calls.{BoundOf, MarginsOf, VerdictOf}
+use Rattle.bound.specs.Calls.{AnswersOf, BoundOf, MarginsOf, VerdictOf}
 use Rattle.bench.specs.declared.Ran.{Ran}
 use Rattle.bench.specs.Calls.{Runs}
 use Rattle.bench.proofs.running.RunsLaws.{scheduleOr-refused}
+use Rattle.demands.specs.Demand1.{nothingBut}
 
 pub refused-load : (bs : List ℕ) (r : Reading) (refusal : Refusal) → ReadLoad bs r → r .answer ≡ Refused refusal
     → r .load ≡ zeroLoad
@@ -47,6 +49,12 @@ module _ (load : Load) where
   refused-verdict r refusal e h =
       ap (λ (x : Judged). x .verdict) e
       ∙ ifGood-refused (checkLoad load) _ false refusal (ap (λ (x : Judged). x .answer) (sym e) ∙ h)
+
+  pub refused-answers : (r : Answered) (refusal : Refusal) → AnswersOf load r → r .answer ≡ Refused refusal
+      → r ≡ nothingBut refusal
+  refused-answers r refusal e h =
+      let found : checkLoad load ≡ Refused refusal = ap (λ (x : Answered). x .answer) (sym e) ∙ h in
+      e ∙ rw found
 
   pub refused-slots : (r : Ran) (refusal : Refusal) → Runs load r → r .answer ≡ Refused refusal → r .count ≡ 0
   refused-slots r refusal e h =

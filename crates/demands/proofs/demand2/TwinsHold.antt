@@ -48,6 +48,15 @@ module _ (a b : Load) (same : SameLoad a b) (ga : checkLoad a ≡ Good) (gb : ch
               margins = ifGood (one-check t) (margins-same a b same t) (replicate mostRows (pos 0));
             })
             ∙ sym q;
+        together = λ r s p q.
+            p
+            ∙ (λ t. record {
+              answer = one-check t;
+              bound = ifGood (one-check t) (bound-same a b same t) 0;
+              margins = ifGood (one-check t) (margins-same a b same t) (replicate mostRows (pos 0));
+              verdict = ifGood (one-check t) (verdict-same a b same t) false;
+            })
+            ∙ sym q;
         moves = λ bench r s p q. p ∙ nextMove-same a b same ga gb bench ∙ sym q;
         schedules = λ r s p q. p ∙ (λ t. ranWith (one-check t) (one-schedule t)) ∙ sym q;
       }

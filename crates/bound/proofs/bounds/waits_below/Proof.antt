@@ -15,7 +15,7 @@ use Rattle.bound.proofs.bounds.waits_below.Statement.{statement}
 use Rattle.bound.proofs.bounds.waits_below.Tie as tie
 
 abbrev Inv-loop : tie.InvT-loop
-Inv-loop load sums₀ sum₀ k₀ sums sum k =
+Inv-loop load rows sums₀ sum₀ k₀ sums sum k =
     (1 ≤ k)
     × (k ≤ 8)
     × (sum ≡ waitsBelow (viewOf load) (k - 1))
@@ -23,7 +23,7 @@ Inv-loop load sums₀ sum₀ k₀ sums sum k =
     × (sums ≡ filled (waitsBelow (viewOf load)) k 8 0)
 
 abbrev μ-loop : tie.MeasureT-loop
-μ-loop load sums₀ sum₀ k₀ sums sum k = 8 - k
+μ-loop load rows sums₀ sum₀ k₀ sums sum k = 8 - k
 
 -- below the first place there is no W
 first : (L : View) → replicate 8 0 ≡ filled (waitsBelow L) 1 8 0
@@ -78,7 +78,7 @@ waits-below-spec =
     μ-loop
     loop-holds
     (λ c. search needs)
-    (λ c κs. (c .before .before .pre, omega arith))
+    (λ c κs. (c .before .before .pre .0, c .before .before .pre .1, omega arith))
     (λ c. search needs)
     (λ c. search needs)
     (λ c. search needs)

@@ -17,11 +17,16 @@ below c t =
 none : tie.Need-returns
 none c = sym (ap (below (c .before)) (c .if1 .taken) ∙ pairsBelow-none _ _ _ _)
 
+-- how many are at most the number below t
+up-to : (c : tie.After-count-up-to)
+    → c .count-up-to .result ≡ below (c .before .before) (c .before .before .args .t - 1 + 1)
+up-to c = c .count-up-to .ensures ∙ sym (pairsBelow-next _ _ _ _ _)
+
 some : tie.Need-returns-2
 some c =
     let start = c .before .before in
     let e : start .args .t - 1 + 1 ≡ start .args .t = omega arith in
-    c .count-up-to .ensures ∙ (sym (pairsBelow-next _ _ _ _ _) ∙ ap (below start) e)
+    up-to c ∙ ap (below start) e
 
 pub count-below-spec : {M : Type 1} → statement M
 count-below-spec = tie.close (tie.spec none (λ c. search needs) (λ c κs. search needs) some)

@@ -1,6 +1,5 @@
 -- `smallest_sum` adds the costs below the one that splits them, and that one for each that is still missing of the r.
-use Prim.Native.Nat.{ℕ, _+_, _*_, _-_, _≤_}
-use mathlib.Core.Path.{sym, ap, _∙_}
+use Prim.Native.Nat.{ℕ, _*_, _-_, _≤_}
 use native.Mathlib.Nat.{mul-le-mul}
 use native.Mathlib.Omega.{arith}
 use borrow.Author.Needs.{needs}
@@ -21,8 +20,11 @@ returns c =
     let split = c .before .before in
     let splits = split .splitting-cost .ensures .0 in
     let d : ℕ = split .before .count-marked .result - c .before .count-below .result in
-    ap (λ s. s + d * split .splitting-cost .result) (c .sum-below .ensures .0)
-    ∙ sym (pairsSmallest-threshold _ _ _ _ _ d (omega arith) (splits .up-to))
+    omega (
+      arith,
+      c .sum-below .ensures .0,
+      pairsSmallest-threshold _ _ _ _ _ d (omega arith) (splits .up-to),
+    )
 
 pub smallest-sum-spec : {M : Type 1} → statement M
 smallest-sum-spec =

@@ -15,7 +15,7 @@ use Rattle.bound.proofs.waits.largest_of.Tie as tie
 
 -- the function's entry, and the arrays of the place
 abbrev start : tie.After-waits-at → tie.Start
-start c = c .before .before .before .before .before
+start c = c .before .before .before .before
 
 place : (c : tie.After-waits-at)
     → AtPlace (viewOf (start c .args .load)) (start c .args .j) (c .before .before .before .costs-at .result)
@@ -35,7 +35,7 @@ place c =
           c .before .pairs-at .ensures
           ∙ ap (λ k. filled (λ i. freeIn (rowAt load i) j && freeIn (rowAt load i) k) (load .rows) 24 false) next;
       waits-is = c .waits-at .ensures;
-      frees-is = start c .pre .2 ∙ ap (freesAt load) next;
+      frees-is = start c .pre .3 ∙ ap (freesAt load) next;
     }
 
 -- there are few rows
@@ -46,21 +46,23 @@ largest-left-requires : tie.Need-largest-left-requires
 unfolding viewOf
 largest-left-requires c κs =
     let filled-in = c .before .before .before in
-    place-costed _ _ _ _ _ _ _ (place filled-in) (start filled-in .pre .0)
+    place-costed _ _ _ _ _ _ _ (place filled-in) _ (start filled-in .pre .1) (start filled-in .pre .0)
 
 returns : tie.Need-returns
 unfolding viewOf
-returns c = c .largest-left .ensures ∙ largestW-read _ _ _ _ _ _ _ (place (c .before .before .before .before))
+returns c =
+    c .largest-left .ensures
+    ∙ largestW-read _ _ _ _ _ _ _ (place (c .before .before .before .before)) _
+    (start (c .before .before .before .before) .pre .1)
 
 pub largest-of-spec : {M : Type 1} → statement M
 largest-of-spec =
     tie.close
     (tie.spec
+    (λ c κs. few c)
     (λ c. search needs)
     (λ c κs. few (c .before))
-    (λ c. search needs)
-    (λ c κs. few (c .before .before))
-    (λ c κs. (few (c .before .before .before), search needs))
-    (λ c κs. few (c .before .before .before .before))
+    (λ c κs. (few (c .before .before), search needs))
+    (λ c κs. few (c .before .before .before))
     largest-left-requires
     returns)

@@ -1,9 +1,11 @@
 -- `wait_left` takes row i's mark away and asks for the r smallest costs of the rows that are left.
 use Prim.Native.Nat.{_-_}
+use mathlib.Core.Bool.{false}
 use mathlib.Core.Path.{_≡_, _∙_, ap}
 use native.Mathlib.Omega.{arith}
 use borrow.Author.Needs.{needs}
-use Rattle.counting.specs.Lists.{memberAt}
+use lib.ListN.{set}
+use Rattle.counting.specs.Lists.{memberAt, isMarked}
 use Rattle.counting.proofs.sorting.PairLaws.{pairsSmallest}
 use Rattle.bound.specs.inner.Marks.{isOther}
 use Rattle.bound.proofs.MarkLaws.{Costed-others, pairsSmallest-others}
@@ -20,7 +22,10 @@ given-is : (c : tie.After-smallest-sum)
     ≡ pairsSmallest (memberAt (a .here .now)) (memberAt (a .next .now)) (isOther (a .pairs) (a .i)) (a .n)
 given-is c =
     let a = c .before .before .args in
-    c .smallest-sum .ensures ∙ pairsSmallest-others (a .pairs) (a .i) (a .here .now) (a .next .now) (a .n)
+    _∙_
+    {b = pairsSmallest (memberAt (a .here .now)) (memberAt (a .next .now)) (isMarked (set (a .pairs) (a .i) false))
+    (a .n)}
+    (c .smallest-sum .ensures) (pairsSmallest-others (a .pairs) (a .i) (a .here .now) (a .next .now) (a .n))
 
 left : tie.Need-returns
 left c = ap (λ s. c .before .before .before .args .wait - s) (given-is (c .before))

@@ -1,0 +1,57 @@
+// Bound, margins and verdict of a load together, from one check and one look at its places.
+use crate::Answered;
+use crate::bounds::cut_bounds;
+use crate::bounds::waits_below;
+use crate::margins::margins_by;
+use crate::margins::none_negative;
+use load::Load;
+use load::MOST_ROWS;
+use load::MOST_STEPS;
+use load::check_load;
+use refusals::Checked;
+ghost use mathlib.Core.Path.{_≡_};
+ghost use Rattle.load.specs.View.{viewOf};
+ghost use Rattle.load.specs.Acceptable.{Acceptable};
+ghost use Rattle.rules.specs.Bound.{bound};
+ghost use Rattle.rules.specs.Margins.{margins, verdict};
+ghost use Rattle.bound.specs.Calls.{AnswersOf};
+
+// Gives bound, margins and verdict of an accepted load. The number of rows is handed down, and only
+// functions that index the load read it there: each that does holds a copy.
+pub fn load_answers(load: Load) -> Answered
+    requires { ⌜ Acceptable (viewOf load) ⌝ }
+    ensures { λ r. ⌜ r ≡ record {
+      answer = Checked.Good;
+      bound = bound (viewOf load);
+      margins = margins (viewOf load);
+      verdict = verdict (viewOf load);
+    } ⌝ }
+{
+    let rows = load.rows as usize;
+    let waits = waits_below(load, rows);
+    let bounds = cut_bounds(load, &waits);
+    let margins = margins_by(load, &bounds);
+    Answered {
+        answer: Checked::Good,
+        bound: bounds[MOST_STEPS - 1],
+        margins,
+        verdict: none_negative(margins, rows),
+    }
+}
+
+// Gives bound, margins and verdict of a load, or the first of 3 to 7 with 0, margins that are all 0
+// and no.
+pub fn answers_of(load: Load) -> Answered
+    ensures { λ r. ⌜ AnswersOf load r ⌝ }
+{
+    let found = check_load(load);
+    match found {
+        Checked::Good => load_answers(load),
+        Checked::Refused(refusal) => Answered {
+            answer: Checked::Refused(refusal),
+            bound: 0,
+            margins: [0; MOST_ROWS],
+            verdict: false,
+        },
+    }
+}
