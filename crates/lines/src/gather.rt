@@ -4,9 +4,7 @@ use crate::line::put_refused;
 use crate::line::put_row;
 use crate::line::put_slot;
 use bench::run;
-use bound::bound_of;
-use bound::margins_of;
-use bound::verdict_of;
+use bound::answers_of;
 use load::Load;
 use load::MOST_ROWS;
 use load::row_at;
@@ -27,7 +25,6 @@ ghost use Rattle.rules.specs.Run.{schedule};
 ghost use Rattle.rules.specs.Slots.{mostSlots, slotAt, slotEnd, lastEnd};
 ghost use Rattle.rules.specs.ScheduleRules.{NamesStep};
 ghost use Rattle.lines.specs.Lines.{
-  rowLine,
   slotLine,
   loadLine,
   loadLines,
@@ -35,7 +32,7 @@ ghost use Rattle.lines.specs.Lines.{
   rowLineOf,
 };
 ghost use Rattle.lines.specs.Calls.{firstMost};
-ghost use Rattle.lines.specs.inner.Puts.{Put, Scheduled, rowsEnd};
+ghost use Rattle.lines.specs.inner.Puts.{Put, Scheduled, Told, rowsEnd};
 
 // Gives when a slot ends that names a step of the load.
 fn end_of(load: Load, slot: Slot) -> u32
@@ -72,7 +69,7 @@ fn put_slots(text: &mut [u8], at: usize, slots: [Slot; SLOT_PLACES], count: usiz
 }
 
 // Puts the lines of the rows, with their margins, from a place on.
-fn put_rows_with(text: &mut [u8], at: usize, load: Load, margins: [i32; MOST_ROWS]) -> usize
+fn put_rows(text: &mut [u8], at: usize, load: Load, margins: [i32; MOST_ROWS]) -> usize
     requires { ⌜ (at ≤ firstMost) × (load .rows ≤ mostRows) ⌝ }
     ensures { λ r. ⌜ Put (now (text .entry)) at
         (joinTo (λ i. rowLineOf (shown i) (rowAt load i) (marginIn margins i)) (load .rows))
@@ -86,44 +83,34 @@ fn put_rows_with(text: &mut [u8], at: usize, load: Load, margins: [i32; MOST_ROW
     next
 }
 
-// Puts the lines of the rows of an accepted load from a place on.
-fn put_rows(text: &mut [u8], at: usize, load: Load) -> usize
-    requires { ⌜ (checkLoad load ≡ Checked.Good) × (at ≤ firstMost) ⌝ }
-    ensures { λ r. ⌜ Put (now (text .entry)) at
-        (joinTo (rowLine load) (load .rows)) (now (text .exit)) r ⌝ }
-{
-    let margined = margins_of(load);
-    let margins = margined.margins;
-    put_rows_with(text, at, load, margins)
-}
-
-// Puts the first line of a load with its schedule. It has as many steps as slots.
-fn put_head(text: &mut [u8], load: Load, slots: [Slot; SLOT_PLACES], count: usize) -> usize
-    requires { ⌜ Scheduled load slots count ⌝ }
+// Puts the first line of a load, of its schedule, bound and verdict. It has as many steps as slots.
+fn put_head(
+    text: &mut [u8],
+    load: Load,
+    slots: [Slot; SLOT_PLACES],
+    count: usize,
+    bound: u32,
+    verdict: bool,
+) -> usize
+    requires { ⌜ Scheduled load slots count × Told (viewOf load) bound verdict ⌝ }
     ensures { λ r. ⌜ Put (now (text .entry)) 0
         (loadLine (viewOf load) (schedule (viewOf load))) (now (text .exit)) r ⌝ }
 {
     let end = last_end(load, slots, count);
-    let bounded = bound_of(load);
-    let judged = verdict_of(load);
-    put_first(
-        text,
-        load.rows,
-        count as u32,
-        end,
-        bounded.bound,
-        judged.verdict,
-    )
+    put_first(text, load.rows, count as u32, end, bound, verdict)
 }
 
-// Puts the lines of a load with its schedule: the first line, the row lines, the slot lines.
+// Puts the lines of a load with its schedule: the first line, the row lines, the slot lines. One
+// call tells bound, verdict and margins.
 fn put_lines(text: &mut [u8], load: Load, slots: [Slot; SLOT_PLACES], count: usize) -> usize
     requires { ⌜ Scheduled load slots count ⌝ }
     ensures { λ r. ⌜ Put (now (text .entry)) 0
         (loadLines load) (now (text .exit)) r ⌝ }
 {
-    let rows_at = put_head(text, load, slots, count);
-    let slots_at = put_rows(text, rows_at, load);
+    let told = answers_of(load);
+    let margins = told.margins;
+    let rows_at = put_head(text, load, slots, count, told.bound, told.verdict);
+    let slots_at = put_rows(text, rows_at, load, margins);
     put_slots(text, slots_at, slots, count)
 }
 

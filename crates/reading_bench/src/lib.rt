@@ -1,6 +1,6 @@
 // The calls for C. Each is lent the bytes of a load file and an output, and gives one number: what
 // is wrong with the file, 1 to 8; then 9, where the output is shorter than the answer; else 0. A
-// refusal alters no byte, and bytes past the answer stay.
+// refusal alters no byte, and bytes past the answer stay. A refused file is looked at no further.
 use bench::run;
 use bound::bound_of;
 use bound::margin_bytes;
@@ -17,34 +17,33 @@ use words::overwrite;
 ghost use Rattle.reading_bench.specs.Calls.{Numbered, BenchBound, BenchVerdict};
 ghost use Rattle.reading_bench.specs.Calls.{BenchMargins, BenchSchedule};
 
-// Gives what was found by its number; where that is nothing, writes the answer over the output's
-// front and gives 0, or gives 9 where there is no room for it. A refusal alters no byte, and bytes
-// past the answer stay.
-fn give(found: Checked, answer: &[u8], out: &mut [u8]) -> u32
-    ensures { λ r. ⌜ Numbered found (now (answer .entry)) (now (out .entry)) r (now (out .exit)) ⌝ }
+// Writes an answer over the output's front and gives 0, or gives 9 where there is no room for it. A
+// refusal alters no byte, and bytes past the answer stay.
+fn give(answer: &[u8], out: &mut [u8]) -> u32
+    ensures { λ r. ⌜ Numbered
+        Checked.Good (now (answer .entry)) (now (out .entry)) r (now (out .exit)) ⌝ }
 {
-    match found {
-        Checked::Good => {
-            if out.len() < answer.len() {
-                return number_of(Refusal::OutputShort);
-            }
-            overwrite(out, 0, answer);
-            0
-        }
-        Checked::Refused(refusal) => number_of(refusal),
+    if out.len() < answer.len() {
+        return number_of(Refusal::OutputShort);
     }
+    overwrite(out, 0, answer);
+    0
 }
 
-// Writes the bound of a load: 4 bytes, little-endian. A refused file is read as the empty load,
-// whose answer is not given.
+// Writes the bound of a load: 4 bytes, little-endian.
 #[no_mangle]
 pub extern "C" fn bench_bound(load: &[u8], out: &mut [u8]) -> u32
     ensures { λ r. ⌜ BenchBound (now (load .entry)) (now (out .entry)) r (now (out .exit)) ⌝ }
 {
     let read = read_load(load);
     let found = read.answer;
-    let bounded = bound_of(read.load);
-    give(found, &bytes32(bounded.bound), out)
+    match found {
+        Checked::Good => {
+            let bounded = bound_of(read.load);
+            give(&bytes32(bounded.bound), out)
+        }
+        Checked::Refused(refusal) => number_of(refusal),
+    }
 }
 
 // Writes the verdict of a load: 1 byte, 1 for yes and 0 for no.
@@ -54,8 +53,13 @@ pub extern "C" fn bench_verdict(load: &[u8], out: &mut [u8]) -> u32
 {
     let read = read_load(load);
     let found = read.answer;
-    let judged = verdict_of(read.load);
-    give(found, &[judged.verdict as u8], out)
+    match found {
+        Checked::Good => {
+            let judged = verdict_of(read.load);
+            give(&[judged.verdict as u8], out)
+        }
+        Checked::Refused(refusal) => number_of(refusal),
+    }
 }
 
 // Writes all margins of a load: 96 bytes, 4 to a row, little-endian two's complement.
@@ -65,9 +69,14 @@ pub extern "C" fn bench_margins(load: &[u8], out: &mut [u8]) -> u32
 {
     let read = read_load(load);
     let found = read.answer;
-    let margined = margins_of(read.load);
-    let margins = margined.margins;
-    give(found, &margin_bytes(margins), out)
+    match found {
+        Checked::Good => {
+            let margined = margins_of(read.load);
+            let margins = margined.margins;
+            give(&margin_bytes(margins), out)
+        }
+        Checked::Refused(refusal) => number_of(refusal),
+    }
 }
 
 // Writes the schedule file of a load: the starts of its run, from fresh to Done.

@@ -1,6 +1,7 @@
--- What the parts of the code ask for and give: the slots of an accepted load, and bytes put into a
--- text from a place on. The promises do not cite this page.
+-- What the parts of the code ask for and give: the slots of an accepted load, its bound and its
+-- verdict, and bytes put into a text from a place on. The promises do not cite this page.
 use Prim.Native.Nat.{ℕ, _+_, _*_, _≤_}
+use mathlib.Core.Bool.{Bool}
 use mathlib.Core.List.{List}
 use mathlib.Core.Path.{_≡_}
 use lib.ListN.{length, take}
@@ -8,9 +9,11 @@ use lib.Seq.{sets}
 use Rattle.refusals.specs.declared.Checked.the-variants.{Good}
 use Rattle.load.specs.declared.Load.{Load}
 use Rattle.load.specs.Load.{mostRows}
-use Rattle.load.specs.View.{viewOf, stepsInAll}
+use Rattle.load.specs.View.{View, viewOf, stepsInAll}
 use Rattle.load.specs.Check.{checkLoad}
 use Rattle.rules.specs.declared.Slot.{Slot}
+use Rattle.rules.specs.Bound.{bound}
+use Rattle.rules.specs.Margins.{verdict}
 use Rattle.rules.specs.Slots.{mostSlots}
 use Rattle.rules.specs.Run.{schedule}
 use Rattle.lines.specs.Calls.{firstMost, rowMost}
@@ -25,6 +28,11 @@ pub record Scheduled (load : Load) (slots : List Slot) (count : ℕ) : Type 0 wh
   pub taken : take count slots ≡ schedule (viewOf load)
   pub counted : count ≡ stepsInAll (viewOf load)
   pub few : count ≤ mostSlots
+
+-- a bound and a verdict that were told are the load's
+pub record Told (L : View) (boundTold : ℕ) (verdictTold : Bool) : Type 0 where
+  pub bound-is : boundTold ≡ bound L
+  pub verdict-is : verdictTold ≡ verdict L
 
 -- bytes stand in a text from a place on, and the next place is the one behind them
 pub record Put (before : List ℕ) (at : ℕ) (bs after : List ℕ) (next : ℕ) : Type 0 where

@@ -4,7 +4,7 @@ use mathlib.Core.Path.{refl}
 use borrow.Author.Needs.{needs}
 use Rattle.load.specs.View.{viewOf}
 use Rattle.reading_bench.specs.Calls.{scheduleFile}
-use Rattle.reading_bench.proofs.ForCLaws.{refused-numbered, good-numbered, load-good, read-for-c}
+use Rattle.reading_bench.proofs.ForCLaws.{refused-for-c, load-good, read-for-c}
 use Rattle.reading_bench.proofs.ScheduleLaws.{run-written}
 use Rattle.reading_bench.proofs.bench_schedule.Statement.{statement}
 use Rattle.reading_bench.proofs.bench_schedule.Tie as tie
@@ -20,21 +20,19 @@ is-written c =
     let load = read .read-load .result .load in
     let is-good = told .enum-told .given .1 in
     let good = load-good _ _ (read .read-load .ensures) inside is-good in
-    read-for-c _ _ (read .read-load .ensures) inside scheduleFile (scheduleFile (viewOf load)) (start .out .now) _ _
-    (λ g. refl)
-    (good-numbered _ _ _ _ _ _ is-good
-    (run-written load good (ran .run .result) _ _ _ (ran .run .ensures) (wrote .write-array .ensures))
-    (c .number-given .ensures))
+    read-for-c _ _ (read .read-load .ensures) inside is-good scheduleFile (scheduleFile (viewOf load)) (start .out .now)
+    _ _ (λ g. refl)
+    (record {
+      found = wrote .write-array .result;
+      given = run-written load good (ran .run .result) _ _ _ (ran .run .ensures) (wrote .write-array .ensures);
+      number-is = c .number-given .ensures;
+    })
 
 is-refused : tie.Need-returns-2
 is-refused c =
     let told = c .before .before in
     let read = told .before .before in
-    let inside = read .before .before .shared-slice-known .given in
-    let start = read .before .before .before .args in
-    let file = scheduleFile (viewOf (read .read-load .result .load)) in
-    read-for-c _ _ (read .read-load .ensures) inside scheduleFile file (start .out .now) _ _ (λ g. refl)
-    (refused-numbered _ file (start .out .now) _ _ (told .found .given .1) (c .number-of .ensures))
+    refused-for-c _ _ (read .read-load .ensures) scheduleFile _ _ _ (told .found .given .1) (c .number-of .ensures)
 
 pub bench-schedule-spec : {M : Type 1} → statement M
 bench-schedule-spec =

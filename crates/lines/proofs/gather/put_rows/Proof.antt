@@ -1,25 +1,89 @@
--- `lines::gather::put_rows` puts the row lines with the margins that the load has.
+-- `lines::gather::put_rows` puts one row line a turn, each of at most 49 bytes, behind those before it.
+use Prim.Native.Nat.{ℕ, _+_, _-_, _*_, _≤_}
+use mathlib.Core.List.{List}
+use mathlib.Core.Path.{_≡_, refl, ap, _∙_}
+use native.Mathlib.Omega.{arith}
 use borrow.Author.Needs.{needs}
-use Rattle.load.proofs.AcceptableLaws.{check-acceptable}
-use Rattle.bound.proofs.AcceptedLaws.{accepted-few}
-use Rattle.lines.proofs.PutLaws.{put-same}
-use Rattle.lines.proofs.AnswerLaws.{rowLines-told}
+use lib.IntN.{ℤ}
+use lib.ListN.{length}
+use mir.Facts.{toZ-ofZ}
+use mir.Syntax.{w32}
+use mir.Val.{SFits}
+use Rattle.counting.specs.Lists.{joinTo}
+use Rattle.load.specs.declared.Load.{Load}
+use Rattle.load.specs.Load.{shown, rowAt}
+use Rattle.rules.specs.Margins.{marginIn}
+use Rattle.bound.proofs.SignLaws.{each-fits}
+use Rattle.lines.specs.Lines.{rowLineOf}
+use Rattle.lines.specs.inner.Puts.{Put}
+use Rattle.lines.proofs.PutLaws.{put-same, put-none, put-next}
+use Rattle.lines.proofs.LengthLaws.{rowLineOf-le}
 use Rattle.lines.proofs.gather.put_rows.Statement.{statement}
 use Rattle.lines.proofs.gather.put_rows.Tie as tie
 
-requires : tie.Need-put-rows-with-requires
-requires c κs =
-    let start = c .before .before .before .before in
-    (start .pre .1, accepted-few (start .args .load) (check-acceptable (start .args .load) (start .pre .0)))
+-- the line of the row at a place
+abbrev lineAt : Load → List ℤ → ℕ → List ℕ
+lineAt load margins i = rowLineOf (shown i) (rowAt load i) (marginIn margins i)
 
-returns : tie.Need-returns
-returns c =
+abbrev Inv-loop : tie.InvT-loop
+Inv-loop text₀ at load margins rows next₀ i₀ text next i =
+    (i ≤ rows)
+    × (next ≤ at + 49 * i)
+    × (length text ≡ length text₀)
+    × Put text₀ at (joinTo (lineAt load margins) i) text next
+
+abbrev μ-loop : tie.MeasureT-loop
+μ-loop text₀ at load margins rows next₀ i₀ text next i = rows - i
+
+starts : tie.Need-loop-holds Inv-loop μ-loop
+starts c = (search needs, search needs, refl, put-none _ _ _)
+
+-- a margin of the array is one of 32 bits
+fits : (c : tie.At-loop Inv-loop μ-loop)
+    → SFits w32 (marginIn (c .before .before .args .t4) (c .loop .i))
+fits c =
+    let start = c .before .before in
+    each-fits (start .args .t4) (start .good .1 .1 .1 .0 .0) (c .loop .i) (start .good .1 .1 .1 .0 .1 .1)
+
+goes-on : tie.Need-loop-again Inv-loop μ-loop
+goes-on c =
     let made = c .before .before in
-    let told = made .before .before .before in
-    let start = told .before .before in
-    put-same (rowLines-told (start .args .load) (start .pre .0) _ (told .margins-of .ensures))
-    (made .put-rows-with .ensures)
+    let turn = made .before .before .before .before .before in
+    let load = turn .before .before .args .t3 in
+    let margins = turn .before .before .args .t4 in
+    let i = turn .loop .i in
+    let same = ap (rowLineOf (shown i) (rowAt load i)) (toZ-ofZ (fits turn)) in
+    let put = put-same same (made .put-row .ensures) in (
+      search needs,
+      omega (arith, put .place-is, rowLineOf-le (shown i) (rowAt load i) (marginIn margins i)),
+      made .put-row .kept .0 ∙ turn .loop .inv .2,
+      put-next (lineAt load margins) i (turn .loop .inv .3) put,
+    )
+
+ends : tie.Need-returns Inv-loop μ-loop
+ends c =
+    let a = c .before in
+    let load = a .before .before .args .t3 in
+    let e : a .loop .i ≡ load .rows = omega arith in
+    rw e at (a .loop .inv .3)
 
 pub put-rows-spec : {M : Type 1} → statement M
 put-rows-spec =
-    tie.close (tie.spec (λ c κs. search needs) requires (λ c. search needs) returns)
+    tie.close
+    (tie.spec
+    Inv-loop
+    μ-loop
+    (λ c. search needs)
+    starts
+    (λ c. search needs)
+    (λ c. search needs)
+    (λ c. search needs)
+    (λ c. search needs)
+    (λ c. search needs)
+    (λ c. search needs)
+    (λ c κs. omega arith)
+    (λ c. search needs)
+    (λ c. search needs)
+    goes-on
+    (λ c. c .before .loop .inv .2)
+    ends)
