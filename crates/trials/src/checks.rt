@@ -4,35 +4,29 @@
 use crate::given::Given;
 use crate::given::write_refused;
 use crate::input::read_things;
-use crate::output::write_found;
+use crate::output::write_number;
 use crate::output::write_text;
 use crate::slots::SLOT_SIZE;
 use crate::slots::SLOTS_SIZE;
 use crate::slots::slots_from;
-use rules::Slot;
-use schedule::SLOT_PLACES;
+use refusals::number_given;
 use schedule::check_array;
-
-// Writes what the check of the first n slots finds, or the file's refusal.
-fn write_checked(given: Given, slots: [Slot; SLOT_PLACES], n: usize) {
-    let refused = given.found;
-    if !write_refused(refused) {
-        write_found(b"check ", check_array(given.load, slots, n));
-    }
-}
 
 // Reads and answers the question. Says no where it is cut short, the file too long, or the slots
 // too many.
 pub fn answer(given: Given) -> bool {
-    let mut bytes = [0u8; SLOTS_SIZE];
-    let counted = read_things(&mut bytes, SLOT_SIZE);
     if !given.is_whole {
         return false;
     }
+    let mut bytes = [0u8; SLOTS_SIZE];
+    let counted = read_things(&mut bytes, SLOT_SIZE);
     if !counted.is_whole {
         return false;
     }
-    write_checked(given, slots_from(&bytes), counted.things as usize);
+    if !write_refused(given.found) {
+        let found = check_array(given.load, slots_from(&bytes), counted.things as usize);
+        write_number(b"check ", number_given(found));
+    }
     write_text(b"\n");
     true
 }

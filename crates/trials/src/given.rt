@@ -5,16 +5,16 @@ use crate::input::read_things;
 use crate::input::read_whole;
 use crate::memory::LOAD_SIZE;
 use crate::memory::load_from;
-use crate::output::write_refusal;
+use crate::output::write_number;
 use load::Load;
 use load_file::read_load;
-use refusals::Checked;
+use refusals::number_given;
 
-// A load and what its reading found; not whole where the question is cut short, or the file too
-// long.
+// A load and the number of what its reading found, 0 for nothing; not whole where the question is
+// cut short, or the file too long.
 pub struct Given {
     pub is_whole: bool,
-    pub found: Checked,
+    pub found: u32,
     pub load: Load,
 }
 
@@ -23,11 +23,11 @@ pub fn from_file() -> Given {
     let mut file = io::buffer();
     let counted = read_things(&mut file, 1);
     let reading = read_load(front(&file, counted.things as usize));
-    let found = reading.answer;
+    let answer = reading.answer;
     let load = reading.load;
     Given {
         is_whole: counted.is_whole,
-        found,
+        found: number_given(answer),
         load,
     }
 }
@@ -38,16 +38,16 @@ pub fn from_memory() -> Given {
     let is_whole = read_whole(&mut bytes);
     Given {
         is_whole,
-        found: Checked::Good,
+        found: 0,
         load: load_from(&bytes),
     }
 }
 
 // Writes `refused` and the number where a file is refused. Says no where it is not.
-pub fn write_refused(found: Checked) -> bool {
-    let Checked::Refused(refusal) = found else {
+pub fn write_refused(found: u32) -> bool {
+    if found == 0 {
         return false;
-    };
-    write_refusal(refusal);
+    }
+    write_number(b"refused ", found);
     true
 }

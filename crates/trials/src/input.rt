@@ -20,14 +20,6 @@ pub fn read_whole(buffer: &mut [u8]) -> bool {
     io::read_full(STDIN_FILENO, buffer) == asked
 }
 
-// Fills the first n places of a buffer. Says no where it has fewer, or the input ends before.
-pub fn read_front(buffer: &mut [u8], n: usize) -> bool {
-    if buffer.len() < n {
-        return false;
-    }
-    read_whole(&mut buffer[..n])
-}
-
 // Reads a count of two bytes.
 pub fn read_count() -> Counted {
     let mut bytes = [0u8; 2];
@@ -47,7 +39,11 @@ pub fn read_things(buffer: &mut [u8], size: usize) -> Counted
     if !counted.is_whole {
         return counted;
     }
-    let is_whole = read_front(buffer, size * counted.things as usize);
+    let n = size * counted.things as usize;
+    let mut is_whole = false;
+    if n <= buffer.len() {
+        is_whole = read_whole(&mut buffer[..n]);
+    }
     Counted {
         is_whole,
         things: counted.things,

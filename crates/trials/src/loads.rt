@@ -2,12 +2,11 @@
 // and the number of what the load's writing finds; where that is 0, in hexadecimal digits by the
 // load file (W) or by all the room (w).
 use crate::given::from_memory;
-use crate::input::front;
 use crate::output::write_written;
-use crate::rooms::FILLED;
 use crate::rooms::MOST_ROOM;
-use crate::rooms::Room;
 use crate::rooms::answered;
+use crate::rooms::filled;
+use crate::rooms::read_room;
 use load::Load;
 use load::row_at;
 use load_records::write_load;
@@ -23,28 +22,19 @@ fn file_size(load: Load) -> usize {
     size
 }
 
-// Answers for a load, its writing lent a room at the front of the bytes. Says no where they are
-// fewer.
-fn answer_written(load: Load, bytes: &mut [u8], room: Room) -> bool {
-    let size = room.size;
-    if bytes.len() < size {
-        return false;
-    }
-    let found = write_load(load, &mut bytes[..size]);
-    let count = answered(room, file_size(load));
-    write_written(b"load ", found, front(bytes, count));
-    true
-}
-
 // Reads and answers the question. Says no where it is cut short, or the room too large.
-pub fn answer(room: Room) -> bool {
-    let given = from_memory();
-    if !room.is_whole {
+pub fn answer(is_said: bool) -> bool {
+    let room = read_room(is_said);
+    if room > MOST_ROOM {
         return false;
     }
+    let given = from_memory();
     if !given.is_whole {
         return false;
     }
-    let mut bytes = [FILLED; MOST_ROOM];
-    answer_written(given.load, &mut bytes, room)
+    let mut bytes = filled();
+    let found = write_load(given.load, &mut bytes[..room]);
+    let n = answered(is_said, room, file_size(given.load));
+    write_written(b"load ", found, &bytes, n);
+    true
 }

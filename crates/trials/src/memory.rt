@@ -11,7 +11,7 @@ use load::MOST_WINDOWS;
 use load::Row;
 use load::Step;
 use load::Window;
-use load::zero_row;
+use load::zero_load;
 use words::byte_at;
 use words::number16_at;
 use words::number32_at;
@@ -84,12 +84,10 @@ fn row_from(bytes: &[u8], at: usize) -> Row
 
 // Gives the load that the bytes spell.
 pub fn load_from(bytes: &[u8]) -> Load {
-    let mut rows = [zero_row(); MOST_ROWS];
+    let mut load = zero_load();
+    load.rows = byte_at(bytes, 0);
     for i in 0..MOST_ROWS {
-        rows[i] = row_from(bytes, ROWS_AT + ROW_SIZE * i);
+        load.row[i] = row_from(bytes, ROWS_AT + ROW_SIZE * i);
     }
-    Load {
-        rows: byte_at(bytes, 0),
-        row: rows,
-    }
+    load
 }

@@ -6,13 +6,15 @@
 use crate::given::Given;
 use crate::given::write_refused;
 use crate::input::read_whole;
+use crate::output::write_marked;
 use crate::output::write_number;
-use crate::output::write_refusal;
 use crate::output::write_text;
 use bench::Bench;
 use bench::Moved;
+use bench::fresh;
 use bench::next_move;
 use load::MOST_ROWS;
+use refusals::number_of;
 use rules::Outcome;
 use words::byte_at;
 use words::number32_at;
@@ -27,21 +29,15 @@ const ROW_SIZE: usize = 9;
 
 // Gives the state that the bytes spell, as it is.
 fn bench_from(bytes: &[u8]) -> Bench {
-    let mut finished = [0u8; MOST_ROWS];
-    let mut end = [0u32; MOST_ROWS];
-    let mut opening = [0u32; MOST_ROWS];
+    let mut bench = fresh();
+    bench.clock = number32_at(bytes, 0);
     for i in 0..MOST_ROWS {
         let at = CLOCK_SIZE + ROW_SIZE * i;
-        finished[i] = byte_at(bytes, at);
-        end[i] = number32_at(bytes, at + 1);
-        opening[i] = number32_at(bytes, at + 5);
+        bench.finished[i] = byte_at(bytes, at);
+        bench.end[i] = number32_at(bytes, at + 1);
+        bench.opening[i] = number32_at(bytes, at + 5);
     }
-    Bench {
-        clock: number32_at(bytes, 0),
-        finished,
-        end,
-        opening,
-    }
+    bench
 }
 
 // Writes what a move answered.
@@ -49,20 +45,22 @@ fn write_outcome(outcome: Outcome) {
     match outcome {
         Outcome::Start(slot) => {
             write_number(b"start ", slot.row as u32);
-            write_number(b" ", slot.step as u32);
-            write_number(b" ", slot.start);
+            write_marked(b' ', slot.step as u32);
+            write_marked(b' ', slot.start);
         }
         Outcome::Idle => write_text(b"idle"),
         Outcome::Done => write_text(b"done"),
-        Outcome::Refused(refusal) => write_refusal(refusal),
+        Outcome::Refused(refusal) => {
+            write_refused(number_of(refusal));
+        }
     }
 }
 
 // Writes what a state holds of a row.
 fn write_row(finished: u8, end: u32, opening: u32) {
-    write_number(b" ", finished as u32);
-    write_number(b":", end);
-    write_number(b":", opening);
+    write_marked(b' ', finished as u32);
+    write_marked(b':', end);
+    write_marked(b':', opening);
 }
 
 // Writes what a state holds: the clock, and then every row.
@@ -85,16 +83,14 @@ fn write_moved(moved: Moved) {
 
 // Reads and answers the question. Says no where it is cut short, or the file too long.
 pub fn answer(given: Given) -> bool {
-    let mut state = [0u8; STATE_SIZE];
-    let is_whole = read_whole(&mut state);
     if !given.is_whole {
         return false;
     }
-    if !is_whole {
+    let mut state = [0u8; STATE_SIZE];
+    if !read_whole(&mut state) {
         return false;
     }
-    let refused = given.found;
-    if !write_refused(refused) {
+    if !write_refused(given.found) {
         write_moved(next_move(given.load, bench_from(&state)));
     }
     write_text(b"\n");

@@ -1,11 +1,8 @@
 // Standard output, by pieces: texts, numbers as decimal digits, bytes as hexadecimal digits.
-use crate::input::front;
 use libc::STDOUT_FILENO;
 use refusals::Checked;
-use refusals::Refusal;
 use refusals::number_given;
-use refusals::number_of;
-use words::decimal_of;
+use words::byte_at;
 
 // Writes a text.
 pub fn write_text(text: &[u8]) {
@@ -15,42 +12,30 @@ pub fn write_text(text: &[u8]) {
 // Writes a text and then a number.
 pub fn write_number(text: &[u8], number: u32) {
     write_text(text);
-    let word = decimal_of(number);
-    let digits = word.bytes;
-    write_text(front(&digits, word.length));
+    io::print_decimal(STDOUT_FILENO, number as u64);
 }
 
-// Writes `refused` and the number.
-pub fn write_refusal(refusal: Refusal) {
-    write_number(b"refused ", number_of(refusal));
+// Writes one byte and then a number.
+pub fn write_marked(mark: u8, number: u32) {
+    write_text(&[mark]);
+    io::print_decimal(STDOUT_FILENO, number as u64);
 }
 
-// Writes a text and then the number of what was found, 0 for nothing.
-pub fn write_found(text: &[u8], found: Checked) {
-    write_number(text, number_given(found));
-}
-
-// Writes a byte as two hexadecimal digits.
-fn write_byte(byte: u8) {
-    let mut digits = [0u8; 16];
-    let count = io::hex(byte as u64, 2, &mut digits);
-    write_text(&digits[..count]);
-}
-
-// Writes bytes as hexadecimal digits.
-fn write_hex(bytes: &[u8]) {
-    for i in 0..bytes.len() {
-        write_byte(bytes[i]);
+// Writes the first n bytes, two hexadecimal digits each; past their end, zeros.
+fn write_hex(bytes: &[u8], n: usize) {
+    for i in 0..n {
+        io::print_hex(STDOUT_FILENO, byte_at(bytes, i) as u64, 2);
     }
 }
 
-// Writes a line: a text, the number of what a writing call found and, where that is nothing, a
-// space and the bytes that it left.
-pub fn write_written(text: &[u8], found: Checked, bytes: &[u8]) {
-    write_found(text, found);
-    if let Checked::Good = found {
+// Writes a line: a text, the number of what a writing call found and, where that is 0, a space and
+// the first n of the bytes that it left.
+pub fn write_written(text: &[u8], found: Checked, bytes: &[u8], n: usize) {
+    let number = number_given(found);
+    write_number(text, number);
+    if number == 0 {
         write_text(b" ");
-        write_hex(bytes);
+        write_hex(bytes, n);
     }
     write_text(b"\n");
 }

@@ -1,41 +1,38 @@
 // The room that a writing call is lent, each byte of it A5 before: 4,096 bytes, of which what is
 // written is answered; or as many as the question says (2 bytes, at most 4,096), answered whole.
 use crate::input::read_count;
+ghost use mathlib.Core.Path.{_≡_};
+ghost use lib.ListN.{length};
 
 // The bytes of the largest room.
 pub const MOST_ROOM: usize = 4096;
 
 // What each byte is before.
-pub const FILLED: u8 = 0xA5;
+const FILLED: u8 = 0xA5;
 
-// How many bytes are lent, and whether all of them are answered; not whole where the question is
-// cut short.
-pub struct Room {
-    pub is_whole: bool,
-    pub size: usize,
-    pub is_answered: bool,
+// Gives the bytes of the largest room. Its contract says only how many they are, so that no proof
+// goes through them one by one.
+pub fn filled() -> [u8; MOST_ROOM]
+    ensures { λ r. ⌜ 4096 ≡ length r ⌝ }
+{
+    [FILLED; MOST_ROOM]
 }
 
-// Gives the largest room, of which what is written is answered.
-pub fn largest_room() -> Room {
-    Room {
-        is_whole: true,
-        size: MOST_ROOM,
-        is_answered: false,
+// Gives how many bytes a room has: those that the question says, where it says so, and else the
+// most. They are more than that where the question is cut short.
+pub fn read_room(is_said: bool) -> usize {
+    if !is_said {
+        return MOST_ROOM;
     }
-}
-
-// Reads the size of a room that is answered whole.
-pub fn read_room() -> Room {
     let counted = read_count();
-    Room {
-        is_whole: counted.is_whole,
-        size: counted.things as usize,
-        is_answered: true,
+    if !counted.is_whole {
+        return MOST_ROOM + 1;
     }
+    counted.things as usize
 }
 
-// Gives how many of a room's bytes are answered, where a call wrote so many.
-pub fn answered(room: Room, written: usize) -> usize {
-    if room.is_answered { room.size } else { written }
+// Gives how many of a room's bytes are answered, where a call wrote so many: all of a room that the
+// question says.
+pub fn answered(is_said: bool, room: usize, written: usize) -> usize {
+    if is_said { room } else { written }
 }

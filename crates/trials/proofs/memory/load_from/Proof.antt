@@ -5,10 +5,10 @@ use Rattle.trials.proofs.memory.load_from.Statement.{statement}
 use Rattle.trials.proofs.memory.load_from.Tie as tie
 
 abbrev Inv-loop : tie.InvT-loop
-Inv-loop bytes rows₀ i₀ rows i = i ≤ 24
+Inv-loop bytes load₀ i₀ load i = i ≤ 24
 
 abbrev μ-loop : tie.MeasureT-loop
-μ-loop bytes rows₀ i₀ rows i = 24 - i
+μ-loop bytes load₀ i₀ load i = 24 - i
 
 pub load-from-spec : {M : Type 1} → statement M
 load-from-spec =
@@ -17,6 +17,7 @@ load-from-spec =
     Inv-loop
     μ-loop
     (λ c κs. search needs)
+    (λ c κs. search needs)
     (λ c. search needs)
     (λ c. search needs)
     (λ c. search needs)
@@ -26,5 +27,4 @@ load-from-spec =
     (λ c. search needs)
     (λ c. search needs)
     (λ c. search needs)
-    (λ c κs. search needs)
     (λ c. search needs))

@@ -5,10 +5,10 @@ use Rattle.trials.proofs.moves.bench_from.Statement.{statement}
 use Rattle.trials.proofs.moves.bench_from.Tie as tie
 
 abbrev Inv-loop : tie.InvT-loop
-Inv-loop bytes finished₀ end₀ opening₀ i₀ finished end opening i = i ≤ 24
+Inv-loop bytes bench₀ i₀ bench i = i ≤ 24
 
 abbrev μ-loop : tie.MeasureT-loop
-μ-loop bytes finished₀ end₀ opening₀ i₀ finished end opening i = 24 - i
+μ-loop bytes bench₀ i₀ bench i = 24 - i
 
 pub bench-from-spec : {M : Type 1} → statement M
 bench-from-spec =
@@ -16,12 +16,7 @@ bench-from-spec =
     (tie.spec
     Inv-loop
     μ-loop
-    (λ c. search needs)
-    (λ c. search needs)
-    (λ c. search needs)
     (λ c κs. search needs)
-    (λ c. search needs)
-    (λ c. search needs)
     (λ c κs. search needs)
     (λ c. search needs)
     (λ c. search needs)
@@ -29,8 +24,14 @@ bench-from-spec =
     (λ c κs. search needs)
     (λ c. search needs)
     (λ c. search needs)
+    (λ c κs. search needs)
     (λ c. search needs)
     (λ c. search needs)
     (λ c. search needs)
     (λ c κs. search needs)
+    (λ c. search needs)
+    (λ c. search needs)
+    (λ c. search needs)
+    (λ c. search needs)
+    (λ c. search needs)
     (λ c. search needs))

@@ -1,14 +1,14 @@
--- `write_hex` reads each byte of the list once.
+-- `write_hex` counts its bytes up to n.
 use Prim.Native.Nat.{_-_, _≤_}
 use borrow.Author.Needs.{needs}
 use Rattle.trials.proofs.output.write_hex.Statement.{statement}
 use Rattle.trials.proofs.output.write_hex.Tie as tie
 
 abbrev Inv-loop : tie.InvT-loop
-Inv-loop bytes i₀ i-end i = i ≤ i-end
+Inv-loop bytes n i₀ i = i ≤ n
 
 abbrev μ-loop : tie.MeasureT-loop
-μ-loop bytes i₀ i-end i = i-end - i
+μ-loop bytes n i₀ i = n - i
 
 pub write-hex-spec : {M : Type 1} → statement M
 write-hex-spec =
@@ -17,6 +17,7 @@ write-hex-spec =
     Inv-loop
     μ-loop
     (λ c. search needs)
+    (λ c κs. search needs)
     (λ c. search needs)
     (λ c κs. search needs)
     (λ c. search needs)
