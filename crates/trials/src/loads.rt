@@ -17,7 +17,7 @@ fn file_size(load: Load) -> usize {
     let mut size: usize = 8;
     for i in 0..load.rows as usize {
         let row = row_at(load, i);
-        size += 20 + 6 * row.steps as usize + 6 * row.windows as usize;
+        size += 20 + 6 * (row.steps as usize + row.windows as usize);
     }
     size
 }

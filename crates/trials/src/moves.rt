@@ -74,11 +74,10 @@ fn write_bench(bench: Bench) {
 // Writes all that a move hands back.
 fn write_moved(moved: Moved) {
     let outcome = moved.outcome;
-    let bench = moved.bench;
     write_outcome(outcome);
     write_number(b" lamps ", moved.lamps);
     write_number(b" count ", moved.count);
-    write_bench(bench);
+    write_bench(moved.bench);
 }
 
 // Reads and answers the question. Says no where it is cut short, or the file too long.

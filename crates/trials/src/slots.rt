@@ -3,25 +3,12 @@ use rules::Slot;
 use schedule::SLOT_PLACES;
 use words::byte_at;
 use words::number32_at;
-ghost use Prim.Native.Nat.{_<_};
 
 // A slot is its row (1 byte), its step (1) and its start (4).
 pub const SLOT_SIZE: usize = 6;
 
 // The bytes of as many slots as an array has places.
 pub const SLOTS_SIZE: usize = 1536;
-
-// Gives the slot at a place of the bytes.
-fn slot_from(bytes: &[u8], i: usize) -> Slot
-    requires { ⌜ i < 256 ⌝ }
-{
-    let at = SLOT_SIZE * i;
-    Slot {
-        row: byte_at(bytes, at),
-        step: byte_at(bytes, at + 1),
-        start: number32_at(bytes, at + 2),
-    }
-}
 
 // Gives the slots that the bytes spell; those behind the last that was read are zero, as its bytes.
 pub fn slots_from(bytes: &[u8; SLOTS_SIZE]) -> [Slot; SLOT_PLACES] {
@@ -32,7 +19,12 @@ pub fn slots_from(bytes: &[u8; SLOTS_SIZE]) -> [Slot; SLOT_PLACES] {
     };
     let mut slots = [none; SLOT_PLACES];
     for i in 0..SLOT_PLACES {
-        slots[i] = slot_from(bytes, i);
+        let at = SLOT_SIZE * i;
+        slots[i] = Slot {
+            row: byte_at(bytes, at),
+            step: byte_at(bytes, at + 1),
+            start: number32_at(bytes, at + 2),
+        };
     }
     slots
 }
