@@ -3,8 +3,10 @@
 use Prim.Native.Nat.{ℕ}
 use mathlib.Core.List.{List}
 use Rattle.refusals.specs.declared.Checked.{Checked}
+use Rattle.load.specs.declared.Row.{Row}
 use Rattle.load.specs.declared.Load.{Load}
-use Rattle.load_records.specs.Calls.{WriteLoad}
+use Rattle.load_records.specs.declared.RowRecords.{RowRecords}
+use Rattle.load_records.specs.Calls.{RowRecordsOf, WriteLoad}
 use Rattle.load_file.specs.declared.Reading.{Reading}
 use Rattle.load_file.specs.Calls.{ReadLoad}
 
@@ -20,6 +22,7 @@ Writes meets wrote = meets (wrote .gives) (wrote .after)
 -- what is claimed of the relation of each call on load files, for all that it is given
 pub record EveryFileCall {ℓ} (Claim : (A : Type 0) → (A → Type 0) → Type ℓ) : Type ℓ where
   -- load_records
+  pub row-records : (row : Row) → Claim RowRecords (RowRecordsOf row)
   pub write-load : (load : Load) (out : List ℕ)
       → Claim (Wrote Checked) (Writes (WriteLoad load out))
   -- load_file

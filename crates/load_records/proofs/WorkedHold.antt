@@ -9,20 +9,22 @@ use Rattle.load.specs.Load.{zeroRow}
 use Rattle.load.specs.View.{viewOf, chain}
 use Rattle.load.specs.Faults.{rowTests, takenTests, stepTests, windowTests}
 use Rattle.load.specs.Check.{checkParts, rowFault, checkLoad}
-use Rattle.load_records.specs.Writing.{rowBytes, loadBytes}
+use Rattle.load_records.specs.Writing.{rowBytes, countedRow, loadBytes}
 use Rattle.load_records.specs.WorkedFile.{joined, file, spelled}
-use Rattle.load_records.specs.WorkedCases.{WorkedCases}
+use Rattle.load_records.specs.WorkedCases.{overfull, WorkedCases}
 
 -- to open this is to open all that its line names
 unfoldable computing : ℕ
 unfolding sumTo allTo anyTo joinTo joinIn littleEndian firstFaultTo zeroRow viewOf chain rowTests takenTests stepTests
-    windowTests checkParts rowFault checkLoad rowBytes loadBytes joined file spelled
+    windowTests checkParts rowFault checkLoad rowBytes countedRow loadBytes joined file spelled overfull
 computing = 0
 
 pub worked-hold : WorkedCases
 unfolding computing
 worked-hold =
     record {
+      records = refl;
+      records-counted = refl;
       written = record { finding-is = refl; output-is = refl };
       room-more = record { finding-is = refl; output-is = refl };
       room-less = record { finding-is = refl; output-is = refl };

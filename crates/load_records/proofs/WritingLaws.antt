@@ -8,30 +8,18 @@ use lib.ListN.{length, length-append}
 use lib.Seq.{sets}
 use Rattle.counting.specs.Lists.{joinTo}
 use Rattle.counting.proofs.sums.SumLaws.{sumTo-le}
-use Rattle.counting.proofs.lists.ListLaws.{joinTo-zero, joinTo-next, joinTo-length, joinTo-length-same}
+use Rattle.counting.proofs.lists.ListLaws.{joinTo-zero, joinTo-next, joinTo-length}
 use Rattle.words.proofs.OverwriteLaws.{sets-more}
 use Rattle.refusals.specs.declared.Checked.the-variants.{Good}
-use Rattle.load.specs.declared.Row.{Row}
 use Rattle.load.specs.declared.Load.{Load}
-use Rattle.load.specs.Load.{mostRows, mostSteps, mostWindows, rowAt, stepAt, windowAt}
+use Rattle.load.specs.Load.{mostRows, mostSteps, mostWindows, rowAt}
 use Rattle.load.specs.View.{viewOf, stepsInAll}
 use Rattle.load.specs.Check.{checkLoad}
 use Rattle.load.proofs.CheckLaws.{checkLoad-good, fields-steps-le, fields-windows-le}
-use Rattle.load_records.specs.Records.{
-  mostRowBytes,
-  headerRecord,
-  rowRecord,
-  stepRecord,
-  windowRecord,
-  endRecord,
-}
-use Rattle.load_records.specs.Writing.{rowBytes, loadBytes}
-use Rattle.load_records.proofs.LengthLaws.{
-  rowRecord-length,
-  stepRecord-length,
-  endRecord-length,
-  rowBytes-length,
-}
+use Rattle.load_records.specs.Records.{mostRowBytes, headerRecord, endRecord}
+use Rattle.load_records.specs.Writing.{rowBytes, countedRow, loadBytes}
+use Rattle.load_records.proofs.LengthLaws.{endRecord-length, rowBytes-length}
+use Rattle.load_records.proofs.RowLaws.{countedRow-same}
 
 -- the bytes of the first n rows
 abbrev pub rowsBytes : Load → ℕ → List ℕ
@@ -57,11 +45,15 @@ module _ (load : Load) (good : checkLoad load ≡ Good) where
   rows-le = checkLoad-good load good .few-rows
 
   module _ (i : ℕ) (l : i < load .rows) where
-    pub steps-le : rowAt load i .steps ≤ mostSteps
+    steps-le : rowAt load i .steps ≤ mostSteps
     steps-le = fields-steps-le (rowAt load i) (checkLoad-good load good .each-row-good i l .fields-good)
 
-    pub windows-le : rowAt load i .windows ≤ mostWindows
+    windows-le : rowAt load i .windows ≤ mostWindows
     windows-le = fields-windows-le (rowAt load i) (checkLoad-good load good .each-row-good i l .fields-good)
+
+    -- its row is written as it is
+    pub counted-same : countedRow (rowAt load i) ≡ rowAt load i
+    counted-same = countedRow-same (rowAt load i) steps-le windows-le
 
     pub rowBytes-length-le : length (rowBytes (rowAt load i)) ≤ mostRowBytes
     rowBytes-length-le = omega (arith, rowBytes-length (rowAt load i), steps-le, windows-le)
@@ -70,25 +62,6 @@ module _ (load : Load) (good : checkLoad load ≡ Good) where
   rowsBytes-length-le n h =
       rw joinTo-length
       (sumTo-le (λ i. length (rowBytes (rowAt load i))) n mostRowBytes (λ i l. rowBytes-length-le i (omega arith)))
-
--- a row's own record, its steps and its windows, written one behind the other
-pub row-written : (row : Row) (out after-own after-steps after : List ℕ) (at : ℕ)
-    → after-own ≡ sets out at (rowRecord row)
-    → after-steps ≡ sets after-own (at + 20) (joinTo (λ j. stepRecord (stepAt row j)) (row .steps))
-    → after
-    ≡ sets after-steps (at + 20 + 6 * row .steps) (joinTo (λ k. windowRecord (windowAt row k)) (row .windows))
-    → after ≡ sets out at (rowBytes row)
-unfolding rowBytes
-row-written row out after-own after-steps after at p q r =
-    let steps : List ℕ = joinTo (λ j. stepRecord (stepAt row j)) (row .steps) in
-    let steps-length : length steps ≡ row .steps * 6 =
-    joinTo-length-same (λ j. stepRecord (stepAt row j)) 6 (row .steps) (λ j. stepRecord-length (stepAt row j)) in
-    let front-length : length (rowRecord row ++ steps) ≡ 20 + row .steps * 6 =
-    omega (arith, length-append (rowRecord row) steps, rowRecord-length row) in
-    let front-written : after-steps ≡ sets out at (rowRecord row ++ steps) =
-    sets-more out after-own after-steps at (at + 20) (rowRecord row) steps (rw (rowRecord-length row)) p q in
-    sets-more out after-steps after at (at + 20 + 6 * row .steps) (rowRecord row ++ steps) _ (omega arith)
-    front-written r
 
 -- the header, the rows and the end record, written one behind the other
 pub load-written : (load : Load) (out after-header after-rows after : List ℕ) (at : ℕ)

@@ -1,12 +1,26 @@
 -- What each public call's contract says: one relation a call, over what it takes, what it gives,
 -- and what the lent bytes hold afterwards. To be read after Writing.
-use Prim.Native.Nat.{ℕ}
-use mathlib.Core.List.{List}
+use Prim.Native.Nat.{ℕ, _-_}
+use mathlib.Core.List.{List, _++_}
+use mathlib.Core.Path.{_≡_}
+use lib.ListN.{length, replicate}
 use Rattle.refusals.specs.declared.Checked.{Checked}
 use Rattle.refusals.specs.Given.{Given}
+use Rattle.load.specs.declared.Row.{Row}
 use Rattle.load.specs.declared.Load.{Load}
 use Rattle.load.specs.Check.{checkLoad}
-use Rattle.load_records.specs.Writing.{loadBytes}
+use Rattle.load_records.specs.declared.RowRecords.{RowRecords}
+use Rattle.load_records.specs.Records.{mostRowBytes}
+use Rattle.load_records.specs.Writing.{rowBytes, countedRow, loadBytes}
+
+-- bytes as a row's records: how many there are, the bytes, and 0 in the places behind them
+abbrev pub recordsHolding : List ℕ → RowRecords
+recordsHolding bs =
+    record { length = length bs; bytes = bs ++ replicate (mostRowBytes - length bs) 0 }
+
+-- row_records(row): the row's own record, then its steps' and its windows' records
+abbrev pub RowRecordsOf : Row → RowRecords → Type 0
+RowRecordsOf row r = r ≡ recordsHolding (rowBytes (countedRow row))
 
 -- write_load(load, out): 3 to 7, then 9, and the output as it was; or Good, and the file at the
 -- output's front

@@ -1,6 +1,7 @@
-// The records of a load file: their bytes, and writing a load as its file. A load to be written is
-// refused with 3 to 7 or 9.
+// The records of a load file: those of a row, and writing a load as its file. A load to be written
+// is refused with 3 to 7 or 9.
 mod records;
+mod rows;
 mod writing;
 
 pub use records::END_MARK;
@@ -8,6 +9,7 @@ pub use records::END_SIZE;
 pub use records::HEADER_MARK;
 pub use records::HEADER_SIZE;
 pub use records::MOST_FILE_BYTES;
+pub use records::MOST_ROW_BYTES;
 pub use records::ROW_MARK;
 pub use records::ROW_SIZE;
 pub use records::STEP_MARK;
@@ -15,4 +17,11 @@ pub use records::STEP_SIZE;
 pub use records::VERSION;
 pub use records::WINDOW_MARK;
 pub use records::WINDOW_SIZE;
+pub use rows::row_records;
 pub use writing::write_load;
+
+// The records of a row: so many bytes, and 0 in the places behind them.
+pub struct RowRecords {
+    pub length: usize,
+    pub bytes: [u8; MOST_ROW_BYTES],
+}

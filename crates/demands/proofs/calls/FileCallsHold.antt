@@ -2,7 +2,7 @@
 use mathlib.Core.Path.{refl}
 use Rattle.load.specs.Check.{checkLoad}
 use Rattle.load_records.specs.Writing.{loadBytes}
-use Rattle.load_records.proofs.CallLaws.{WriteLoad-unique}
+use Rattle.load_records.proofs.CallLaws.{RowRecordsOf-unique, WriteLoad-unique}
 use Rattle.load_file.proofs.CallLaws.{ReadLoad-unique}
 use Rattle.demands.specs.FileCalls.{EveryFileCall}
 use Rattle.demands.specs.Sameness.{OneResult}
@@ -14,6 +14,7 @@ use Rattle.demands.proofs.calls.CallAnswers.{listed, both, is, given}
 abbrev pub file-relations : EveryFileCall Relation
 file-relations =
     record {
+      row-records = λ row. listed;
       write-load = λ load out. listed;
       read-load = λ bs. listed;
     }
@@ -21,6 +22,7 @@ file-relations =
 pub file-contracts : FileContracts file-relations
 file-contracts =
     record {
+      row-records = refl;
       write-load = refl;
       read-load = refl;
     }
@@ -28,6 +30,7 @@ file-contracts =
 pub file-same : EveryFileCall OneResult
 file-same =
     record {
+      row-records = RowRecordsOf-unique;
       write-load = λ load out. both _ (WriteLoad-unique load out);
       read-load = ReadLoad-unique;
     }
@@ -35,6 +38,7 @@ file-same =
 pub file-answers : EveryFileCall Answer
 file-answers =
     record {
+      row-records = λ row. is _;
       write-load = λ load out. given (checkLoad load) (loadBytes load) out;
       read-load = λ bs. is _;
     }

@@ -1,15 +1,17 @@
 -- `load_records::writing::write_rows` writes row by row: after i turns the first i rows stand behind the header's
--- place, and the place is the one behind them. A checked load has few enough rows, steps and windows that the place
--- fits.
+-- place, and the place is the one behind them. The rows of a checked load are written as they are, and so few and so
+-- short that the place fits.
 use Prim.Native.Nat.{_+_, _-_, _≤_}
-use mathlib.Core.Path.{_≡_, refl, _∙_}
+use mathlib.Core.Path.{_≡_, refl, ap, sym, _∙_}
 use native.Mathlib.Omega.{arith}
 use borrow.Author.Needs.{needs}
-use lib.ListN.{length}
-use lib.Seq.{sets}
+use lib.ListN.{length, take}
+use lib.Seq.{sets, length-take-le}
 use Rattle.words.proofs.OverwriteLaws.{sets-joined-zero, sets-joined-next}
+use Rattle.load.specs.declared.Row.{Row}
 use Rattle.load.specs.Load.{mostRows, rowAt}
-use Rattle.load_records.specs.Writing.{rowBytes}
+use Rattle.load_records.specs.Writing.{rowBytes, countedRow}
+use Rattle.load_records.proofs.RowLaws.{records-length, records-inside, records-taken}
 use Rattle.load_records.proofs.WritingLaws.{
   rowsBytes,
   rowsBytes-length-zero,
@@ -17,8 +19,7 @@ use Rattle.load_records.proofs.WritingLaws.{
   rowsBytes-length-le,
   rowBytes-length-le,
   rows-le,
-  steps-le,
-  windows-le,
+  counted-same,
 }
 use Rattle.load_records.proofs.writing.write_rows.Statement.{statement}
 use Rattle.load_records.proofs.writing.write_rows.Tie as tie
@@ -39,39 +40,51 @@ starts c =
     let e = rowsBytes-length-zero (c .before .args .t2) in
     (search needs, rows-le _ (c .before .pre), omega arith, refl, sets-joined-zero _ _ _)
 
-row-asks : tie.Need-write-row-requires Inv-loop μ-loop
-row-asks c κs =
-    let a = c .before .before .before in
-    let start = a .before .before in
-    let load = start .args .t2 in
-    let i = a .loop .i in
-    let so-far = rowsBytes-length-le load (start .pre) i (omega arith) in (
-      omega arith,
-      steps-le load (start .pre) i (omega arith),
-      windows-le load (start .pre) i (omega arith),
-    )
+-- the records of a row are there, and they are the row's
+module _ (c : tie.After-row-records Inv-loop μ-loop) where
+  there : c .row-records .result .length ≤ length (c .row-records .result .bytes)
+  there = records-inside _ _ (c .row-records .ensures)
+
+  abbrev row : Row
+  row = rowAt (c .before .before .before .before .before .args .t2) (c .before .before .before .loop .i)
+
+  same : countedRow row ≡ row
+  same =
+      let a = c .before .before .before in
+      counted-same (a .before .before .args .t2) (a .before .before .pre) (a .loop .i) (omega arith)
+
+  size : c .row-records .result .length ≡ length (rowBytes row)
+  size = records-length _ _ (c .row-records .ensures) ∙ ap (λ row. length (rowBytes row)) same
+
+  taken : take (c .row-records .result .length) (c .row-records .result .bytes) ≡ rowBytes row
+  taken = records-taken _ _ (c .row-records .ensures) ∙ ap rowBytes same
 
 place-fits : tie.Need-add-at Inv-loop μ-loop
 place-fits c =
-    let a = c .before .before .before .before .before .before .before in
+    let made = c .before .before .before .before .before .before in
+    let a = made .before .before .before in
     let start = a .before .before in
     let load = start .args .t2 in
     let so-far = rowsBytes-length-le load (start .pre) (a .loop .i) (omega arith) in
     let row = rowBytes-length-le load (start .pre) (a .loop .i) (omega arith) in
+    let e = size made in
     omega arith
 
 goes-on : tie.Need-loop-again Inv-loop μ-loop
 goes-on c =
-    let w = c .before .before .before in
-    let a = w .before .before .before .before in
+    let over = c .before .before in
+    let made = over .before .before .before .before in
+    let a = made .before .before .before in
     let load = a .before .before .args .t2 in
-    let e = rowsBytes-length-next load (a .loop .i) in (
+    let e = rowsBytes-length-next load (a .loop .i) in
+    let long = size made in (
       search needs,
       search needs,
       omega arith,
-      w .write-row .kept .0 ∙ a .loop .inv .3,
+      over .overwrite .kept .0 ∙ a .loop .inv .3,
       sets-joined-next (λ i. rowBytes (rowAt load i)) _ _ _ 4 (a .loop .at) (a .loop .i)
-          (a .loop .inv .2) (a .loop .inv .4) (w .write-row .ensures),
+          (a .loop .inv .2) (a .loop .inv .4)
+          (over .overwrite .ensures ∙ ap (sets _ (a .loop .at)) (taken made)),
     )
 
 ends : tie.Need-returns Inv-loop μ-loop
@@ -90,7 +103,9 @@ write-rows-spec =
     starts
     (λ c. search needs)
     (λ c. search needs)
-    row-asks
+    (λ c κs. search needs)
+    (λ c. there (c .before .before))
+    (λ c. sym (length-take-le _ _ (there (c .before .before .before))))
     (λ c κs. search needs)
     place-fits
     (λ c. search needs)

@@ -1,4 +1,4 @@
--- `load_records::writing::write_steps` writes record by record: after j turns the first j records stand in the output,
+-- `load_records::rows::write_steps` writes record by record: after j turns the first j records stand in the output,
 -- one behind the other.
 use Prim.Native.Nat.{_-_, _≤_}
 use mathlib.Core.Path.{_≡_, refl, _∙_}
@@ -11,8 +11,8 @@ use Rattle.words.proofs.OverwriteLaws.{sets-joined-zero, sets-same-next}
 use Rattle.load.specs.Load.{stepAt}
 use Rattle.load_records.specs.Records.{stepRecord}
 use Rattle.load_records.proofs.LengthLaws.{stepRecord-length}
-use Rattle.load_records.proofs.writing.write_steps.Statement.{statement}
-use Rattle.load_records.proofs.writing.write_steps.Tie as tie
+use Rattle.load_records.proofs.rows.write_steps.Statement.{statement}
+use Rattle.load_records.proofs.rows.write_steps.Tie as tie
 
 abbrev Inv-loop : tie.InvT-loop
 Inv-loop out₀ at row j₀ j-end out j =

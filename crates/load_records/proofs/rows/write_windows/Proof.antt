@@ -1,4 +1,4 @@
--- `load_records::writing::write_windows` writes record by record: after k turns the first k records stand in the
+-- `load_records::rows::write_windows` writes record by record: after k turns the first k records stand in the
 -- output, one behind the other.
 use Prim.Native.Nat.{_-_, _≤_}
 use mathlib.Core.Path.{_≡_, refl, _∙_}
@@ -11,8 +11,8 @@ use Rattle.words.proofs.OverwriteLaws.{sets-joined-zero, sets-same-next}
 use Rattle.load.specs.Load.{windowAt}
 use Rattle.load_records.specs.Records.{windowRecord}
 use Rattle.load_records.proofs.LengthLaws.{windowRecord-length}
-use Rattle.load_records.proofs.writing.write_windows.Statement.{statement}
-use Rattle.load_records.proofs.writing.write_windows.Tie as tie
+use Rattle.load_records.proofs.rows.write_windows.Statement.{statement}
+use Rattle.load_records.proofs.rows.write_windows.Tie as tie
 
 abbrev Inv-loop : tie.InvT-loop
 Inv-loop out₀ at row k₀ k-end out k =
