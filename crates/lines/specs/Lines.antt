@@ -14,7 +14,7 @@ use Rattle.load.specs.declared.Load.{Load}
 use Rattle.load.specs.Load.{rowAt, shown}
 use Rattle.load.specs.View.{View, viewOf, stepsInAll}
 use Rattle.load_file.specs.Places.{loadIn}
-use Rattle.load_file.specs.Reading.{fileFault}
+use Rattle.load_file.specs.Reading.{fileForBench}
 use Rattle.rules.specs.declared.Slot.{Slot}
 use Rattle.rules.specs.Bound.{bound}
 use Rattle.rules.specs.Margins.{margin, verdict}
@@ -77,4 +77,4 @@ refusedLine refusal = line "refused" (decimal (numberOf refusal) ∷ [])
 -- what the program prints for a file: the lines of its load, or the one line of its refusal
 unfoldable pub printed : List ℕ → List ℕ
 printed bs =
-    elim (fileFault bs) [ Good ↦ loadLines (loadIn bs) | Refused refusal ↦ refusedLine refusal ]
+    elim (fileForBench bs) [ Good ↦ loadLines (loadIn bs) | Refused refusal ↦ refusedLine refusal ]

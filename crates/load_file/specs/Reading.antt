@@ -103,6 +103,10 @@ fileFault bs =
     ∷ firstMet (endTests bs (rowPlace bs (rowsSaid bs)))
     ∷ [])
 
+-- what the one-reader bench refuses of a file
+abbrev pub fileForBench : List ℕ → Checked
+fileForBench bs = fileFault bs
+
 -- what reading a file gives: a refused reading gives the all-zero load
 unfoldable pub readLoad : List ℕ → Reading
 readLoad bs = record { answer = fileFault bs; load = ifGood (fileFault bs) (loadIn bs) zeroLoad }

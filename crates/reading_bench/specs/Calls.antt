@@ -10,7 +10,7 @@ use Rattle.refusals.specs.Refusals.{numberGiven}
 use Rattle.refusals.specs.Given.{Given}
 use Rattle.load.specs.View.{View, viewOf}
 use Rattle.load_file.specs.Places.{loadIn}
-use Rattle.load_file.specs.Reading.{fileFault}
+use Rattle.load_file.specs.Reading.{fileForBench}
 use Rattle.rules.specs.Bound.{bound}
 use Rattle.rules.specs.Margins.{marginBytes, verdict}
 use Rattle.rules.specs.Run.{schedule}
@@ -26,7 +26,7 @@ pub record Numbered (finding : Checked) (answer out : List ℕ) (r : ℕ) (after
 -- what the file is refused for, 1 to 8, then 9, and the output as it was; or 0, and the answer for
 -- the load that the bytes spell at the output's front
 abbrev pub ForC : (View → List ℕ) → List ℕ → List ℕ → ℕ → List ℕ → Type 0
-ForC answer bs out r after = Numbered (fileFault bs) (answer (viewOf (loadIn bs))) out r after
+ForC answer bs out r after = Numbered (fileForBench bs) (answer (viewOf (loadIn bs))) out r after
 
 -- the bound: 4 bytes, little-endian
 abbrev pub boundBytes : View → List ℕ
