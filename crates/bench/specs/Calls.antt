@@ -2,7 +2,7 @@
 -- To be read after Held and Runs.
 use mathlib.Core.Path.{_≡_}
 use Rattle.load.specs.declared.Load.{Load}
-use Rattle.load.specs.Check.{checkLoad}
+use Rattle.load.specs.Check.{forBench}
 use Rattle.rules.specs.State.{fresh}
 use Rattle.bench.specs.declared.Bench.{Bench}
 use Rattle.bench.specs.declared.Moved.{Moved}
@@ -20,4 +20,4 @@ NextMove load bench r = r ≡ nextMove load bench
 
 -- run(load): the load's number and no slot, or Good with the schedule
 abbrev pub Runs : Load → Ran → Type 0
-Runs load r = r ≡ ranWith (checkLoad load) (scheduleOr load)
+Runs load r = r ≡ ranWith (forBench load) (scheduleOr load)

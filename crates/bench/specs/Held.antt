@@ -9,7 +9,7 @@ use Rattle.refusals.specs.declared.Checked.the-variants.{Good, Refused as Fault
 use Rattle.load.specs.declared.Load.{Load}
 use Rattle.load.specs.Load.{mostRows}
 use Rattle.load.specs.View.{viewOf}
-use Rattle.load.specs.Check.{checkLoad}
+use Rattle.load.specs.Check.{forBench}
 use Rattle.rules.specs.declared.Outcome.{Outcome}
 use Rattle.rules.specs.declared.Outcome.the-variants.{Start, Idle, Done, Refused}
 use Rattle.rules.specs.State.{State}
@@ -73,7 +73,7 @@ refusedWith bench refusal =
 -- one move: the load's 3 to 7 come first, then the move of the rules, with 10 and 11
 unfoldable pub nextMove : Load → Bench → Moved
 nextMove load bench =
-    elim (checkLoad load) [
+    elim (forBench load) [
       | Good ↦ handedOn bench (move (viewOf load) (stateOf bench))
       | Faulty refusal ↦ refusedWith bench refusal
     ]

@@ -8,7 +8,7 @@ use Rattle.refusals.specs.declared.Checked.{Checked}
 use Rattle.refusals.specs.Given.{ifGood}
 use Rattle.load.specs.declared.Load.{Load}
 use Rattle.load.specs.View.{viewOf}
-use Rattle.load.specs.Check.{checkLoad}
+use Rattle.load.specs.Check.{forBench}
 use Rattle.rules.specs.declared.Slot.{Slot}
 use Rattle.rules.specs.Slots.{noSlot, slotPlaces, slotAt}
 use Rattle.rules.specs.Run.{schedule}
@@ -16,7 +16,7 @@ use Rattle.bench.specs.declared.Ran.{Ran}
 
 -- the schedule of a load in whose check nothing is met, and no slot of one that is refused
 unfoldable pub scheduleOr : Load → List Slot
-scheduleOr load = ifGood (checkLoad load) (schedule (viewOf load)) []
+scheduleOr load = ifGood (forBench load) (schedule (viewOf load)) []
 
 -- slots handed back in an array, with their count: places past the last slot are zero
 abbrev pub ranWith : Checked → List Slot → Ran

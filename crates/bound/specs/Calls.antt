@@ -11,7 +11,7 @@ use Rattle.refusals.specs.Given.{ifGood}
 use Rattle.load.specs.declared.Load.{Load}
 use Rattle.load.specs.Load.{mostRows}
 use Rattle.load.specs.View.{viewOf}
-use Rattle.load.specs.Check.{checkLoad}
+use Rattle.load.specs.Check.{forBench}
 use Rattle.rules.specs.Bound.{bound}
 use Rattle.rules.specs.Margins.{margins, verdict, bytesOfMargins}
 use Rattle.bound.specs.declared.Answered.{Answered}
@@ -23,34 +23,34 @@ use Rattle.bound.specs.declared.Judged.{Judged}
 abbrev pub AnswersOf : Load → Answered → Type 0
 AnswersOf load r =
     r ≡ record {
-      answer = checkLoad load;
-      bound = ifGood (checkLoad load) (bound (viewOf load)) 0;
-      margins = ifGood (checkLoad load) (margins (viewOf load)) (replicate mostRows (pos 0));
-      verdict = ifGood (checkLoad load) (verdict (viewOf load)) false;
+      answer = forBench load;
+      bound = ifGood (forBench load) (bound (viewOf load)) 0;
+      margins = ifGood (forBench load) (margins (viewOf load)) (replicate mostRows (pos 0));
+      verdict = ifGood (forBench load) (verdict (viewOf load)) false;
     }
 
 -- bound_of(load): what the check finds, and the load's bound
 abbrev pub BoundOf : Load → Bounded → Type 0
 BoundOf load r =
     r ≡ record {
-      answer = checkLoad load;
-      bound = ifGood (checkLoad load) (bound (viewOf load)) 0;
+      answer = forBench load;
+      bound = ifGood (forBench load) (bound (viewOf load)) 0;
     }
 
 -- margins_of(load): what the check finds, and all margins
 abbrev pub MarginsOf : Load → Margined → Type 0
 MarginsOf load r =
     r ≡ record {
-      answer = checkLoad load;
-      margins = ifGood (checkLoad load) (margins (viewOf load)) (replicate mostRows (pos 0));
+      answer = forBench load;
+      margins = ifGood (forBench load) (margins (viewOf load)) (replicate mostRows (pos 0));
     }
 
 -- verdict_of(load): what the check finds, and the verdict
 abbrev pub VerdictOf : Load → Judged → Type 0
 VerdictOf load r =
     r ≡ record {
-      answer = checkLoad load;
-      verdict = ifGood (checkLoad load) (verdict (viewOf load)) false;
+      answer = forBench load;
+      verdict = ifGood (forBench load) (verdict (viewOf load)) false;
     }
 
 -- margin_bytes(margins): 4 bytes to a row, little-endian two's complement

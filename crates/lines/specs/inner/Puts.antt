@@ -10,7 +10,7 @@ use Rattle.refusals.specs.declared.Checked.the-variants.{Good}
 use Rattle.load.specs.declared.Load.{Load}
 use Rattle.load.specs.Load.{mostRows}
 use Rattle.load.specs.View.{View, viewOf, stepsInAll}
-use Rattle.load.specs.Check.{checkLoad}
+use Rattle.load.specs.Check.{forBench}
 use Rattle.rules.specs.declared.Slot.{Slot}
 use Rattle.rules.specs.Bound.{bound}
 use Rattle.rules.specs.Margins.{verdict}
@@ -24,7 +24,7 @@ rowsEnd = firstMost + mostRows * rowMost
 
 -- slots in places, the first of which are the schedule of an accepted load
 pub record Scheduled (load : Load) (slots : List Slot) (count : ℕ) : Type 0 where
-  pub accepted : checkLoad load ≡ Good
+  pub accepted : forBench load ≡ Good
   pub taken : take count slots ≡ schedule (viewOf load)
   pub counted : count ≡ stepsInAll (viewOf load)
   pub few : count ≤ mostSlots
