@@ -3,9 +3,10 @@
 // refused is answered by `refused` and its number.
 use crate::given::Given;
 use crate::given::write_refused;
+use crate::input::NO_COUNT;
 use crate::input::read_things;
+use crate::output::write_byte;
 use crate::output::write_number;
-use crate::output::write_text;
 use crate::slots::SLOT_SIZE;
 use crate::slots::SLOTS_SIZE;
 use crate::slots::slots_from;
@@ -19,14 +20,14 @@ pub fn answer(given: Given) -> bool {
         return false;
     }
     let mut bytes = [0u8; SLOTS_SIZE];
-    let counted = read_things(&mut bytes, SLOT_SIZE);
-    if !counted.is_whole {
+    let n = read_things(&mut bytes, SLOT_SIZE);
+    if n == NO_COUNT {
         return false;
     }
     if !write_refused(given.found) {
-        let found = check_array(given.load, slots_from(&bytes), counted.things as usize);
+        let found = check_array(given.load, slots_from(&bytes), n);
         write_number(b"check ", number_given(found));
     }
-    write_text(b"\n");
+    write_byte(b'\n');
     true
 }

@@ -1,5 +1,6 @@
 // The load that a question is about. It comes as a load file (its length in 2 bytes, at most 4,096,
 // and its bytes), which can be refused, or as a load in memory.
+use crate::input::NO_COUNT;
 use crate::input::front;
 use crate::input::read_things;
 use crate::input::read_whole;
@@ -21,12 +22,12 @@ pub struct Given {
 // Reads a load from its file.
 pub fn from_file() -> Given {
     let mut file = io::buffer();
-    let counted = read_things(&mut file, 1);
-    let reading = read_load(front(&file, counted.things as usize));
+    let length = read_things(&mut file, 1);
+    let reading = read_load(front(&file, length));
     let answer = reading.answer;
     let load = reading.load;
     Given {
-        is_whole: counted.is_whole,
+        is_whole: length < NO_COUNT,
         found: number_given(answer),
         load,
     }

@@ -3,11 +3,9 @@ use libc::STDIN_FILENO;
 use words::number16_at;
 ghost use Prim.Native.Nat.{_≤_};
 
-// How many things a question holds; not whole where it is cut short, or holds too many.
-pub struct Counted {
-    pub is_whole: bool,
-    pub things: u16,
-}
+// What is given for a count where the question is cut short, or holds too many things: more than a
+// count of two bytes can be.
+pub const NO_COUNT: usize = 65536;
 
 // Gives the first n bytes; all, where there are fewer.
 pub fn front(bytes: &[u8], n: usize) -> &[u8] {
@@ -21,31 +19,29 @@ pub fn read_whole(buffer: &mut [u8]) -> bool {
 }
 
 // Reads a count of two bytes.
-pub fn read_count() -> Counted {
+pub fn read_count() -> usize {
     let mut bytes = [0u8; 2];
-    let is_whole = read_whole(&mut bytes);
-    Counted {
-        is_whole,
-        things: number16_at(&bytes, 0),
+    if !read_whole(&mut bytes) {
+        return NO_COUNT;
     }
+    number16_at(&bytes, 0) as usize
 }
 
-// Reads a count and then so many things of a size, to a buffer's front. They are not whole where
-// the buffer is shorter.
-pub fn read_things(buffer: &mut [u8], size: usize) -> Counted
+// Reads a count and then so many things of a size, to a buffer's front, and gives the count. There
+// is none where the buffer is shorter.
+pub fn read_things(buffer: &mut [u8], size: usize) -> usize
     requires { ⌜ size ≤ 6 ⌝ }
 {
-    let counted = read_count();
-    if !counted.is_whole {
-        return counted;
+    let count = read_count();
+    if count >= NO_COUNT {
+        return NO_COUNT;
     }
-    let n = size * counted.things as usize;
-    let mut is_whole = false;
-    if n <= buffer.len() {
-        is_whole = read_whole(&mut buffer[..n]);
+    let n = size * count;
+    if n > buffer.len() {
+        return NO_COUNT;
     }
-    Counted {
-        is_whole,
-        things: counted.things,
+    if !read_whole(&mut buffer[..n]) {
+        return NO_COUNT;
     }
+    count
 }

@@ -6,6 +6,7 @@
 use crate::given::Given;
 use crate::given::write_refused;
 use crate::input::read_whole;
+use crate::output::write_byte;
 use crate::output::write_marked;
 use crate::output::write_number;
 use crate::output::write_text;
@@ -92,6 +93,6 @@ pub fn answer(given: Given) -> bool {
     if !write_refused(given.found) {
         write_moved(next_move(given.load, bench_from(&state)));
     }
-    write_text(b"\n");
+    write_byte(b'\n');
     true
 }

@@ -9,6 +9,11 @@ pub fn write_text(text: &[u8]) {
     io::write_all(STDOUT_FILENO, text);
 }
 
+// Writes one byte.
+pub fn write_byte(byte: u8) {
+    write_text(&[byte]);
+}
+
 // Writes a text and then a number.
 pub fn write_number(text: &[u8], number: u32) {
     write_text(text);
@@ -17,7 +22,7 @@ pub fn write_number(text: &[u8], number: u32) {
 
 // Writes one byte and then a number.
 pub fn write_marked(mark: u8, number: u32) {
-    write_text(&[mark]);
+    write_byte(mark);
     io::print_decimal(STDOUT_FILENO, number as u64);
 }
 
@@ -34,8 +39,8 @@ pub fn write_written(text: &[u8], found: Checked, bytes: &[u8], n: usize) {
     let number = number_given(found);
     write_number(text, number);
     if number == 0 {
-        write_text(b" ");
+        write_byte(b' ');
         write_hex(bytes, n);
     }
-    write_text(b"\n");
+    write_byte(b'\n');
 }

@@ -21,14 +21,7 @@ pub fn filled() -> [u8; MOST_ROOM]
 // Gives how many bytes a room has: those that the question says, where it says so, and else the
 // most. They are more than that where the question is cut short.
 pub fn read_room(is_said: bool) -> usize {
-    if !is_said {
-        return MOST_ROOM;
-    }
-    let counted = read_count();
-    if !counted.is_whole {
-        return MOST_ROOM + 1;
-    }
-    counted.things as usize
+    if is_said { read_count() } else { MOST_ROOM }
 }
 
 // Gives how many of a room's bytes are answered, where a call wrote so many: all of a room that the

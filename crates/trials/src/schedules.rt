@@ -1,6 +1,7 @@
 // The questions S and s: slots, their numbers unchecked, and for s a room before them. They are
 // answered by `schedule` and the number of what the slots' writing finds; where that is 0, in
 // hexadecimal digits by the schedule file (S) or by all the room (s).
+use crate::input::NO_COUNT;
 use crate::input::read_things;
 use crate::output::write_written;
 use crate::rooms::MOST_ROOM;
@@ -20,11 +21,10 @@ pub fn answer(is_said: bool) -> bool {
         return false;
     }
     let mut slots = [0u8; SLOTS_SIZE];
-    let counted = read_things(&mut slots, SLOT_SIZE);
-    if !counted.is_whole {
+    let slot_count = read_things(&mut slots, SLOT_SIZE);
+    if slot_count >= NO_COUNT {
         return false;
     }
-    let slot_count = counted.things as usize;
     let mut bytes = filled();
     let found = write_array(slots_from(&slots), slot_count, &mut bytes[..room]);
     let n = answered(is_said, room, 4 + 8 * slot_count);

@@ -18,11 +18,12 @@ read-things-spec =
     (tie.spec
     (λ c κs. search needs)
     (λ c. search needs)
-    (λ c. search needs)
     asked
+    (λ c. search needs)
     (λ c. search needs)
     lent
     (λ c κs. search needs)
+    (λ c. search needs)
     (λ c. search needs)
     (λ c. search needs)
     (λ c. search needs))

@@ -13,7 +13,7 @@ kept : tie.Need-slice-aggregate-write-written-2
 kept c =
     let wrote = c .before .before .before .before .write-array in
     let made = c .before .before .before .before .before .before .before .before in
-    let room = made .before .before .before .before .before .before .before .before .read-room .result in
+    let room = made .before .before .before .before .before .before .read-room .result in
     made .filled .ensures
     ∙ sym (length-front (made .filled .result) (wrote .last .1 .1 .0) room (wrote .kept .1 .1 .0))
 
@@ -25,7 +25,6 @@ answer-spec =
     (λ c. search needs)
     (λ c. search needs)
     (λ c κs. search needs)
-    (λ c. search needs)
     (λ c. search needs)
     (λ c κs. search needs)
     (λ c κs. search needs)
