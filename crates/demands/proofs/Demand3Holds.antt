@@ -2,7 +2,7 @@
 -- verdict that the calls give, and of the check's answer.
 use Prim.Native.Nat.{ℕ}
 use mathlib.Core.Bool.{true}
-use mathlib.Core.List.{List, [], _∷_}
+use mathlib.Core.List.{List}
 use mathlib.Core.Path.{_≡_, ap, sym, _∙_}
 use Rattle.counting.specs.Lists.{anyIn}
 use Rattle.counting.proofs.lists.ListLaws.{joinTo-ext}
@@ -27,14 +27,14 @@ use Rattle.rules.proofs.Demand3.{accepted-demand3, accepted-passes}
 use Rattle.bound.specs.declared.Judged.{Judged}
 use Rattle.bound.specs.Calls.{VerdictOf}
 use Rattle.bench.proofs.running.RunsLaws.{Runs-schedule}
-use Rattle.demands.specs.NumberLists.{OneOf}
+use Rattle.demands.specs.NumberLists.{OneOf, ofLateRow}
 use Rattle.demands.specs.Demand3.{Run, startsOf, RunKept, Demand3}
 use Rattle.demands.proofs.Demand2Holds.{file-back, demand2}
 use Rattle.demands.proofs.moves.RunByCalls.{run-of, run-states, run-moves}
 
 -- a check that is Good or 17, behind a load's check that is Good
 late-number : (load : Load) (slots : List Slot) → checkLoad load ≡ Good → GoodOrLate (checkSlots (viewOf load) slots)
-    → OneOf (17 ∷ []) (numberGiven (checkSchedule load slots))
+    → OneOf ofLateRow (numberGiven (checkSchedule load slots))
 unfolding checkSchedule anyIn
 late-number load slots accepted (good e) = rw (accepted, e)
 late-number load slots accepted (late e) = rw (accepted, e)

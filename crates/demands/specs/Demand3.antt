@@ -4,7 +4,7 @@
 -- results that meet the calls' relations. To be read after Demand1 and Demand2. Rests on D50.
 use Prim.Native.Nat.{ℕ, suc, _≤_, _<_}
 use mathlib.Core.Bool.{true}
-use mathlib.Core.List.{List, [], _∷_}
+use mathlib.Core.List.{List}
 use mathlib.Core.Path.{_≡_}
 use lib.ListN.{length, take}
 use Rattle.counting.specs.Lists.{joinTo}
@@ -34,7 +34,7 @@ use Rattle.bench.specs.declared.Bench.{Bench}
 use Rattle.bench.specs.declared.Moved.{Moved}
 use Rattle.bench.specs.declared.Ran.{Ran}
 use Rattle.bench.specs.Calls.{Fresh, NextMove, Runs}
-use Rattle.demands.specs.NumberLists.{OneOf}
+use Rattle.demands.specs.NumberLists.{OneOf, ofLateRow}
 use Rattle.demands.specs.Demand2.{SameMove}
 
 -- a run by the calls: a fresh bench, and one move after the other
@@ -81,7 +81,7 @@ pub record RunKept (load : Load) (run : Run load) : Type 0 where
       → slotEnd (viewOf load) (slotOf load h) ≤ slotOf load k .start
   -- the check, its 17 apart, meets nothing
   pub checked : (c : Checked) → CheckSchedule load (schedule (viewOf load)) c
-      → OneOf (17 ∷ []) (numberGiven c)
+      → OneOf ofLateRow (numberGiven c)
   -- each row's last step ends by its row bound
   pub rows-end : (k : ℕ) → k < length (schedule (viewOf load))
       → slotOf load k .step ≡ viewOf load .steps (rowOf (slotOf load k))

@@ -8,7 +8,7 @@ use Rattle.refusals.specs.declared.Refusal.{Refusal}
 use Rattle.refusals.specs.declared.Checked.the-variants.{Refused}
 use Rattle.load.specs.declared.Load.{Load}
 use Rattle.load.specs.Load.{zeroLoad}
-use Rattle.load.specs.Check.{checkLoad}
+use Rattle.load.specs.Check.{forBench}
 use Rattle.load_file.specs.declared.Reading.{Reading}
 use Rattle.rules.specs.declared.Outcome.{Outcome}
 use Rattle.rules.specs.declared.Outcome.the-variants.{Idle}
@@ -28,7 +28,7 @@ refusesMove refusal load bench = refusedWith bench refusal
 
 -- one with a fixed verdict
 abbrev pub fixedVerdict : Bool → Load → Judged
-fixedVerdict verdict load = record { answer = checkLoad load; verdict = verdict }
+fixedVerdict verdict load = record { answer = forBench load; verdict = verdict }
 
 -- or that moves nothing, whatever it answers
 abbrev pub movesNothing : Outcome → ℕ → ℕ → Load → Bench → Moved
@@ -69,4 +69,4 @@ inventsEnds ends load bench =
 
 -- one with invented margins
 abbrev pub inventsMargins : List ℤ → Load → Margined
-inventsMargins margins load = record { answer = checkLoad load; margins = margins }
+inventsMargins margins load = record { answer = forBench load; margins = margins }

@@ -29,6 +29,10 @@ ofFile = 1 ∷ 2 ∷ ofLoad ++ 8 ∷ []
 abbrev pub ofSlots : List ℕ
 ofSlots = 12 ∷ 13 ∷ 14 ∷ 15 ∷ 16 ∷ 17 ∷ []
 
+-- 17: a row that ends late
+abbrev pub ofLateRow : List ℕ
+ofLateRow = 17 ∷ []
+
 -- 3: a number out of its range
 abbrev pub ofRange : List ℕ
 ofRange = 3 ∷ []

@@ -19,7 +19,7 @@ ghost use lib.ListN.{take};
 ghost use Rattle.counting.specs.Lists.{joinTo};
 ghost use Rattle.load.specs.Load.{mostRows, shown, rowAt};
 ghost use Rattle.load.specs.View.{viewOf};
-ghost use Rattle.load.specs.Check.{checkLoad};
+ghost use Rattle.load.specs.Check.{forBench};
 ghost use Rattle.rules.specs.Margins.{marginIn};
 ghost use Rattle.rules.specs.Run.{schedule};
 ghost use Rattle.rules.specs.Slots.{mostSlots, slotAt, slotEnd, lastEnd};
@@ -116,7 +116,7 @@ fn put_lines(text: &mut [u8], load: Load, slots: [Slot; SLOT_PLACES], count: usi
 
 // Puts the lines of an accepted load.
 fn put_load(text: &mut [u8], load: Load) -> usize
-    requires { ⌜ checkLoad load ≡ Checked.Good ⌝ }
+    requires { ⌜ forBench load ≡ Checked.Good ⌝ }
     ensures { λ r. ⌜ Put (now (text .entry)) 0
         (loadLines load) (now (text .exit)) r ⌝ }
 {

@@ -1,11 +1,11 @@
 -- The worked cases hold: each is decided by computing.
 use mathlib.Core.Path.{refl}
-use Rattle.refusals.specs.Table.{table, numbersTo}
+use Rattle.refusals.specs.Table.{table}
 use Rattle.refusals.specs.FirstMet.{firstFaultTo}
 use Rattle.refusals.specs.WorkedCases.{WorkedCases}
 
 pub worked-hold : WorkedCases
-unfolding firstFaultTo table numbersTo
+unfolding firstFaultTo table
 worked-hold =
     record {
       numbers = refl;

@@ -1,7 +1,6 @@
 -- "Numbers given back": the table, line by line, in the order of its numbers. To be read after
 -- Refusals.
-use Prim.Native.Nat.{ℕ, zero, suc}
-use mathlib.Core.List.{List, [], _∷_, _++_}
+use mathlib.Core.List.{List, [], _∷_}
 use Rattle.refusals.specs.declared.Refusal.{Refusal}
 use Rattle.refusals.specs.declared.Refusal.the-variants as refusal
 
@@ -46,8 +45,3 @@ table =
     -- it ends its row late
     ∷ refusal.RowLate
     ∷ []
-
--- the numbers 1 to n
-unfoldable pub numbersTo : ℕ → List ℕ
-numbersTo zero = []
-numbersTo (suc n) = numbersTo n ++ suc n ∷ []

@@ -11,8 +11,8 @@ use Rattle.refusals.specs.declared.Refusal.the-variants.{OutputShort, Cl
 use Rattle.refusals.specs.declared.Checked.{Checked}
 use Rattle.refusals.specs.declared.Checked.the-variants.{Good, Refused}
 use Rattle.refusals.specs.declared.Written.{Written}
-use Rattle.refusals.specs.Refusals.{numberOf, lastNumber, numberGiven}
-use Rattle.refusals.specs.Table.{table, numbersTo}
+use Rattle.refusals.specs.Refusals.{numberOf, numberGiven}
+use Rattle.refusals.specs.Table.{table}
 use Rattle.refusals.specs.FirstMet.{firstMet, firstFault, firstFaultTo}
 use Rattle.refusals.specs.Given.{Given, WritesOut}
 
@@ -22,8 +22,10 @@ told answer length = record { answer = answer; length = length }
 
 -- the worked cases
 pub record WorkedCases : Type 0 where
-  -- the numbers of the table's lines are 1, 2, 3 and so on, up to the last
-  pub numbers : map numberOf table ≡ numbersTo lastNumber
+  -- the table's numbers, in the table's order
+  pub numbers :
+      map numberOf table
+      ≡ 1 ∷ 2 ∷ 3 ∷ 4 ∷ 5 ∷ 6 ∷ 7 ∷ 8 ∷ 9 ∷ 10 ∷ 11 ∷ 12 ∷ 13 ∷ 14 ∷ 15 ∷ 16 ∷ 17 ∷ []
   -- nothing refused is 0
   pub nothing-refused : numberGiven Good ≡ 0
   -- of two tests that are met the first decides, and one that is not met decides nothing
