@@ -1,7 +1,5 @@
 -- A bench in memory and the state that it holds; a board and the rows that it shows.
-pub mod StoreLaws
 pub mod HeldLaws
 pub mod LookLaws
 pub mod CheckedLaws
-pub mod BoardLaws
 pub mod LaterBoards

@@ -1,17 +1,17 @@
 // One move of the bench: Start, Idle, Done, or a refusal, each with the lamps of the windows that
 // are open after it.
 use crate::Bench;
-use crate::Board;
 use crate::Moved;
 use crate::boards::board_of;
 use crate::lamps::lamp_word;
-use crate::search::opening_after;
-use crate::search::search;
 use crate::shape::has_shape;
 use load::LAST_MOMENT;
 use load::Load;
 use load::MOST_ROWS;
 use load::check_load;
+use plan::Board;
+use plan::chosen_row;
+use plan::opening_after;
 use refusals::Checked;
 use refusals::Refusal;
 use rules::Outcome;
@@ -21,13 +21,13 @@ ghost use mathlib.Core.Bool.{true};
 ghost use Prim.Native.Nat.{ℕ, _≤_, _<_};
 ghost use Rattle.counting.specs.Lists.{memberAt};
 ghost use Rattle.refusals.specs.declared.Checked.the-variants.{Good};
+ghost use Rattle.load.specs.Load.{lastMoment};
 ghost use Rattle.load.specs.Check.{checkLoad};
 ghost use Rattle.load.specs.View.{viewOf};
 ghost use Rattle.rules.specs.State.{shaped};
 ghost use Rattle.rules.specs.Move.{move};
 ghost use Rattle.bench.specs.Held.{stateOf, handedOn, refusedWith};
-ghost use Rattle.bench.specs.inner.Boards.{lookIn};
-ghost use Rattle.bench.specs.inner.Choices.{BoardFits};
+ghost use Rattle.plan.specs.Boards.{lookIn};
 ghost use Rattle.bench.specs.inner.Moves.{
   slotOf,
   finishedIn,
@@ -100,7 +100,7 @@ pub fn slot_of(i: usize, finished: u8, moment: u32) -> Slot
 
 // Starts a row's next step.
 fn started(bench: Bench, board: Board, rows: usize, i: usize) -> Moved
-    requires { ⌜ BoardFits board (bench .clock) rows ⌝ }
+    requires { ⌜ (rows ≤ 24) × (bench .clock ≤ lastMoment) ⌝ }
     requires { ⌜ (i < rows) × (lookIn board i .finished < 8)
         × (memberAt (bench .finished) i ≡ lookIn board i .finished) ⌝ }
     ensures { λ r. ⌜ r ≡ startedIn bench board rows i ⌝ }
@@ -116,11 +116,11 @@ fn started(bench: Bench, board: Board, rows: usize, i: usize) -> Moved
 
 // Starts the first candidate that passes, or moves the clock one tick.
 fn start_or_idle(bench: Bench, board: Board, rows: usize) -> Moved
-    requires { ⌜ BoardFits board (bench .clock) rows ⌝ }
+    requires { ⌜ (rows ≤ 24) × (bench .clock ≤ lastMoment) ⌝ }
     requires { ⌜ ((i : ℕ) → i < rows → memberAt (bench .finished) i ≡ lookIn board i .finished) ⌝ }
     ensures { λ r. ⌜ Stepped bench board rows r ⌝ }
 {
-    let i = search(board, bench.clock, rows);
+    let i = chosen_row(board, bench.clock, rows);
     if i < rows {
         return started(bench, board, rows, i);
     }

@@ -1,48 +1,47 @@
 // The run: the starts of the moves from fresh to Done, each step at full cost. The load is checked
 // and looked up once; a start renews one row of the board.
-use crate::Board;
-use crate::Look;
 use crate::Ran;
 use crate::boards::board_of;
-use crate::lookups::look_of;
 use crate::moves::all_finished;
 use crate::moves::slot_of;
 use crate::quiet::next_moment;
-use crate::search::opening_after;
-use crate::search::search;
+use crate::state::end_of;
 use crate::state::fresh;
 use load::Load;
 use load::Row;
 use load::check_load;
+use plan::Board;
+use plan::Look;
+use plan::chosen_row;
+use plan::look_of;
+use plan::opening_after;
+use plan::with_look;
 use refusals::Checked;
 use refusals::Refusal;
 use rules::SLOT_PLACES;
 use rules::Slot;
 ghost use mathlib.Core.Path.{_≡_};
-ghost use mathlib.Core.Bool.{true};
 ghost use mathlib.Core.List.{[]};
-ghost use Prim.Native.Nat.{_<_};
+ghost use Prim.Native.Nat.{_+_, _≤_, _<_};
 ghost use lib.ListN.{replicate};
 ghost use Rattle.refusals.specs.declared.Checked.the-variants.{Good, Refused};
+ghost use Rattle.load.specs.Load.{lastMoment};
 ghost use Rattle.load.specs.Check.{checkLoad};
 ghost use Rattle.load.specs.View.{viewOf};
 ghost use Rattle.rules.specs.Slots.{noSlot, slotPlaces};
 ghost use Rattle.rules.specs.Run.{schedule};
-ghost use Rattle.bench.specs.inner.Looks.{Fitting, Modest};
-ghost use Rattle.bench.specs.inner.Choices.{BoardFits, candidateIn};
+ghost use Rattle.plan.specs.Boards.{lookIn};
 ghost use Rattle.bench.specs.Runs.{ranWith};
 ghost use Rattle.bench.specs.inner.Running.{lookAfter};
 ghost use Rattle.bench.specs.Calls.{Runs};
 
 // Looks row i up as it will be once its next step, a candidate started at the clock, is over.
-fn look_after(row: Row, board: Board, clock: u32, rows: usize, i: usize) -> Look
-    requires { ⌜ Fitting row ⌝ }
-    requires { ⌜ BoardFits board clock rows ⌝ }
-    requires { ⌜ (i < rows) × (candidateIn board clock rows i ≡ true) ⌝ }
+fn look_after(row: Row, board: Board, clock: u32, i: usize) -> Look
+    requires { ⌜ (i < 24) × (lookIn board i .finished < 8)
+        × (clock + lookIn board i .cost ≤ lastMoment) ⌝ }
     ensures { λ r. ⌜ r ≡ lookAfter row board clock i ⌝ }
-    ensures { λ r. ⌜ Modest r ⌝ }
 {
-    let end = clock + board.cost[i];
+    let end = end_of(clock, board.cost[i]);
     let opening = opening_after(board.stays[i], board.opened[i], board.opening[i], clock);
     look_of(row, board.finished[i] + 1, end, opening)
 }
@@ -71,14 +70,14 @@ fn run_checked(load: Load) -> Ran
     let mut slots = no_slots();
     let mut done = all_finished(board, rows);
     while !done {
-        let i = search(board, clock, rows);
+        let i = chosen_row(board, clock, rows);
         if i < rows {
             slots[count] = slot_of(i, board.finished[i], clock);
             count += 1;
             let row = load.row[i];
-            let look = look_after(row, board, clock, rows, i);
-            clock += board.cost[i];
-            board = board.with_look(i, look);
+            let look = look_after(row, board, clock, i);
+            clock = end_of(clock, board.cost[i]);
+            board = with_look(board, i, look);
             done = all_finished(board, rows);
         } else {
             clock = next_moment(board, clock, rows);

@@ -1,11 +1,11 @@
 // The shape of a bench state (10): the clock, each row of the load, and the places of the rows that
 // the load does not have.
 use crate::Bench;
-use crate::lookups::open_window;
 use load::LAST_MOMENT;
 use load::Load;
 use load::MOST_ROWS;
 use load::Row;
+use plan::open_window;
 ghost use mathlib.Core.Path.{_≡_};
 ghost use mathlib.Core.Bool.{cond};
 ghost use lib.Dec.{eqb, ltb};
@@ -16,7 +16,7 @@ ghost use Rattle.load.specs.Check.{checkLoad};
 ghost use Rattle.load.specs.View.{viewOf};
 ghost use Rattle.rules.specs.State.{rowShaped, rowUnused, shaped};
 ghost use Rattle.bench.specs.Held.{stateOf};
-ghost use Rattle.bench.specs.inner.Looks.{Fitting, viewAlike, stateAlike};
+ghost use Rattle.plan.specs.Looks.{viewAlike, stateAlike};
 
 // Gives the latest end of a row: the clock, and 0 if nothing is finished.
 fn latest_end(clock: u32, finished: u8) -> u32
@@ -34,7 +34,6 @@ fn latest_opening(finished: u8, last: u8, end: u32) -> u32
 
 // Says whether a row's numbers have the row's shape.
 fn row_shaped(row: Row, clock: u32, finished: u8, end: u32, opening: u32) -> bool
-    requires { ⌜ Fitting row ⌝ }
     ensures { λ r. ⌜ r ≡ rowShaped (viewAlike row) (stateAlike clock finished end opening) 0 ⌝ }
 {
     if row.steps < finished {

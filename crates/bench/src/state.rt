@@ -21,15 +21,22 @@ pub fn fresh() -> Bench
     }
 }
 
+// Gives the end of a step that starts at a moment and takes so long.
+pub fn end_of(moment: u32, long: u16) -> u32
+    requires { ⌜ moment ≤ lastMoment ⌝ }
+    ensures { λ r. ⌜ r ≡ moment + long ⌝ }
+{
+    moment + long as u32
+}
+
 impl Bench {
     // Starts a row's next step, which takes so long, and sets the row's opening: the clock and the
     // row's end move to the end of the step.
-    pub(crate) fn start(mut self, i: usize, long: u32, opening: u32) -> Bench
-        requires { ⌜ (i < 24) × (self .clock + long ≤ 4294967295)
-            × (memberAt (self .finished) i < 255) ⌝ }
+    pub(crate) fn start(mut self, i: usize, long: u16, opening: u32) -> Bench
+        requires { ⌜ (i < 24) × (self .clock ≤ lastMoment) × (memberAt (self .finished) i < 255) ⌝ }
         ensures { λ r. ⌜ r ≡ benchStarted self i long opening ⌝ }
     {
-        let end = self.clock + long;
+        let end = end_of(self.clock, long);
         self.clock = end;
         self.finished[i] += 1;
         self.end[i] = end;

@@ -5,7 +5,6 @@ pub mod AcceptableLaws
 pub mod CheckLaws
 pub mod AcceptableGood
 pub mod WindowChain
-pub mod ChainFits
 pub mod WindowLaws
 pub mod WindowLeft
 pub mod CallLaws

@@ -1,24 +1,27 @@
 -- A board that shows a load and its bench has the candidates of the rules, and its plan of a candidate is the rules'
 -- plan at the candidate's end: so what the search chooses is what the rules choose.
 use Prim.Native.Nat.{ℕ, suc, _+_, min, _≤_, _<_}
-use mathlib.Core.Bool.{true, false}
+use mathlib.Core.Bool.{false}
 use mathlib.Core.Path.{_≡_, ap, ap₂, sym, _∙_}
 use native.Mathlib.Omega.{arith}
 use lib.Dec.{leb}
 use lib.ListN.{set}
 use Rattle.counting.specs.Sums.{allTo}
-use Rattle.counting.specs.Lists.{numbersWhere, isMarked}
-use Rattle.counting.specs.Searches.{at, none, found}
+use Rattle.counting.specs.Lists.{numbersWhere, memberAt, isMarked}
+use Rattle.counting.specs.Searches.{found}
 use Rattle.counting.specs.Sorting.{sorted, byKey}
 use Rattle.counting.proofs.tests.TestLaws.{allTo-ext}
-use Rattle.counting.proofs.searches.SelectionLaws.{found-least, found-nothing}
+use Rattle.counting.proofs.sorting.SortLaws.{Every-sorted}
+use Rattle.counting.proofs.sorting.KeyLaws.{sorted-same}
+use Rattle.counting.proofs.lists.EveryLaws.{every-numbersWhere, found-ext}
 use Rattle.load.specs.declared.Load.{Load}
+use Rattle.load.specs.Load.{mostSteps, lastMoment}
 use Rattle.load.specs.View.{View, viewOf, embedded, opensAt}
 use Rattle.load.proofs.WindowLaws.{opensAt-embedded}
 use Rattle.load.proofs.WindowLeft.{limitAt}
 use Rattle.rules.specs.State.{State, isOpen}
 use Rattle.rules.specs.Ready.{released, isAllowed, isCandidate, candidates, finishedBelow}
-use Rattle.rules.specs.Plan.{due, windowLeft}
+use Rattle.rules.specs.Plan.{planBy, due, windowLeft}
 use Rattle.rules.specs.Move.{startedFull, passes, chosen, openingAfter}
 use Rattle.rules.proofs.moves.MoveLaws.{started-clock, started-finished-same}
 use Rattle.rules.proofs.plan.StackLaws.{
@@ -30,15 +33,15 @@ use Rattle.rules.proofs.plan.StackLaws.{
   due-same,
 }
 use Rattle.bench.specs.declared.Bench.{Bench}
-use Rattle.bench.specs.declared.Board.{Board}
+use Rattle.plan.specs.declared.Board.{Board}
 use Rattle.bench.specs.Held.{stateOf}
-use Rattle.bench.specs.inner.Looks.{further}
-use Rattle.bench.specs.inner.Boards.{lookIn, Wide, Shows}
-use Rattle.bench.specs.inner.Stacks.{planIn}
-use Rattle.bench.specs.inner.Choices.{belowIn, candidateIn, openingIn, openAfter, passesIn, ChosenIn}
-use Rattle.bench.proofs.shown.StoreLaws.{stored}
+use Rattle.plan.specs.Looks.{further}
+use Rattle.plan.specs.Boards.{lookIn, Wide}
+use Rattle.bench.specs.inner.Boards.{Shows}
+use Rattle.plan.specs.Choices.{belowIn, candidateIn, openingIn, openAfter, jobsIn, passesIn, chosenIn}
+use Rattle.plan.proofs.StoreLaws.{stored}
 use Rattle.bench.proofs.choice.JoinLaws.{
-  planIn-is,
+  planBy-is,
   rows-are,
   finished-same,
   steps-same,
@@ -77,7 +80,10 @@ module _ (load : Load) (bench : Bench) (board : Board) (shows : Shows load bench
       let below : allTo (belowIn board (s .finished i)) rows ≡ allTo (finishedBelow L s (s .finished i)) (L .rows) =
       allTo-ext (belowIn board (s .finished i)) (finishedBelow L s (s .finished i)) rows (below-same (s .finished i))
       ∙ ap (allTo (finishedBelow L s (s .finished i))) (sym (rows-are load bench board shows)) in
+      let steps : min (lookIn board i .steps) mostSteps ≡ lookIn board i .steps =
+      omega (arith, shows .steps-most i l) in
       rw (
+        steps,
         finished-same load bench board shows i l,
         steps-same load bench board shows i l,
         release-same load bench board shows i l,
@@ -107,7 +113,10 @@ module _ (load : Load) (bench : Bench) (board : Board) (shows : Shows load bench
 
     pub opening-after : openingIn board (bench .clock) i ≡ openingAfter L s i (bench .clock)
     opening-after =
+        let kept : min (lookIn board i .opening) lastMoment ≡ lookIn board i .opening =
+        omega (arith, shows .opening-most i l) in
         rw (
+          kept,
           stays-same load bench board shows i l,
           opened-same load bench board shows i l,
           opening-same load bench board shows i l,
@@ -126,12 +135,12 @@ module _ (load : Load) (bench : Bench) (board : Board) (shows : Shows load bench
     pub passes-same : rows ≤ 24 → passesIn board (bench .clock) rows i ≡ passes L s i
     unfolding passesIn passes
     passes-same most =
-        ap (λ t. planIn (record { waiting = openAfter board i; time = t })
-        (set (board .release) i (t + lookIn board i .wait))
+        ap (λ t. planBy (isMarked (openAfter board i))
+        (jobsIn (set (board .release) i (t + lookIn board i .wait))
         (set (board .left) i (lookIn board i .rest))
-        (set (board .due) i (opening + lookIn board i .limit))
-        rows) end-is
-        ∙ planIn-is L after rows (rows-are load bench board shows)
+        (set (board .due) i (opening + lookIn board i .limit)))
+        rows t) end-is
+        ∙ planBy-is L after rows (rows-are load bench board shows)
         (openAfter board i)
         (set (board .release) i (after .clock + lookIn board i .wait))
         (set (board .left) i (lookIn board i .rest))
@@ -159,43 +168,14 @@ module _ (load : Load) (bench : Bench) (board : Board) (shows : Shows load bench
             ap (λ c. bench .clock + c) (cost-same load bench board shows i l) ∙ sym (started-clock L s i cost)
 
   -- what the search chooses
-  module _ (most : rows ≤ 24) (r : ℕ) (c : ChosenIn board (bench .clock) rows r) where
-    candidate : (k : ℕ) → k < rows → isCandidate L s k ≡ true → candidateIn board (bench .clock) rows k ≡ true
-    candidate k l e = candidate-same k l ∙ e
-
-    pass : (k : ℕ) → k < rows → passes L s k ≡ true → passesIn board (bench .clock) rows k ≡ true
-    pass k l e = passes-same k l most ∙ e
-
-    keyed : r < rows → (k : ℕ) → k < rows → isCandidate L s k ≡ true → passes L s k ≡ true
-        → s .finished r ≤ s .finished k
-    keyed l k b ck pk =
-        omega (
-          arith,
-          c .keys l k b (candidate k b ck) (pass k b pk),
-          finished-same load bench board shows r l,
-          finished-same load bench board shows k b,
-        )
-
-    tied : r < rows → (k : ℕ) → k < rows → isCandidate L s k ≡ true → passes L s k ≡ true
-        → s .finished r ≡ s .finished k → r ≤ k
-    tied l k b ck pk e =
-        c .ties l k b (candidate k b ck) (pass k b pk)
-        (finished-same load bench board shows r l ∙ e ∙ sym (finished-same load bench board shows k b))
-
-    pub chosen-row : r < rows → chosen L s ≡ at r
-    unfolding chosen candidates
-    chosen-row l =
-        ap (λ n. found (passes L s) (sorted (byKey (s .finished)) (numbersWhere (isCandidate L s) n)))
-        (rows-are load bench board shows)
-        ∙ found-least (s .finished) (isCandidate L s) (passes L s) rows r l
-        (sym (candidate-same r l) ∙ c .candidate l)
-        (sym (passes-same r l most) ∙ c .passing l)
-        (λ k b ck pk. record { keys = keyed l k b ck pk; ties = tied l k b ck pk })
-
-    pub chosen-nothing : rows ≤ r → chosen L s ≡ none
-    unfolding chosen candidates
-    chosen-nothing h =
-        ap (λ n. found (passes L s) (sorted (byKey (s .finished)) (numbersWhere (isCandidate L s) n)))
-        (rows-are load bench board shows)
-        ∙ found-nothing (s .finished) (isCandidate L s) (passes L s) rows
-        (λ k b ck. sym (passes-same k b most) ∙ c .none h k b (candidate k b ck))
+  pub chosen-same : rows ≤ 24 → chosenIn board (bench .clock) rows ≡ chosen L s
+  unfolding chosenIn chosen candidates
+  chosen-same most =
+      found-ext (passesIn board (bench .clock) rows) (passes L s) _
+      (Every-sorted (byKey (memberAt (board .finished))) (λ i. passesIn board (bench .clock) rows i ≡ passes L s i) _
+      (every-numbersWhere _ (candidateIn board (bench .clock) rows) rows (λ i l c. passes-same i l most)))
+      ∙ ap (found (passes L s))
+      (sorted-same (memberAt (board .finished)) (s .finished) (candidateIn board (bench .clock) rows) (isCandidate L s)
+      rows candidate-same (λ i l c. finished-same load bench board shows i l))
+      ∙ ap (λ n. found (passes L s) (sorted (byKey (s .finished)) (numbersWhere (isCandidate L s) n)))
+      (sym (rows-are load bench board shows))

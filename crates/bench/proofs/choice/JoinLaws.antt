@@ -12,12 +12,13 @@ use Rattle.rules.specs.Ready.{released}
 use Rattle.rules.specs.Plan.{planBy, due, windowLeft, jobs, planPasses}
 use Rattle.rules.proofs.plan.StackLaws.{planBy-ext}
 use Rattle.bench.specs.declared.Bench.{Bench}
-use Rattle.bench.specs.declared.Look.{Look}
-use Rattle.bench.specs.declared.Board.{Board}
+use Rattle.plan.specs.declared.Look.{Look}
+use Rattle.plan.specs.declared.Board.{Board}
 use Rattle.bench.specs.Held.{stateOf}
-use Rattle.bench.specs.inner.Looks.{further, lookOf}
-use Rattle.bench.specs.inner.Boards.{lookIn, Shows}
-use Rattle.bench.specs.inner.Stacks.{jobsIn, planIn}
+use Rattle.plan.specs.Looks.{further, lookOf}
+use Rattle.plan.specs.Boards.{lookIn}
+use Rattle.plan.specs.Choices.{jobsIn}
+use Rattle.bench.specs.inner.Boards.{Shows}
 
 -- the plan over lists that agree with a state is the plan of that state
 module _ (L : View) (s : State) (rows : ℕ) (rows-are : L .rows ≡ rows)
@@ -26,8 +27,8 @@ module _ (L : View) (s : State) (rows : ℕ) (rows-are : L .rows ≡ rows)
     (releases : (k : ℕ) → k < rows → memberAt release k ≡ released L s k)
     (lefts : (k : ℕ) → k < rows → memberAt left k ≡ windowLeft L s k)
     (dues : (k : ℕ) → k < rows → memberAt due′ k ≡ due L s k) where
-  pub planIn-is : (t : ℕ) → planIn (record { waiting = waiting; time = t }) release left due′ rows ≡ planPasses L s t
-  planIn-is t =
+  pub planBy-is : (t : ℕ) → planBy (isMarked waiting) (jobsIn release left due′) rows t ≡ planPasses L s t
+  planBy-is t =
       planBy-ext (isMarked waiting) (isOpen L s) (jobsIn release left due′) (jobs L s) rows t opens
       (λ k l o. record {
         key-same = dues k l;

@@ -27,15 +27,17 @@ use Rattle.rules.specs.Lamps.{lampWord, lampCount}
 use Rattle.rules.specs.Move.{startedFull, ticked, allFinished, chosen, nextSlot, startOrIdle, move}
 use Rattle.rules.proofs.moves.MoveLaws.{move-unshaped, move-done, move-full, move-goes}
 use Rattle.bench.specs.declared.Bench.{Bench}
-use Rattle.bench.specs.declared.Board.{Board}
+use Rattle.plan.specs.declared.Board.{Board}
 use Rattle.bench.specs.declared.Moved.{Moved}
 use Rattle.bench.specs.Held.{stateOf, benchOf, HeldBench, benchAt, handedOn, refusedWith, nextMove}
-use Rattle.bench.specs.inner.Boards.{lookIn, Shows}
-use Rattle.bench.specs.inner.Choices.{openingIn, openAfter}
+use Rattle.plan.specs.Boards.{lookIn}
+use Rattle.bench.specs.inner.Boards.{Shows}
+use Rattle.plan.specs.Choices.{openingIn, openAfter, chosenIn}
 use Rattle.bench.specs.inner.Moves.{benchStarted, slotOf, finishedIn, handedWith, startedIn, Stepped}
+use Rattle.plan.proofs.SearchLaws.{search-row, search-none}
 use Rattle.bench.proofs.shown.HeldLaws.{benchOf-stateOf, ticked-is, benchStarted-is}
 use Rattle.bench.proofs.choice.JoinLaws.{rows-are, finished-same, steps-same, cost-same, opened-same}
-use Rattle.bench.proofs.choice.ChoiceLaws.{opening-after, open-after, chosen-row, chosen-nothing}
+use Rattle.bench.proofs.choice.ChoiceLaws.{opening-after, open-after, chosen-same}
 
 -- a load that is accepted, and one that is refused
 pub nextMove-good : (load : Load) (bench : Bench) → checkLoad load ≡ Good
@@ -156,8 +158,15 @@ module _ (load : Load) (bench : Bench) (board : Board) (shows : Shows load bench
         elim (decLt (t .row) (load .rows)) [
           | yes l ↦
               t .starts l
-              ∙ sym (start-move (t .row) l (chosen-row load bench board shows most (t .row) (t .chosen) l))
+              ∙ sym
+              (start-move (t .row) l
+              (sym same ∙ search-row board (bench .clock) (load .rows) most (t .row) (t .chosen) l))
           | no l ↦
               t .idles (omega arith)
-              ∙ sym (idle-move (chosen-nothing load bench board shows most (t .row) (t .chosen) (omega arith)))
+              ∙ sym
+              (idle-move
+              (sym same ∙ search-none board (bench .clock) (load .rows) most (t .row) (t .chosen) (omega arith)))
         ]
+      where
+        same : chosenIn board (bench .clock) (load .rows) ≡ chosen L s
+        same = chosen-same load bench board shows most

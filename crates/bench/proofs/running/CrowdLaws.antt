@@ -6,18 +6,17 @@ use mathlib.Core.Bool.{Bool, true, false, cond, not, _&&_}
 use mathlib.Core.Path.{_≡_, refl, ap, _∙_}
 use native.Mathlib.Omega.{arith}
 use borrow.Author.Tests.{ltb-true, not-true}
-use lib.ListN.{set}
 use lib.Seq.{getD-set-same, getD-set-other}
 use Rattle.counting.specs.Lists.{isMarked}
 use Rattle.counting.proofs.sums.SumLaws.{sumTo-ext}
 use Rattle.counting.proofs.tests.TestLaws.{and-left, and-right, true-false}
 use Rattle.rules.specs.Plan.{Jobs}
 use Rattle.rules.proofs.plan.PlanTurns.{crowded-late}
-use Rattle.bench.specs.declared.Look.{Look}
-use Rattle.bench.specs.declared.Board.{Board}
-use Rattle.bench.specs.inner.Boards.{lookIn, Wide}
-use Rattle.bench.specs.inner.Stacks.{jobsIn}
-use Rattle.bench.specs.inner.Choices.{openAfter, openingIn, passesIn}
+use Rattle.plan.specs.declared.Look.{Look}
+use Rattle.plan.specs.declared.Board.{Board}
+use Rattle.plan.specs.Boards.{lookIn, Wide}
+use Rattle.plan.specs.Choices.{jobsAfter}
+use Rattle.plan.specs.Choices.{openAfter, openingIn, passesIn}
 use Rattle.bench.specs.inner.Running.{isSooner, workBefore, crowdedIn}
 
 module _ (board : Board) (clock rows i : ℕ) (wide : Wide board) (most : rows ≤ 24) (l : i < rows)
@@ -46,9 +45,7 @@ module _ (board : Board) (clock rows i : ℕ) (wide : Wide board) (most : rows �
   -- at any later moment
   module _ (t : ℕ) (h : clock ≤ t) where
     abbrev asked : Jobs
-    asked =
-        jobsIn (set (board .release) i (t + look .cost + look .wait)) (set (board .left) i (look .rest))
-        (set (board .due) i (openingIn board t i + look .limit))
+    asked = jobsAfter board t i
 
     opening-is : openingIn board t i ≡ t
     opening-is = rw (stays, shut)

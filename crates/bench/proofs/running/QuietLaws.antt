@@ -7,12 +7,12 @@ use native.Mathlib.Omega.{arith}
 use borrow.Author.Tests.{lt-ltb}
 use lib.Dec.{leb, ltb}
 use Rattle.counting.specs.Sums.{allTo}
-use Rattle.bench.specs.declared.Look.{Look}
-use Rattle.bench.specs.declared.Board.{Board}
-use Rattle.bench.specs.inner.Boards.{lookIn}
-use Rattle.bench.specs.inner.Choices.{belowIn, candidateIn, BoardFits}
+use Rattle.plan.specs.declared.Look.{Look}
+use Rattle.plan.specs.declared.Board.{Board}
+use Rattle.plan.specs.Boards.{lookIn}
+use Rattle.plan.specs.Choices.{belowIn, candidateIn}
 use Rattle.bench.specs.inner.Running.{crowdedIn}
-use Rattle.bench.proofs.choice.SearchLaws.{candidate-more, candidate-ready, candidate-allowed}
+use Rattle.plan.proofs.SearchLaws.{candidate-more, candidate-ready, candidate-allowed}
 
 -- row j's next step is not crowded, is there and allowed, the lowest unfinished step being known
 abbrev pub awaits : Board → ℕ → ℕ → ℕ → ℕ → Bool
@@ -34,7 +34,7 @@ sooner-le false next release = omega arith
 pub sooner-release-le : (b : Bool) (next release : ℕ) → b ≡ true → cond b (min next release) next ≤ release
 sooner-release-le b next release e = rw e (omega arith)
 
-module _ (board : Board) (clock rows lowest next : ℕ) (fits : BoardFits board clock rows)
+module _ (board : Board) (clock rows lowest next : ℕ)
     (known : (j : ℕ) → j ≤ 8 → allTo (belowIn board j) rows ≡ leb j lowest)
     (waits : (j : ℕ) → j < rows → Awaits board clock rows lowest next j) where
   -- so what is a candidate before that moment is crowded
@@ -49,15 +49,13 @@ module _ (board : Board) (clock rows lowest next : ℕ) (fits : BoardFits board 
       below = allTo (belowIn board (look .finished)) rows
 
       low : below ≡ leb (look .finished) lowest
-      low =
-          known (look .finished)
-          (omega (arith, candidate-more look t below e, fits .modest k b .steps-most))
+      low = known (look .finished) (omega (arith, candidate-more look t below e))
 
       there : crowdedIn board clock rows k ≡ false → awaits board clock rows lowest k ≡ true
       there q =
           rw (
             q,
-            lt-ltb (look .finished) (look .steps) (candidate-more look t below e),
+            lt-ltb (look .finished) (look .steps) (omega (arith, candidate-more look t below e)),
             sym (ap (λ x. look .opened || x) low) ∙ candidate-allowed look t below e,
           )
 

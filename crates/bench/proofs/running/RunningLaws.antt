@@ -30,16 +30,17 @@ use Rattle.rules.proofs.invariant.FullSetting.{fullSetting}
 use Rattle.rules.proofs.invariant.MoveKeeps.{Accounted, fresh-accounted, accounted-time, accounted-shaped}
 use Rattle.rules.proofs.run.StretchLaws.{later, Quiet, starts-done, quiet-accounted, quiet-starts}
 use Rattle.bench.specs.declared.Bench.{Bench}
-use Rattle.bench.specs.declared.Board.{Board}
+use Rattle.plan.specs.declared.Board.{Board}
 use Rattle.bench.specs.Held.{stateOf, benchOf, HeldBench, benchAt}
 use Rattle.bench.specs.inner.Boards.{Shows}
-use Rattle.bench.specs.inner.Choices.{candidateIn, passesIn, ChosenIn}
+use Rattle.plan.specs.Choices.{candidateIn, passesIn, chosenIn}
+use Rattle.plan.specs.Calls.{ChosenRow}
 use Rattle.bench.specs.inner.Moves.{finishedIn}
 use Rattle.bench.specs.inner.Running.{QuietTo}
 use Rattle.bench.specs.Runs.{ranWith}
 use Rattle.bench.proofs.shown.HeldLaws.{benchOf-held, fresh-state, benchAt-held}
-use Rattle.bench.proofs.choice.SearchLaws.{none-chosen}
-use Rattle.bench.proofs.choice.ChoiceLaws.{chosen-nothing}
+use Rattle.plan.proofs.SearchLaws.{none-chosen, search-none}
+use Rattle.bench.proofs.choice.ChoiceLaws.{chosen-same}
 use Rattle.bench.proofs.choice.NextLaws.{finished-is}
 use Rattle.bench.proofs.running.CrowdLaws.{crowded-refused}
 use Rattle.bench.proofs.shown.LaterBoards.{shows-at}
@@ -140,7 +141,7 @@ module _ (load : Load) (accepted : checkLoad load ≡ Good) (most : load .rows �
 
     -- to a moment before which nothing is chosen
     pub running-on : finishedIn board (load .rows) ≡ false → (i t : ℕ) → load .rows ≤ i
-        → ChosenIn board clock (load .rows) i → QuietTo board clock (load .rows) t → Running load board t count slots
+        → ChosenRow board clock (load .rows) i → QuietTo board clock (load .rows) t → Running load board t count slots
     running-on nd i t h c q =
         subst (λ m. Running load board m count slots) on (running-idle nd (t - clock) (omega (arith, q .most)) quiet)
       where
@@ -159,11 +160,12 @@ module _ (load : Load) (accepted : checkLoad load ≡ Good) (most : load .rows �
         none-at m a b =
             elim (ℕ-discrete m clock) [
               | yes e ↦
-                  chosen-nothing load (benchAt (r .bench) m) board (shown-at m) most i
-                  (subst (λ x. ChosenIn board x (load .rows) i) (sym e) c) h
+                  sym (chosen-same load (benchAt (r .bench) m) board (shown-at m) most)
+                  ∙ ap (λ x. chosenIn board x (load .rows)) e
+                  ∙ search-none board clock (load .rows) most i c h
               | no e ↦
-                  chosen-nothing load (benchAt (r .bench) m) board (shown-at m) most (load .rows)
-                  (none-chosen board m (load .rows) (refused m (omega arith) b)) (omega arith)
+                  sym (chosen-same load (benchAt (r .bench) m) board (shown-at m) most)
+                  ∙ none-chosen board m (load .rows) (refused m (omega arith) b)
             ]
 
         quiet : Quiet L s (t - clock)

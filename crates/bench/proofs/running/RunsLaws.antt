@@ -24,7 +24,7 @@ use Rattle.rules.proofs.run.RunMade.{schedule-is-whole}
 use Rattle.bench.specs.declared.Ran.{Ran}
 use Rattle.bench.specs.Runs.{scheduleOr}
 use Rattle.bench.specs.Calls.{Runs}
-use Rattle.bench.proofs.shown.StoreLaws.{listTo-read}
+use Rattle.plan.proofs.StoreLaws.{listTo-read}
 
 -- the slots that a run counts are those of the list that it was made from
 pub Runs-taken : (load : Load) (r : Ran) → Runs load r → take (r .count) (r .slots) ≡ scheduleOr load

@@ -1,7 +1,7 @@
 -- The start of the row that is chosen keeps what holds at every turn of the run: its slot is the next of the schedule,
 -- there is a place for it, and the board with the row looked up anew shows the state after the start.
-use Prim.Native.Nat.{ℕ, suc, _+_, _-_, _≤_, _<_}
-use mathlib.Core.Bool.{false}
+use Prim.Native.Nat.{ℕ, suc, _+_, _-_, min, _≤_, _<_}
+use mathlib.Core.Bool.{true, false}
 use mathlib.Core.List.{List, [], _∷_, _++_, append-assoc}
 use mathlib.Core.Path.{_≡_, ap, ap₂, sym, _∙_, subst}
 use native.Mathlib.Omega.{arith}
@@ -28,18 +28,18 @@ use Rattle.rules.proofs.invariant.FullSetting.{fullSetting}
 use Rattle.rules.proofs.invariant.MoveKeeps.{Accounted}
 use Rattle.rules.proofs.run.StretchLaws.{starts-start, chosen-accounted}
 use Rattle.bench.specs.declared.Bench.{Bench}
-use Rattle.bench.specs.declared.Look.{Look}
-use Rattle.bench.specs.declared.Board.{Board}
+use Rattle.plan.specs.declared.Look.{Look}
+use Rattle.plan.specs.declared.Board.{Board}
 use Rattle.bench.specs.Held.{stateOf}
-use Rattle.bench.specs.inner.Looks.{Modest}
-use Rattle.bench.specs.inner.Boards.{lookIn, boardWith}
-use Rattle.bench.specs.inner.Choices.{ChosenIn}
+use Rattle.plan.specs.Boards.{lookIn, boardWith}
+use Rattle.plan.specs.Choices.{candidateIn, chosenIn}
+use Rattle.plan.specs.Calls.{ChosenRow}
 use Rattle.bench.specs.inner.Moves.{slotOf, finishedIn}
 use Rattle.bench.specs.inner.Running.{lookAfter}
 use Rattle.bench.proofs.shown.HeldLaws.{benchStarted-held}
-use Rattle.bench.proofs.choice.SearchLaws.{candidate-more, candidate-ends}
+use Rattle.plan.proofs.SearchLaws.{candidate-more, candidate-ends, chosen-there, search-row}
 use Rattle.bench.proofs.choice.JoinLaws.{finished-same, steps-same, cost-same}
-use Rattle.bench.proofs.choice.ChoiceLaws.{chosen-row}
+use Rattle.bench.proofs.choice.ChoiceLaws.{chosen-same}
 use Rattle.bench.proofs.choice.NextLaws.{finished-is}
 use Rattle.bench.proofs.shown.LaterBoards.{benchOver, after-state, shows-started}
 use Rattle.bench.proofs.running.RunsLaws.{schedule-most}
@@ -71,15 +71,21 @@ module _ (load : Load) (accepted : checkLoad load ≡ Good) (most : load .rows �
 
   -- the start of the row that is chosen
   module _ (nd : finishedIn board (load .rows) ≡ false) (i : ℕ) (l : i < load .rows)
-      (c : ChosenIn board clock (load .rows) i) where
+      (c : ChosenRow board clock (load .rows) i) where
     early : clock < lastMoment
     early = running-early load accepted most board clock count slots r nd
 
-    here : ChosenIn board (r .bench .clock) (load .rows) i
-    here = subst (λ t. ChosenIn board t (load .rows) i) (sym (r .clock-is)) c
+    found-is : chosenIn board clock (load .rows) ≡ at i
+    found-is = search-row board clock (load .rows) most i c l
+
+    candidate : candidateIn board clock (load .rows) i ≡ true
+    candidate = chosen-there board clock (load .rows) i found-is .1
 
     chosen-is : chosen L s ≡ at i
-    chosen-is = chosen-row load (r .bench) board (r .shows) most i here l
+    chosen-is =
+        sym (chosen-same load (r .bench) board (r .shows) most)
+        ∙ ap (λ t. chosenIn board t (load .rows)) (r .clock-is)
+        ∙ found-is
 
     abbrev slot : Slot
     slot = slotOf i (lookIn board i .finished) clock
@@ -118,8 +124,8 @@ module _ (load : Load) (accepted : checkLoad load ≡ Good) (most : load .rows �
         ap (λ l. slotAt l count) (goes-on ∙ append-assoc (r .before) (slot ∷ []) (starts L (r .moves - 1) going))
         ∙ getD-at (r .before) slot (starts L (r .moves - 1) going) noSlot count (r .count-is)
 
-    more : lookIn board i .finished < lookIn board i .steps
-    more = candidate-more (lookIn board i) clock _ (c .candidate l)
+    more : lookIn board i .finished < min (lookIn board i .steps) 8
+    more = candidate-more (lookIn board i) clock _ candidate
 
     cost-least : 1 ≤ lookIn board i .cost
     unfolding viewOf
@@ -140,15 +146,15 @@ module _ (load : Load) (accepted : checkLoad load ≡ Good) (most : load .rows �
     running-startable =
         record {
           place = omega arith;
-          more = omega (arith, more, r .shows .modest i l .steps-most);
-          ends = candidate-ends (lookIn board i) clock _ (c .candidate l);
+          more = omega (arith, more);
+          ends = candidate-ends (lookIn board i) clock _ candidate;
           long = cost-least;
           room = place-left;
         }
 
-    pub running-start : (look : Look) → look ≡ lookAfter (rowAt load i) board clock i → Modest look
+    pub running-start : (look : Look) → look ≡ lookAfter (rowAt load i) board clock i
         → Running load (boardWith board i look) (clock + lookIn board i .cost) (count + 1) (set slots count slot)
-    running-start look e m =
+    running-start look e =
         let over : Bench = benchOver (r .bench) board i in
         let state : stateOf over ≡ going = after-state load (r .bench) board (r .shows) (r .held) i l (omega arith) in
         record {
@@ -157,7 +163,8 @@ module _ (load : Load) (accepted : checkLoad load ≡ Good) (most : load .rows �
           clock-is = ap (λ t. t + lookIn board i .cost) (r .clock-is);
           shows =
               shows-started load (r .bench) board (r .shows) (r .held) i l (omega arith) look
-              (e ∙ ap (λ t. lookAfter (rowAt load i) board t i) (sym (r .clock-is))) m;
+              (e ∙ ap (λ t. lookAfter (rowAt load i) board t i) (sym (r .clock-is)))
+              (omega (arith, early, r .clock-is));
           kept =
               subst (Accounted minima workedSince L) (sym state)
               (chosen-accounted L full s (r .kept) (sym asked ∙ nd) i chosen-is);

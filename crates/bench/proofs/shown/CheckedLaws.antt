@@ -6,36 +6,24 @@ use mathlib.Core.Path.{_≡_}
 use native.Mathlib.Omega.{arith}
 use borrow.Author.Tests.{leb-true}
 use lib.Dec.{eqb, leb}
-use lib.ListN.{length-take}
 use Rattle.counting.specs.Sums.{allTo, allFrom}
 use Rattle.counting.proofs.tests.TestLaws.{and-left, and-right, allTo-true}
 use Rattle.refusals.specs.declared.Checked.the-variants.{Good}
 use Rattle.load.specs.declared.Load.{Load}
-use Rattle.load.specs.Load.{mostRows, lastMoment, rowAt}
+use Rattle.load.specs.Load.{mostRows, mostSteps, lastMoment, rowAt}
 use Rattle.load.specs.Check.{checkLoad}
 use Rattle.load.specs.View.{View, viewOf}
-use Rattle.load.specs.Acceptable.{Acceptable}
-use Rattle.load.proofs.AcceptableLaws.{check-acceptable, check-placed}
+use Rattle.load.proofs.AcceptableLaws.{check-acceptable}
 use Rattle.rules.specs.State.{State, isOpen, endFits, openingFits, rowShaped, rowUnused, shaped}
-use Rattle.bench.specs.inner.Looks.{Fitting}
 
 module _ (load : Load) (ok : checkLoad load ≡ Good) where
   pub checked-rows : load .rows ≤ mostRows
   unfolding viewOf
   checked-rows = check-acceptable load ok .rows-most
 
-  pub checked-fitting : (i : ℕ) → i < load .rows → Fitting (rowAt load i)
+  pub checked-steps : (i : ℕ) → i < load .rows → rowAt load i .steps ≤ mostSteps
   unfolding viewOf
-  checked-fitting i l =
-      let good : Acceptable (viewOf load) = check-acceptable load ok in
-      let there = check-placed load ok .windows-there i l in
-      record {
-        windows-there = there;
-        windows-most =
-            omega (arith, good .windows-most i l, length-take (rowAt load i .windows) (rowAt load i .window));
-        steps-most = good .steps-most i l;
-        phase-most = good .phase-most i l;
-      }
+  checked-steps i l = check-acceptable load ok .steps-most i l
 
 -- what the shape says of a row
 pub record InShape (L : View) (s : State) (i : ℕ) : Type 0 where

@@ -19,7 +19,7 @@ use Rattle.rules.specs.Move.{openingAfter, started, ticked}
 use Rattle.bench.specs.declared.Bench.{Bench}
 use Rattle.bench.specs.Held.{stateOf, benchOf, HeldBench, benchAt}
 use Rattle.bench.specs.inner.Moves.{benchStarted}
-use Rattle.bench.proofs.shown.StoreLaws.{listTo-read, stored}
+use Rattle.plan.proofs.StoreLaws.{listTo-read, stored}
 
 pub benchOf-stateOf : (bench : Bench) → HeldBench bench → benchOf (stateOf bench) ≡ bench
 unfolding benchOf

@@ -1,45 +1,43 @@
 -- A board goes on showing its load: with the clock at another moment as it is, and with row i looked up anew once the
 -- row's next step is over. The bench that it shows is in no place of memory; it holds the state of the rules.
-use Prim.Native.Nat.{ℕ, _+_, _<_}
-use mathlib.Core.Path.{_≡_, refl, ap, ap₂, sym, _∙_}
+use Prim.Native.Nat.{ℕ, _+_, _≤_, _<_}
+use mathlib.Core.Path.{_≡_, refl, ap, ap₂, sym, _∙_, subst}
 use mathlib.Core.Logic.{_≢_}
 use native.Mathlib.Decide.{ℕ-discrete}
 use native.Mathlib.Omega.{arith}
 use lib.ListN.{getD}
 use lib.Seq.{getD-set-same, getD-set-other}
 use Rattle.load.specs.declared.Load.{Load}
-use Rattle.load.specs.Load.{rowAt}
+use Rattle.load.specs.Load.{lastMoment, rowAt}
 use Rattle.load.specs.View.{viewOf}
 use Rattle.rules.specs.Move.{startedFull}
 use Rattle.bench.specs.declared.Bench.{Bench}
-use Rattle.bench.specs.declared.Look.{Look}
-use Rattle.bench.specs.declared.Board.{Board}
+use Rattle.plan.specs.declared.Look.{Look}
+use Rattle.plan.specs.declared.Board.{Board}
 use Rattle.bench.specs.Held.{stateOf, HeldBench, benchAt}
-use Rattle.bench.specs.inner.Looks.{viewAlike, stateAlike, lookOf, Modest}
-use Rattle.bench.specs.inner.Boards.{lookIn, boardWith, Shows}
-use Rattle.bench.specs.inner.Choices.{openingIn}
+use Rattle.plan.specs.Looks.{lookOf, lookBy}
+use Rattle.plan.specs.Boards.{lookIn, boardWith}
+use Rattle.bench.specs.inner.Boards.{Shows}
+use Rattle.plan.specs.Choices.{openingIn}
 use Rattle.bench.specs.inner.Moves.{benchStarted}
 use Rattle.bench.specs.inner.Running.{lookAfter}
 use Rattle.bench.proofs.shown.HeldLaws.{benchStarted-state}
 use Rattle.bench.proofs.shown.LookLaws.{look-of-row}
-use Rattle.bench.proofs.shown.BoardLaws.{boardWith-same, boardWith-other, boardWith-wide}
-use Rattle.bench.proofs.choice.JoinLaws.{finished-same, cost-same}
+use Rattle.plan.proofs.SearchLaws.{openingBy-le}
+use Rattle.plan.proofs.BoardLaws.{boardWith-same, boardWith-other, boardWith-wide}
+use Rattle.bench.proofs.choice.JoinLaws.{finished-same, steps-same, cost-same}
 use Rattle.bench.proofs.choice.ChoiceLaws.{opening-after}
 
 -- a bench once row i's next step, of which a board tells, is over
 abbrev pub benchOver : Bench → Board → ℕ → Bench
 benchOver bench board i = benchStarted bench i (lookIn board i .cost) (openingIn board (bench .clock) i)
 
--- what is looked up of row k, by its numbers
-abbrev lookBy : Load → ℕ → ℕ → ℕ → ℕ → Look
-lookBy load k finished end opening = lookOf (viewAlike (rowAt load k)) (stateAlike 0 finished end opening) 0
-
 look-same : (load : Load) (bench bench′ : Bench) (k : ℕ) → getD (bench′ .finished) k 0 ≡ getD (bench .finished) k 0
     → getD (bench′ .end) k 0 ≡ getD (bench .end) k 0 → getD (bench′ .opening) k 0 ≡ getD (bench .opening) k 0
     → lookOf (viewOf load) (stateOf bench) k ≡ lookOf (viewOf load) (stateOf bench′) k
 look-same load bench bench′ k e f g =
     sym (look-of-row load bench k)
-    ∙ sym (ap₂ (λ a b. lookBy load k a b (getD (bench′ .opening) k 0)) e f ∙ ap (lookBy load k _ _) g)
+    ∙ sym (ap₂ (λ a b. lookBy (rowAt load k) a b (getD (bench′ .opening) k 0)) e f ∙ ap (lookBy (rowAt load k) _ _) g)
     ∙ look-of-row load bench′ k
 
 module _ (load : Load) (bench : Bench) (board : Board) (shows : Shows load bench board) where
@@ -48,7 +46,8 @@ module _ (load : Load) (bench : Bench) (board : Board) (shows : Shows load bench
       record {
         wide = shows .wide;
         looks = λ k l. shows .looks k l ∙ look-same load bench (benchAt bench t) k refl refl refl;
-        modest = shows .modest;
+        steps-most = shows .steps-most;
+        opening-most = shows .opening-most;
       }
 
   module _ (size : HeldBench bench) (i : ℕ) (l : i < load .rows) (inside : i < 24) where
@@ -65,11 +64,11 @@ module _ (load : Load) (bench : Bench) (board : Board) (shows : Shows load bench
     renewed : lookAfter (rowAt load i) board (bench .clock) i ≡ lookOf (viewOf load) (stateOf after) i
     renewed =
         sym
-        (ap₂ (λ a b. lookBy load i a b (getD (after .opening) i 0))
+        (ap₂ (λ a b. lookBy (rowAt load i) a b (getD (after .opening) i 0))
         (getD-set-same (bench .finished) i _ 0 (omega (arith, size .finished-places))
         ∙ ap (λ f. f + 1) (sym (finished-same load bench board shows i l)))
         (getD-set-same (bench .end) i _ 0 (omega (arith, size .end-places)))
-        ∙ ap (lookBy load i _ _) (getD-set-same (bench .opening) i _ 0 (omega (arith, size .opening-places))))
+        ∙ ap (lookBy (rowAt load i) _ _) (getD-set-same (bench .opening) i _ 0 (omega (arith, size .opening-places))))
         ∙ look-of-row load after i
 
     other : (k : ℕ) → k ≢ i → lookOf (viewOf load) (stateOf bench) k ≡ lookOf (viewOf load) (stateOf after) k
@@ -78,17 +77,31 @@ module _ (load : Load) (bench : Bench) (board : Board) (shows : Shows load bench
         (getD-set-other (bench .end) i k _ 0 q) (getD-set-other (bench .opening) i k _ 0 q)
 
     -- the row is looked up anew, and the others are as they were
-    pub shows-started : (look : Look) → look ≡ lookAfter (rowAt load i) board (bench .clock) i → Modest look
-        → Shows load after (boardWith board i look)
-    shows-started look e m =
+    pub shows-started : (look : Look) → look ≡ lookAfter (rowAt load i) board (bench .clock) i
+        → bench .clock ≤ lastMoment → Shows load after (boardWith board i look)
+    unfolding lookOf viewOf
+    shows-started look e early =
+        let here : lookIn (boardWith board i look) i ≡ look = boardWith-same board i look (shows .wide) inside in
+        let was = lookIn board i in
         record {
           wide = boardWith-wide board i look (shows .wide);
           looks = λ k lk. elim (ℕ-discrete k i) [
-            | yes q ↦ rw q (boardWith-same board i look (shows .wide) inside ∙ e ∙ renewed)
+            | yes q ↦ rw q (here ∙ e ∙ renewed)
             | no q ↦ boardWith-other board i look k q ∙ shows .looks k lk ∙ other k q
           ];
-          modest = λ k lk. elim (ℕ-discrete k i) [
-            | yes q ↦ rw (q, boardWith-same board i look (shows .wide) inside) m
-            | no q ↦ rw (boardWith-other board i look k q) (shows .modest k lk)
+          steps-most = λ k lk. elim (ℕ-discrete k i) [
+            | yes q ↦
+                subst (λ (look : Look). look .steps ≤ 8) (sym (ap (lookIn (boardWith board i look)) q ∙ here ∙ e))
+                (omega (arith, shows .steps-most i l, steps-same load bench board shows i l))
+            | no q ↦ subst (λ (look : Look). look .steps ≤ 8) (sym (boardWith-other board i look k q))
+                (shows .steps-most k lk)
+          ];
+          opening-most = λ k lk. elim (ℕ-discrete k i) [
+            | yes q ↦
+                subst (λ (look : Look). look .opening ≤ lastMoment)
+                (sym (ap (lookIn (boardWith board i look)) q ∙ here ∙ e))
+                (openingBy-le (was .stays) (was .opened) (was .opening) (bench .clock) early)
+            | no q ↦ subst (λ (look : Look). look .opening ≤ lastMoment) (sym (boardWith-other board i look k q))
+                (shows .opening-most k lk)
           ];
         }

@@ -1,5 +1,5 @@
 -- What a move hands back in memory, over a board: the bench that it leaves, with the lamps of the
--- windows that are open after it. To be read after Choices.
+-- windows that are open after it.
 use Prim.Native.Nat.{ℕ, _+_, _≤_, _<_}
 use mathlib.Core.Bool.{Bool}
 use mathlib.Core.List.{List}
@@ -14,11 +14,12 @@ use Rattle.rules.specs.declared.Outcome.{Outcome}
 use Rattle.rules.specs.declared.Outcome.the-variants.{Start, Idle}
 use Rattle.rules.specs.declared.Slot.{Slot}
 use Rattle.bench.specs.declared.Bench.{Bench}
-use Rattle.bench.specs.declared.Board.{Board}
+use Rattle.plan.specs.declared.Board.{Board}
 use Rattle.bench.specs.declared.Moved.{Moved}
 use Rattle.bench.specs.Held.{benchAt}
-use Rattle.bench.specs.inner.Boards.{lookIn}
-use Rattle.bench.specs.inner.Choices.{openingIn, openAfter, ChosenIn}
+use Rattle.plan.specs.Boards.{lookIn}
+use Rattle.plan.specs.Choices.{openingIn, openAfter}
+use Rattle.plan.specs.Calls.{ChosenRow}
 
 -- a bench once row i has started a step that takes so long, with its opening
 abbrev pub benchStarted : Bench → ℕ → ℕ → ℕ → Bench
@@ -60,7 +61,7 @@ startedIn bench board rows i =
 -- row r was chosen, and its next step is started; where it is no row, the clock moves one tick
 pub record Stepped (bench : Bench) (board : Board) (rows : ℕ) (moved : Moved) : Type 0 where
   pub row : ℕ
-  pub chosen : ChosenIn board (bench .clock) rows row
+  pub chosen : ChosenRow board (bench .clock) rows row
   pub starts : row < rows → moved ≡ startedIn bench board rows row
   pub idles : rows ≤ row
       → moved ≡ handedWith (benchAt bench (bench .clock + 1)) Idle (board .opened) rows

@@ -1,5 +1,5 @@
 -- What the code of the run looks up at a start, and the moment to which its clock goes where
--- nothing starts. To be read after Choices.
+-- nothing starts.
 use Prim.Native.Nat.{ℕ, _+_, _≤_, _<_}
 use mathlib.Core.Bool.{Bool, true, cond, not, _&&_}
 use mathlib.Core.Path.{_≡_}
@@ -7,19 +7,17 @@ use lib.Dec.{ltb}
 use Rattle.counting.specs.Sums.{sumTo}
 use Rattle.load.specs.declared.Row.{Row}
 use Rattle.load.specs.Load.{lastMoment}
-use Rattle.bench.specs.declared.Look.{Look}
-use Rattle.bench.specs.declared.Board.{Board}
-use Rattle.bench.specs.inner.Looks.{viewAlike, stateAlike, lookOf}
-use Rattle.bench.specs.inner.Boards.{lookIn}
-use Rattle.bench.specs.inner.Choices.{openingIn, candidateIn}
+use Rattle.plan.specs.declared.Look.{Look}
+use Rattle.plan.specs.declared.Board.{Board}
+use Rattle.plan.specs.Looks.{lookBy}
+use Rattle.plan.specs.Boards.{lookIn}
+use Rattle.plan.specs.Choices.{openingIn, candidateIn}
 
 -- row i, which is that row, once its next step, started at a moment, is over
 abbrev pub lookAfter : Row → Board → ℕ → ℕ → Look
 lookAfter row board clock i =
-    lookOf (viewAlike row)
-    (stateAlike 0 (lookIn board i .finished + 1) (clock + lookIn board i .cost)
-    (openingIn board clock i))
-    0
+    lookBy row (lookIn board i .finished + 1) (clock + lookIn board i .cost)
+    (openingIn board clock i)
 
 -- row k's open window is due before a moment
 abbrev pub isSooner : Board → ℕ → ℕ → Bool

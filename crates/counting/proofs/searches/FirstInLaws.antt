@@ -1,6 +1,6 @@
 -- The first member that has p, looked for from a place on: it is the member there, or it is looked for from the next
 -- place on. And some member has p exactly where the first that has it passes a test that nothing else would.
-use Prim.Native.Nat.{ℕ, zero, suc, _+_, _≤_, _<_}
+use Prim.Native.Nat.{ℕ, zero, suc, _+_, min, _≤_, _<_}
 use mathlib.Core.Bool.{Bool, true, false, cond, _||_}
 use mathlib.Core.List.{List, [], _∷_}
 use mathlib.Core.Path.{_≡_, refl, ap, sym, _∙_}
@@ -23,7 +23,7 @@ module _ {A : Type 0} (p : A → Bool) (z : A) where
   firstIn-over (a ∷ l) (suc k) h = firstIn-over l k (omega arith)
 
   module _ (l : List A) (n k : ℕ) where
-    pub firstIn-from : n ≤ length l → k < n
+    pub firstIn-from : k < length l → k < n
         → firstIn p z (drop k (take n l))
         ≡ cond (p (getD l k z)) (getD l k z) (firstIn p z (drop (k + 1) (take n l)))
     firstIn-from h b =
@@ -33,7 +33,7 @@ module _ {A : Type 0} (p : A → Bool) (z : A) where
         let g = getD-take n l k z b in
         rw (add-one, ← g) f
 
-    pub firstIn-past : n ≤ k → firstIn p z (drop k (take n l)) ≡ z
+    pub firstIn-past : min n (length l) ≤ k → firstIn p z (drop k (take n l)) ≡ z
     firstIn-past h = firstIn-over (take n l) k (omega (arith, length-take n l))
 
   pub anyIn-firstIn : (q : A → Bool) → ((a : A) → p a ≡ true → q a ≡ true) → q z ≡ false → (l : List A)

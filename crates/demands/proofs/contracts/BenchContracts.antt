@@ -1,10 +1,26 @@
--- The contract of each call on the bench is its relation in BenchCalls, at the call's own parameters,
+-- The contract of each call on plan and bench is its relation in BenchCalls, at the call's own parameters,
 -- and asks nothing. This is a statement, a part of Joined.
+use Rattle.plan.proofs as plan
 use Rattle.bench.proofs as bench
 use Rattle.demands.specs.BenchCalls.{EveryBenchCall}
 use Rattle.demands.specs.JoinedContract.{Says, Relation}
 
 pub record BenchContracts (relation : EveryBenchCall Relation) : Type 2 where
+  -- plan
+  pub open-window : Says plan.open_window.ended (λ M. plan.open_window.spec)
+      (λ κs a r s. relation .open-window (a .0) (a .1 .0) .meets r)
+  pub look-of : Says plan.look_of.ended (λ M. plan.look_of.spec)
+      (λ κs a r s. relation .look-of (a .0) (a .1 .0) (a .1 .1 .0) (a .1 .1 .1 .0) .meets r)
+  pub zero-board : Says plan.zero_board.ended (λ M. plan.zero_board.spec)
+      (λ κs a r s. relation .zero-board .meets r)
+  pub with-look : Says plan.with_look.ended (λ M. plan.with_look.spec)
+      (λ κs a r s. relation .with-look (a .0) (a .1 .0) (a .1 .1 .0) .meets r)
+  pub lowest-step : Says plan.lowest_step.ended (λ M. plan.lowest_step.spec)
+      (λ κs a r s. relation .lowest-step (a .0) (a .1 .0) .meets r)
+  pub opening-after : Says plan.opening_after.ended (λ M. plan.opening_after.spec)
+      (λ κs a r s. relation .opening-after (a .0) (a .1 .0) (a .1 .1 .0) (a .1 .1 .1 .0) .meets r)
+  pub chosen-row : Says plan.chosen_row.ended (λ M. plan.chosen_row.spec)
+      (λ κs a r s. relation .chosen-row (a .0) (a .1 .0) (a .1 .1 .0) .meets r)
   -- bench
   pub fresh : Says bench.fresh.ended (λ M. bench.fresh.spec)
       (λ κs a r s. relation .fresh .meets r)

@@ -67,12 +67,10 @@ start-or-idle-requires c κs =
     let made = c .before .before .before .before .before in
     let start = made .before in
     let shows = made .board-of .ensures in (
-      record {
-        rows-most = rows-most start;
-        clock-most = shaped-clock (viewOf (start .args .load)) (stateOf (start .args .bench)) (start .pre .1);
-        wide = shows .wide;
-        modest = shows .modest;
-      },
+      (
+        rows-most start,
+        shaped-clock (viewOf (start .args .load)) (stateOf (start .args .bench)) (start .pre .1),
+      ),
       λ i l. sym (finished-same (start .args .load) (start .args .bench) (made .board-of .result) shows i l),
     )
 

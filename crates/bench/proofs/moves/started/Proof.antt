@@ -9,11 +9,10 @@ use Rattle.bench.proofs.moves.started.Tie as tie
 start-requires : tie.Need-start-requires
 start-requires c κs =
     let start = c .before .before .before .before .before .before .before .before .before in
-    let fits = start .pre .0 in
-    let here = fits .modest _ (start .pre .1 .0) in (
-      omega (arith, start .pre .1 .0, fits .rows-most),
-      omega (arith, fits .clock-most, here .cost-most),
-      omega (arith, start .pre .1 .1, start .pre .1 .2),
+    let asked = start .pre .1 in (
+      omega (arith, asked .0, start .pre .0 .0),
+      start .pre .0 .1,
+      omega (arith, asked .1, asked .2),
     )
 
 returns : tie.Need-returns

@@ -1,22 +1,21 @@
 -- `is_crowded` adds one row's work a turn: at k it has that of the first k rows.
-use Prim.Native.Nat.{ℕ, _+_, _-_, _*_, _≤_}
-use mathlib.Core.Bool.{Bool, true, false, cond}
+use Prim.Native.Nat.{_+_, _-_, _*_, _≤_}
 use mathlib.Core.Path.{_≡_, ap₂, sym, _∙_}
 use native.Mathlib.Omega.{arith}
+use borrow.Author.Needs.{needs}
 use borrow.Author.Tests.{not-true, not-false}
 use Rattle.counting.proofs.sums.SumLaws.{sumTo-zero, sumTo-next}
-use Rattle.bench.specs.inner.Boards.{lookIn}
-use Rattle.bench.specs.inner.Running.{isSooner, workBefore}
-use borrow.Author.Needs.{needs}
+use Rattle.plan.specs.Boards.{lookIn}
+use Rattle.bench.specs.inner.Running.{workBefore}
 use Rattle.bench.proofs.quiet.is_crowded.Statement.{statement}
 use Rattle.bench.proofs.quiet.is_crowded.Tie as tie
 
 abbrev Inv-loop : tie.InvT-loop
-Inv-loop clock rows i board limit moment work₀ k₀ work k =
-    (k ≤ rows) × (rows ≤ 24) × (work ≡ workBefore board moment k) × (work ≤ k * 40000000)
+Inv-loop clock rows i board moment work₀ k₀ work k =
+    (k ≤ rows) × (work ≡ workBefore board moment k) × (work ≤ k * 4294967295)
 
 abbrev μ-loop : tie.MeasureT-loop
-μ-loop clock rows i board limit moment work₀ k₀ work k = rows - k
+μ-loop clock rows i board moment work₀ k₀ work k = rows - k
 
 returns : tie.Need-returns Inv-loop μ-loop
 returns c = rw (c .if1 .taken)
@@ -27,68 +26,50 @@ returns-2 c =
     let start = shut .before .before in
     rw (shut .if1 .left, not-true (lookIn (start .args .t1) (start .args .i) .stays) (c .if2 .taken))
 
-add-moment : tie.Need-add-moment Inv-loop μ-loop
-add-moment c =
-    let start = c .before .before .before .before .before in
-    omega (arith, start .pre .0 .clock-most, start .pre .0 .modest _ (start .pre .1) .limit-most)
-
 loop-holds : tie.Need-loop-holds Inv-loop μ-loop
-loop-holds c =
-    let start = c .before .before .before .before .before in
-    (search needs, start .pre .0 .rows-most, sym (sumTo-zero _), search needs)
+loop-holds c = (search needs, sym (sumTo-zero _), search needs)
 
--- a row's work is modest
-piece-le : (b : Bool) (left : ℕ) → left ≤ 40000000 → cond b left 0 ≤ 40000000
-piece-le true left h = h
-piece-le false left h = omega arith
+-- the rows are few
+rows-most : (c : tie.Start Inv-loop μ-loop) → c .args .rows ≤ 24
+rows-most c = c .pre .0
 
-piece : (c : tie.After-work-of Inv-loop μ-loop) → c .work-of .result ≤ 40000000
-piece c =
+add-work : tie.Need-add-work Inv-loop μ-loop
+add-work c =
     let turn = c .before .before .before .before in
-    let start = turn .before .before .before .before .before .before .before in
-    let board = start .args .t1 in
-    let k = turn .before .loop .k in
-    let moment = start .args .clock + lookIn board (start .args .i) .limit in
-    rw (c .work-of .ensures)
-    (piece-le (isSooner board moment k) (lookIn board k .left)
-    (start .pre .0 .modest k (turn .loop-test .taken) .left-most))
+    let start = turn .before .before .before .before .before .before .before .before in
+    omega (arith, c .work-of .ensures .1, turn .before .loop .inv .2, turn .loop-test .taken, rows-most start)
 
 loop-again : tie.Need-loop-again Inv-loop μ-loop
 loop-again c =
     let turn = c .before .before .before .before in
     let inv = turn .before .loop .inv in (
       search needs,
-      search needs,
-      ap₂ _+_ (inv .2) (c .work-of .ensures) ∙ sym (sumTo-next _ _),
-      omega (arith, piece c),
+      ap₂ _+_ (inv .1) (c .work-of .ensures .0) ∙ sym (sumTo-next _ _),
+      omega (arith, c .work-of .ensures .1, inv .2),
     )
 
-add-result : tie.Need-add-result Inv-loop μ-loop
-add-result c =
-    let start = c .before .before .before .before .before .before .before .before .before in
-    let here = start .pre .0 .modest _ (start .pre .1) in
-    omega (arith, here .cost-most, here .rest-most)
-
-add-result-2 : tie.Need-add-result-2 Inv-loop μ-loop
-add-result-2 c =
-    let start = c .before .before .before .before .before .before .before .before .before in
-    let here = start .pre .0 .modest _ (start .pre .1) in
-    let inv = c .before .before .before .loop .inv in
-    omega (arith, here .cost-most, here .rest-most, inv .0, inv .1, inv .3)
+is-short-requires : tie.Need-is-short-requires Inv-loop μ-loop
+is-short-requires c κs =
+    let looped = c .before .before .before in
+    let start = looped .before .before .before .before .before .before .before .before in
+    omega (arith, looped .before .loop .inv .0, looped .before .loop .inv .2, rows-most start)
 
 returns-3 : tie.Need-returns-3 Inv-loop μ-loop
 returns-3 c =
-    let looped = c .before .before .before in
-    let opens = looped .before .before in
+    let looped = c .before .before .before .before in
+    let due = looped .before .before in
+    let opens = due .before .before in
     let shut = opens .before .before in
     let start = shut .before .before in
-    let e : looped .loop .k ≡ start .args .rows = omega arith in
+    let e : looped .before .loop .k ≡ start .args .rows = omega arith in
     rw (
       shut .if1 .left,
       not-false (lookIn (start .args .t1) (start .args .i) .stays) (opens .if2 .left),
-      looped .loop .inv .2,
-      e,
+      ← due .due-by .ensures,
+      ← e,
+      ← looped .before .loop .inv .1,
     )
+    (c .is-short .ensures)
 
 pub is-crowded-spec : {M : Type 1} → statement M
 is-crowded-spec =
@@ -102,7 +83,7 @@ is-crowded-spec =
     returns-2
     (λ c. search needs)
     (λ c. search needs)
-    add-moment
+    (λ c κs. search needs)
     loop-holds
     (λ c. search needs)
     (λ c. search needs)
@@ -110,7 +91,7 @@ is-crowded-spec =
     (λ c. search needs)
     (λ c. search needs)
     (λ c κs. search needs)
-    (λ c. omega (arith, piece c, c .before .before .before .before .before .loop .inv .3))
+    add-work
     (λ c. search needs)
     (λ c. search needs)
     loop-again
@@ -118,6 +99,7 @@ is-crowded-spec =
     (λ c. search needs)
     (λ c. search needs)
     (λ c. search needs)
-    add-result
-    add-result-2
+    (λ c. search needs)
+    (λ c. search needs)
+    is-short-requires
     returns-3)

@@ -5,7 +5,8 @@ use mathlib.Core.Path.{_≡_}
 use native.Mathlib.Decide.{ℕ-discrete}
 use native.Mathlib.Omega.{arith}
 use Rattle.load.specs.Load.{lastMoment}
-use Rattle.bench.specs.inner.Boards.{lookIn}
+use Rattle.plan.specs.Boards.{lookIn}
+use Rattle.plan.proofs.SearchLaws.{lowest-tells}
 use Rattle.bench.proofs.running.QuietLaws.{awaits, Awaits, sooner-le, sooner-release-le, awaits-quiet}
 use borrow.Author.Needs.{needs}
 use Rattle.bench.proofs.quiet.next_moment.Statement.{statement}
@@ -19,7 +20,7 @@ abbrev μ-loop : tie.MeasureT-loop
 μ-loop clock rows board lowest next₀ k₀ next k = rows - k
 
 loop-holds : tie.Need-loop-holds Inv-loop μ-loop
-loop-holds c = (search needs, c .before .pre .0 .rows-most, search needs, λ j l. absurd (omega arith))
+loop-holds c = (search needs, c .before .pre .0, search needs, λ j l. absurd (omega arith))
 
 loop-again : tie.Need-loop-again Inv-loop μ-loop
 loop-again c =
@@ -62,7 +63,8 @@ returns-2 c =
       later = c .if2 .taken;
       most = inv .2;
       quiet = λ t k l m b. awaits-quiet (start .args .t1) (start .args .clock) (start .args .rows) (lowest .result)
-          (c .before .before .loop .next) (start .pre .0) (lowest .ensures) (λ j h. inv .3 j (omega arith)) t k m b;
+          (c .before .before .loop .next) (lowest-tells (start .args .t1) _ _ (start .pre .0) (lowest .ensures))
+          (λ j h. inv .3 j (omega arith)) t k m b;
     }
 
 returns-3 : tie.Need-returns-3 Inv-loop μ-loop
@@ -79,11 +81,11 @@ next-moment-spec =
     (tie.spec
     Inv-loop
     μ-loop
-    (λ c κs. c .pre .0 .rows-most)
+    (λ c κs. search needs)
     loop-holds
     (λ c. search needs)
     returns
-    (λ c κs. (c .before .before .before .before .pre .0, c .before .loop-test .taken))
+    (λ c κs. search needs)
     (λ c. search needs)
     (λ c. search needs)
     (λ c. search needs)

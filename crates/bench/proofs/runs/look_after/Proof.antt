@@ -1,50 +1,53 @@
 -- `look_after` looks the row up for one step more, the end of that step, and the opening that it leaves.
-use Prim.Native.Nat.{_+_, _≤_, _<_}
-use mathlib.Core.Path.{_∙_}
+use Prim.Native.Nat.{ℕ, _+_, min, _≤_, _<_}
+use mathlib.Core.Path.{_≡_, ap, ap₂, _∙_}
 use native.Mathlib.Omega.{arith}
-use Rattle.load.specs.Load.{lastMoment}
-use Rattle.bench.specs.inner.Boards.{lookIn}
-use Rattle.bench.proofs.choice.SearchLaws.{candidate-more, candidate-ends}
-use Rattle.bench.proofs.choice.PassLaws.{openingBy-le}
 use borrow.Author.Needs.{needs}
+use Rattle.load.specs.declared.Row.{Row}
+use Rattle.load.specs.Load.{mostSteps, lastMoment}
+use Rattle.plan.specs.declared.Board.{Board}
+use Rattle.plan.specs.Looks.{lookBy}
+use Rattle.plan.specs.Boards.{lookIn}
+use Rattle.plan.specs.Choices.{openingIn}
+use Rattle.plan.proofs.SearchLaws.{openingBy-le}
+use Rattle.bench.specs.inner.Running.{lookAfter}
 use Rattle.bench.proofs.runs.look_after.Statement.{statement}
 use Rattle.bench.proofs.runs.look_after.Tie as tie
 
--- the step is there
-more : (c : tie.Start) → lookIn (c .args .t2) (c .args .i) .finished < 8
-more c =
-    let board = c .args .t2 in
-    let look = lookIn board (c .args .i) in
-    let m : look .finished < look .steps = candidate-more look (c .args .clock) _ (c .pre .1 .1 .1) in
-    omega (arith, c .pre .1 .0 .modest (c .args .i) (c .pre .1 .1 .0) .steps-most)
+-- none of the numbers counts as less
+looked : (row : Row) (board : Board) (clock i end opening : ℕ) → lookIn board i .finished < mostSteps
+    → clock + lookIn board i .cost ≤ lastMoment → end ≡ clock + lookIn board i .cost
+    → opening ≡ openingIn board clock i
+    → lookBy row (min (lookIn board i .finished + 1) mostSteps) (min end lastMoment) (min opening lastMoment)
+    ≡ lookAfter row board clock i
+looked row board clock i end opening more ends e f =
+    let look = lookIn board i in
+    let early : clock ≤ lastMoment = omega (arith, ends) in
+    let small : openingIn board clock i ≤ lastMoment =
+    openingBy-le (look .stays) (look .opened) (look .opening) clock early in
+    let g : min (look .finished + 1) mostSteps ≡ look .finished + 1 = omega (arith, more) in
+    let h : min end lastMoment ≡ clock + look .cost = omega (arith, ends, e) in
+    let o : min opening lastMoment ≡ openingIn board clock i = omega (arith, small, f) in
+    ap (λ n. lookBy row n (min end lastMoment) (min opening lastMoment)) g
+    ∙ ap₂ (lookBy row (look .finished + 1)) h o
 
--- and ends by 1,000,000
-ends : (c : tie.Start) → c .args .clock + lookIn (c .args .t2) (c .args .i) .cost ≤ lastMoment
-ends c = candidate-ends (lookIn (c .args .t2) (c .args .i)) (c .args .clock) _ (c .pre .1 .1 .1)
-
-add-end : tie.Need-add-end
-add-end c = omega (arith, ends (c .before))
+end-of-requires : tie.Need-end-of-requires
+end-of-requires c κs = omega (arith, c .before .pre .2)
 
 add-look-of : tie.Need-add-look-of
-add-look-of c = omega (arith, more (c .before .before .before .before .before .before))
-
-look-of-requires : tie.Need-look-of-requires
-look-of-requires c κs =
-    let start = c .before .before .before .before .before .before in
-    let l = start .pre .1 .1 .0 in
-    let look = lookIn (start .args .t2) (start .args .i) in (
-      start .pre .0,
-      (
-        omega (arith, more start),
-        ends start,
-        rw (c .before .opening-after .ensures)
-            (openingBy-le (look .stays) (look .opened) (look .opening) (start .args .clock)
-            (start .pre .1 .0 .modest (start .args .i) l .opening-most) (start .pre .1 .0 .clock-most)),
-      ),
-    )
+add-look-of c =
+    let start = c .before .before .before .before .before .before .before in
+    omega (arith, start .pre .1)
 
 returns : tie.Need-returns
-returns c = (c .look-of .ensures .0 ∙ rw (c .before .before .opening-after .ensures), c .look-of .ensures .1)
+returns c =
+    let opened = c .before .before in
+    let ended = opened .before .before .before .before in
+    let start = ended .before .before in
+    c .look-of .ensures
+    ∙ looked (start .args .row) (start .args .t2) (start .args .clock) (start .args .i) (ended .end-of .result)
+    (opened .opening-after .result) (start .pre .1) (start .pre .2) (ended .end-of .ensures)
+    (opened .opening-after .ensures)
 
 pub look-after-spec : {M : Type 1} → statement M
 look-after-spec =
@@ -52,7 +55,7 @@ look-after-spec =
     (tie.spec
     (λ c. search needs)
     (λ c. search needs)
-    add-end
+    end-of-requires
     (λ c. search needs)
     (λ c. search needs)
     (λ c. search needs)
@@ -60,5 +63,5 @@ look-after-spec =
     (λ c κs. search needs)
     (λ c. search needs)
     add-look-of
-    look-of-requires
+    (λ c κs. search needs)
     returns)

@@ -9,9 +9,8 @@ use Rattle.load.specs.declared.Load.{Load}
 use Rattle.load.specs.Load.{lastMoment}
 use Rattle.bench.specs.declared.Bench.{Bench}
 use Rattle.bench.specs.inner.Boards.{Shows}
-use Rattle.bench.specs.inner.Choices.{BoardFits}
 use Rattle.bench.specs.inner.Moves.{finishedIn}
-use Rattle.bench.proofs.shown.CheckedLaws.{checked-rows, checked-fitting}
+use Rattle.bench.proofs.shown.CheckedLaws.{checked-rows}
 use Rattle.bench.proofs.running.RunningLaws.{Running, fresh-shaped, running-fresh, running-early}
 use Rattle.bench.proofs.running.RunningLaws.{running-done, running-on}
 use Rattle.bench.proofs.running.StartedRun.{Startable, running-startable, running-start}
@@ -59,44 +58,28 @@ module _ (c : tie.In-loop Inv-loop μ-loop) where
   early : c .before .loop .clock < lastMoment
   early = running-early load (start .pre) rows-most _ _ _ _ (c .before .loop .inv .1) work-left
 
-  fits : BoardFits (c .before .loop .board) (c .before .loop .clock) (load .rows)
-  fits =
-      record {
-        rows-most = rows-most;
-        clock-most = omega (arith, early);
-        wide = c .before .loop .inv .1 .shows .wide;
-        modest = c .before .loop .inv .1 .shows .modest;
-      }
-
 -- a row was found
 module _ (c : tie.Then1 Inv-loop μ-loop) where
   abbrev turn : tie.In-loop Inv-loop μ-loop
   turn = c .before .before
 
   goes : Startable (turn .before .loop .board) (turn .before .loop .clock) (turn .before .loop .count)
-      (c .before .search .result)
+      (c .before .chosen-row .result)
   goes =
       running-startable (load turn) (start turn .pre) (rows-most turn) _ _ _ _ (turn .before .loop .inv .1)
-      (work-left turn) _ (c .if1 .taken) (c .before .search .ensures)
-
-look-after-requires : tie.Need-look-after-requires Inv-loop μ-loop
-look-after-requires c κs =
-    let found = c .before .before .before in
-    let t = turn found in
-    let l = found .if1 .taken in
-    (checked-fitting (load t) (start t .pre) _ l, (fits t, (l, found .before .search .ensures .candidate l)))
+      (work-left turn) _ (c .if1 .taken) (c .before .chosen-row .ensures)
 
 loop-again : tie.Need-loop-again Inv-loop μ-loop
 loop-again c =
-    let looked = c .before .before .before in
+    let ended = c .before .before in
+    let looked = ended .before .before in
     let made = looked .before .before in
     let found = made .before .before in
     let t = turn found in (
       c .all-finished2 .ensures,
-      rw (c .before .with-look .ensures, made .slot-of .ensures)
+      rw (c .before .with-look .ensures, made .slot-of .ensures, ended .end-of .ensures)
           (running-start (load t) (start t .pre) (rows-most t) _ _ _ _ (t .before .loop .inv .1) (work-left t) _
-          (found .if1 .taken) (found .before .search .ensures) _ (looked .look-after .ensures .0)
-          (looked .look-after .ensures .1)),
+          (found .if1 .taken) (found .before .chosen-row .ensures) _ (looked .look-after .ensures)),
     )
 
 loop-again-2 : tie.Need-loop-again-2 Inv-loop μ-loop
@@ -105,7 +88,7 @@ loop-again-2 c =
     let t = left .before .before in (
       t .before .loop .inv .0,
       running-on (load t) (start t .pre) (rows-most t) _ _ _ _ (t .before .loop .inv .1) (work-left t) _ _
-          (left .if1 .left) (left .before .search .ensures) (c .next-moment .ensures),
+          (left .if1 .left) (left .before .chosen-row .ensures) (c .next-moment .ensures),
     )
 
 returns : tie.Need-returns Inv-loop μ-loop
@@ -127,7 +110,7 @@ run-checked-spec =
     (λ c κs. search needs)
     (λ c κs. checked-rows _ (c .before .before .before .pre))
     loop-holds
-    (λ c κs. fits c)
+    (λ c κs. search needs)
     (λ c. goes c .place)
     (λ c κs. (goes (c .before) .place, goes (c .before) .more))
     (λ c. omega (arith, goes (c .before .before) .room))
@@ -135,15 +118,23 @@ run-checked-spec =
     (λ c. omega (arith, goes (c .before .before) .room))
     (λ c. omega (arith, goes (c .before .before) .place))
     (λ c. goes (c .before .before) .place)
-    look-after-requires
+    (λ c κs. (
+      goes (c .before .before .before) .place,
+      goes (c .before .before .before) .more,
+      goes (c .before .before .before) .ends,
+    ))
     (λ c. omega (arith, goes (c .before .before .before .before) .place))
     (λ c. goes (c .before .before .before .before) .place)
-    (λ c. omega (arith, goes (c .before .before .before .before .before) .ends))
-    (λ c κs. goes (c .before .before .before .before .before) .place)
-    (λ c κs. rows-most (c .before .before .before .before .before .before .before .before))
-    (λ c. omega (arith, goes (c .before .before .before .before .before .before .before)))
+    (λ c κs. omega (arith, early (c .before .before .before .before .before .before .before)))
+    (λ c κs. search needs)
+    (λ c κs. rows-most (c .before .before .before .before .before .before .before .before .before))
+    (λ c. omega (
+      arith,
+      goes (c .before .before .before .before .before .before .before .before),
+      c .before .before .end-of .ensures,
+    ))
     loop-again
-    (λ c κs. (fits (c .before .before), early (c .before .before)))
+    (λ c κs. (rows-most (c .before .before), early (c .before .before)))
     (λ c. omega (arith, c .next-moment .ensures))
     loop-again-2
     returns)

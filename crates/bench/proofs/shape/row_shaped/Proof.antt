@@ -1,8 +1,8 @@
 -- `row_shaped` asks the steps, the end and the opening in turn.
 use borrow.Author.Needs.{needs}
 use borrow.Author.Tests.{le-leb, lt-leb}
-use Rattle.bench.specs.inner.Looks.{viewAlike, stateAlike}
-use Rattle.bench.proofs.shown.LookLaws.{isOpen-last}
+use Rattle.plan.specs.Looks.{viewAlike, stateAlike}
+use Rattle.plan.proofs.LookLaws.{isOpen-last}
 use Rattle.bench.proofs.shape.row_shaped.Statement.{statement}
 use Rattle.bench.proofs.shape.row_shaped.Tie as tie
 

@@ -10,7 +10,7 @@ use Rattle.load.specs.View.{viewOf}
 use Rattle.rules.specs.State.{rowShaped}
 use Rattle.bench.specs.Held.{stateOf}
 use Rattle.bench.proofs.shown.LookLaws.{shape-of-row}
-use Rattle.bench.proofs.shown.CheckedLaws.{checked-rows, checked-fitting}
+use Rattle.bench.proofs.shown.CheckedLaws.{checked-rows}
 use borrow.Author.Needs.{needs}
 use Rattle.bench.proofs.shape.rows_shaped.Statement.{statement}
 use Rattle.bench.proofs.shape.rows_shaped.Tie as tie
@@ -24,11 +24,6 @@ abbrev μ-loop : tie.MeasureT-loop
 
 loop-holds : tie.Need-loop-holds Inv-loop μ-loop
 loop-holds c = (search needs, checked-rows _ (c .pre), allTo-zero _)
-
-row-shaped-requires : tie.Need-row-shaped-requires Inv-loop μ-loop
-row-shaped-requires c κs =
-    let turn = c .before .before .before .before in
-    checked-fitting _ (turn .before .before .pre) (turn .before .loop .i) (turn .loop-test .taken)
 
 returns : tie.Need-returns Inv-loop μ-loop
 returns c =
@@ -72,7 +67,7 @@ rows-shaped-spec =
     (λ c. search needs)
     (λ c. search needs)
     (λ c. search needs)
-    row-shaped-requires
+    (λ c κs. search needs)
     returns
     (λ c. search needs)
     (λ c. search needs)

@@ -1,0 +1,233 @@
+-- The search by step number and row: what has been passed over, one row and one step number at a time; and the lowest
+-- unfinished step, which tells whether every row has finished all its steps of lower number.
+use Prim.Native.Nat.{ℕ, _+_, min, _≤_, _<_}
+use mathlib.Core.Bool.{Bool, true, false, _&&_, _||_}
+use mathlib.Core.Path.{_≡_, refl, ap, sym, _∙_, subst}
+use native.Mathlib.Decide.{ℕ-discrete, decLt}
+use native.Mathlib.Omega.{arith}
+use borrow.Author.Tests.{ltb-true, leb-true, le-leb, lt-leb}
+use lib.Dec.{leb, ltb}
+use Rattle.counting.specs.Sums.{allTo}
+use Rattle.counting.specs.Lists.{memberAt, numbersWhere}
+use Rattle.counting.specs.Sorting.{byKey}
+use Rattle.counting.specs.Searches.{Found, at, none}
+use Rattle.counting.proofs.tests.TestLaws.{and-left, and-right, allTo-true, true-false}
+use Rattle.counting.proofs.sorting.SortLaws.{Every-sorted}
+use Rattle.counting.proofs.lists.EveryLaws.{every-numbersWhere, found-at}
+use Rattle.counting.proofs.searches.SelectionLaws.{found-least, found-nothing}
+use Rattle.load.specs.Load.{mostRows, mostSteps, lastMoment}
+use Rattle.plan.specs.declared.Look.{Look}
+use Rattle.plan.specs.declared.Board.{Board}
+use Rattle.plan.specs.Boards.{lookIn}
+use Rattle.plan.specs.Choices.{belowIn, candidateBy, candidateIn, openingBy, passesIn, chosenIn, rowOr}
+use Rattle.plan.specs.Calls.{LowestStep, ChosenRow}
+
+-- a row that has finished all its steps lowers nothing
+pub lower-finished : (j lowest finished steps : ℕ) → steps ≤ finished
+    → (leb j lowest && leb (min j steps) finished) ≡ leb j lowest
+lower-finished j lowest finished steps h =
+    rw (le-leb (min j steps) finished (omega arith)) (go (leb j lowest))
+  where
+    go : (b : Bool) → (b && true) ≡ b
+    go true = refl
+    go false = refl
+
+-- nor does one that is not behind
+pub lower-ahead : (j lowest finished steps : ℕ) → lowest ≤ finished
+    → (leb j lowest && leb (min j steps) finished) ≡ leb j lowest
+lower-ahead j lowest finished steps h =
+    elim (decLt lowest j) [
+      | yes l ↦ rw (lt-leb j lowest l)
+      | no l ↦ rw (le-leb j lowest (omega arith), le-leb (min j steps) finished (omega arith))
+    ]
+
+-- one that is behind takes the place
+pub lower-behind : (j lowest finished steps : ℕ) → finished < steps → finished < lowest
+    → (leb j lowest && leb (min j steps) finished) ≡ leb j finished
+lower-behind j lowest finished steps h g =
+    elim (decLt finished j) [
+      | yes l ↦ rw (lt-leb j finished l, lt-leb (min j steps) finished (omega arith)) (go (leb j lowest))
+      | no l ↦
+          rw (
+            le-leb j finished (omega arith),
+            le-leb j lowest (omega arith),
+            le-leb (min j steps) finished (omega arith),
+          )
+    ]
+  where
+    go : (b : Bool) → (b && false) ≡ false
+    go true = refl
+    go false = refl
+
+-- an opening is by 1,000,000 where the clock is
+pub openingBy-le : (stays opened : Bool) (opening clock : ℕ) → clock ≤ lastMoment
+    → openingBy stays opened opening clock ≤ lastMoment
+openingBy-le true true opening clock h = omega arith
+openingBy-le true false opening clock h = h
+openingBy-le false opened opening clock h = omega arith
+
+-- the lowest unfinished step of at most 24 rows tells which steps are allowed
+pub lowest-tells : (board : Board) (rows r : ℕ) → rows ≤ mostRows → LowestStep board rows r → (j : ℕ) → j ≤ mostSteps
+    → allTo (belowIn board j) rows ≡ leb j r
+lowest-tells board rows r most lowest j l =
+    let e : min rows mostRows ≡ rows = omega arith in
+    subst (λ n. allTo (belowIn board j) n ≡ leb j r) e (lowest .below j l)
+
+-- what a candidate tells: its step is there, ready and allowed, and ends by 1,000,000
+module _ (look : Look) (clock : ℕ) (below : Bool) (e : candidateBy look clock below ≡ true) where
+  more : Bool
+  more = ltb (look .finished) (min (look .steps) mostSteps)
+
+  ready : Bool
+  ready = leb (look .release) clock
+
+  allowed : Bool
+  allowed = look .opened || below
+
+  ends : Bool
+  ends = leb (clock + look .cost) lastMoment
+
+  pub candidate-more : look .finished < min (look .steps) mostSteps
+  unfolding more ready allowed ends
+  candidate-more =
+      ltb-true (look .finished) (min (look .steps) mostSteps)
+      (and-left more ready (and-left (more && ready) allowed (and-left (more && ready && allowed) ends e)))
+
+  pub candidate-ready : look .release ≤ clock
+  unfolding more ready allowed ends
+  candidate-ready =
+      leb-true (look .release) clock
+      (and-right more ready (and-left (more && ready) allowed (and-left (more && ready && allowed) ends e)))
+
+  pub candidate-allowed : (look .opened || below) ≡ true
+  unfolding more ready allowed ends
+  candidate-allowed = and-right (more && ready) allowed (and-left (more && ready && allowed) ends e)
+
+  pub candidate-ends : clock + look .cost ≤ lastMoment
+  unfolding more ready allowed ends
+  candidate-ends = leb-true (clock + look .cost) lastMoment (and-right (more && ready && allowed) ends e)
+
+module _ (board : Board) (clock rows : ℕ) where
+  -- row k is passed over
+  abbrev pub PassedRow : ℕ → Type 0
+  PassedRow k = candidateIn board clock rows k ≡ true → passesIn board clock rows k ≡ false
+
+  -- every row whose next step has a lower number is passed over
+  abbrev pub PassedSteps : ℕ → Type 0
+  PassedSteps step = (k : ℕ) → k < rows → lookIn board k .finished < step → PassedRow k
+
+  -- and so are the first i rows with that number
+  abbrev pub PassedRows : ℕ → ℕ → Type 0
+  PassedRows step i = (k : ℕ) → k < i → lookIn board k .finished ≡ step → PassedRow k
+
+  pub passed-row : (step i : ℕ) → PassedRows step i → (lookIn board i .finished ≡ step → PassedRow i)
+      → PassedRows step (i + 1)
+  passed-row step i h here k l e =
+      elim (ℕ-discrete k i) [
+        | yes q ↦ subst PassedRow (sym q) (here (ap (λ x. lookIn board x .finished) (sym q) ∙ e))
+        | no q ↦ h k (omega arith) e
+      ]
+
+  pub passed-step : (step : ℕ) → PassedSteps step → PassedRows step rows → PassedSteps (step + 1)
+  passed-step step h g k l e =
+      elim (ℕ-discrete (lookIn board k .finished) step) [
+        | yes q ↦ g k l q
+        | no q ↦ h k l (omega arith)
+      ]
+
+  -- below the lowest unfinished step no row has a step left
+  pub passed-lowest : (lowest : ℕ) → ((j : ℕ) → j ≤ mostSteps → allTo (belowIn board j) rows ≡ leb j lowest)
+      → PassedSteps lowest
+  passed-lowest lowest known k l h c =
+      let look = lookIn board k in
+      let more : look .finished < min (look .steps) mostSteps = candidate-more look clock _ c in
+      let low : allTo (belowIn board (look .finished + 1)) rows ≡ true =
+      known (look .finished + 1) (omega arith) ∙ le-leb (look .finished + 1) lowest (omega arith) in
+      absurd
+      (omega (
+        arith,
+        leb-true (min (look .finished + 1) (look .steps)) (look .finished)
+            (allTo-true (belowIn board (look .finished + 1)) rows low k l),
+      ))
+
+  -- the first that is not passed over is chosen
+  pub first-chosen : (step i : ℕ) → i < rows → PassedSteps step → PassedRows step i
+      → lookIn board i .finished ≡ step → candidateIn board clock rows i ≡ true
+      → passesIn board clock rows i ≡ true → chosenIn board clock rows ≡ at i
+  unfolding chosenIn
+  first-chosen step i l h g e c p =
+      found-least (memberAt (board .finished)) (candidateIn board clock rows) (passesIn board clock rows) rows i l c p
+      (λ k b ck pk. record {
+        keys = elim (decLt (lookIn board k .finished) step) [
+          | yes q ↦ absurd (true-false (passesIn board clock rows k) pk (h k b q ck))
+          | no q ↦ omega arith
+        ];
+        ties = λ s. elim (decLt k i) [
+          | yes q ↦ absurd (true-false (passesIn board clock rows k) pk (g k q (sym s ∙ e) ck))
+          | no q ↦ omega arith
+        ];
+      })
+
+  -- no row is left once every step number is passed over
+  pub passed-all : PassedSteps mostSteps → (k : ℕ) → k < rows → PassedRow k
+  passed-all h k l c = h k l (omega (arith, candidate-more (lookIn board k) clock _ c)) c
+
+  -- nothing is chosen where every row is passed over
+  pub none-chosen : ((k : ℕ) → k < rows → PassedRow k) → chosenIn board clock rows ≡ none
+  unfolding chosenIn
+  none-chosen h =
+      found-nothing (memberAt (board .finished)) (candidateIn board clock rows) (passesIn board clock rows) rows h
+
+  -- a candidate, by the lowest unfinished step
+  pub candidate-is : (i step lowest : ℕ) → lookIn board i .finished ≡ step
+      → allTo (belowIn board step) rows ≡ leb step lowest
+      → candidateIn board clock rows i
+      ≡ (ltb step (min (lookIn board i .steps) mostSteps)
+      && leb (lookIn board i .release) clock
+      && (lookIn board i .opened || leb step lowest)
+      && leb (clock + lookIn board i .cost) lastMoment)
+  candidate-is i step lowest e h =
+      ap (λ f. candidateBy (record {
+        finished = f;
+        steps = lookIn board i .steps;
+        opening = lookIn board i .opening;
+        cost = lookIn board i .cost;
+        release = lookIn board i .release;
+        opened = lookIn board i .opened;
+        left = lookIn board i .left;
+        due = lookIn board i .due;
+        wait = lookIn board i .wait;
+        stays = lookIn board i .stays;
+        rest = lookIn board i .rest;
+        limit = lookIn board i .limit;
+      }) clock (allTo (belowIn board f) rows)) e
+      ∙ rw h
+
+  -- what is chosen is a row, and its next step a candidate
+  pub chosen-there : (i : ℕ) → chosenIn board clock rows ≡ at i → (i < rows) × (candidateIn board clock rows i ≡ true)
+  unfolding chosenIn
+  chosen-there i e =
+      found-at (λ k. (k < rows) × (candidateIn board clock rows k ≡ true)) (passesIn board clock rows) _ i
+      (Every-sorted (byKey (memberAt (board .finished))) _ (numbersWhere (candidateIn board clock rows) rows)
+      (every-numbersWhere _ (candidateIn board clock rows) rows (λ k l c. (l, c))))
+      e
+      .0
+
+  -- what the search gives
+  module _ (most : rows ≤ mostRows) (r : ℕ) (s : ChosenRow board clock rows r) where
+    given : r ≡ rowOr rows (chosenIn board clock rows)
+    given = let e : min rows mostRows ≡ rows = omega arith in subst (λ n. r ≡ rowOr n (chosenIn board clock n)) e s
+
+    pub search-row : r < rows → chosenIn board clock rows ≡ at r
+    search-row l = go (chosenIn board clock rows) refl
+      where
+        go : (f : Found) → chosenIn board clock rows ≡ f → chosenIn board clock rows ≡ at r
+        go (at i) e = e ∙ ap at (sym (given ∙ ap (rowOr rows) e))
+        go none e = absurd (omega (arith, given ∙ ap (rowOr rows) e))
+
+    pub search-none : rows ≤ r → chosenIn board clock rows ≡ none
+    search-none l = go (chosenIn board clock rows) refl
+      where
+        go : (f : Found) → chosenIn board clock rows ≡ f → chosenIn board clock rows ≡ none
+        go (at i) e = absurd (omega (arith, given ∙ ap (rowOr rows) e, chosen-there i e .0))
+        go none e = e

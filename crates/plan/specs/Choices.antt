@@ -1,0 +1,83 @@
+-- "Next steps that are ready, allowed, and candidates", "the first that passes the stacking plan":
+-- over a board, whose numbers may be any. To be read after Boards. Rests on D79.
+use Prim.Native.Nat.{ℕ, _+_, min}
+use mathlib.Core.Bool.{Bool, cond, _&&_, _||_}
+use mathlib.Core.List.{List}
+use lib.Dec.{leb, ltb}
+use lib.ListN.{set}
+use Rattle.counting.specs.Sums.{allTo}
+use Rattle.counting.specs.Lists.{memberAt, isMarked, numbersWhere}
+use Rattle.counting.specs.Searches.{Found, at, none, found}
+use Rattle.counting.specs.Sorting.{sorted, byKey}
+use Rattle.load.specs.Load.{mostSteps, lastMoment}
+use Rattle.rules.specs.Plan.{Jobs, planBy}
+use Rattle.plan.specs.declared.Look.{Look}
+use Rattle.plan.specs.declared.Board.{Board}
+use Rattle.plan.specs.Boards.{lookIn}
+
+-- row k has finished all its steps below place j
+abbrev pub belowIn : Board → ℕ → ℕ → Bool
+belowIn board j k = leb (min j (lookIn board k .steps)) (lookIn board k .finished)
+
+-- a row's next step is there, one of at most eight, ready and allowed, and would end by 1,000,000;
+-- the last argument says whether every row has finished all its steps of lower number
+abbrev pub candidateBy : Look → ℕ → Bool → Bool
+candidateBy look clock below =
+    ltb (look .finished) (min (look .steps) mostSteps)
+    && leb (look .release) clock
+    && (look .opened || below)
+    && leb (clock + look .cost) lastMoment
+
+-- row i's next step is a candidate
+abbrev pub candidateIn : Board → ℕ → ℕ → ℕ → Bool
+candidateIn board clock rows i =
+    candidateBy (lookIn board i) clock (allTo (belowIn board (lookIn board i .finished)) rows)
+
+-- a row's opening once its next step, started at a moment, is over: kept while its window stays
+-- open, one past 1,000,000 as 1,000,000; the moment where the step opens one, else 0
+abbrev pub openingBy : Bool → Bool → ℕ → ℕ → ℕ
+openingBy stays opened opening clock = cond stays (cond opened (min opening lastMoment) clock) 0
+
+-- row i's opening once its next step, started at a moment, is over
+abbrev pub openingIn : Board → ℕ → ℕ → ℕ
+openingIn board clock i =
+    openingBy (lookIn board i .stays) (lookIn board i .opened) (lookIn board i .opening) clock
+
+-- the open windows once row i's next step is over
+abbrev pub openAfter : Board → ℕ → List Bool
+openAfter board i = set (board .opened) i (lookIn board i .stays)
+
+-- what the plan asks of each row, held in lists: rows are ordered by the moment they are due
+abbrev pub jobsIn : List ℕ → List ℕ → List ℕ → Jobs
+jobsIn release left due =
+    record {
+      key = memberAt due;
+      release = memberAt release;
+      left = memberAt left;
+      due = memberAt due;
+    }
+
+-- what the plan asks of each row once row i's next step, started at a moment, is over
+abbrev pub jobsAfter : Board → ℕ → ℕ → Jobs
+jobsAfter board clock i =
+    jobsIn
+    (set (board .release) i (clock + lookIn board i .cost + lookIn board i .wait))
+    (set (board .left) i (lookIn board i .rest))
+    (set (board .due) i (openingIn board clock i + lookIn board i .limit))
+
+-- the plan at the end of row i's next step passes: the row is seen as it will be then
+unfoldable pub passesIn : Board → ℕ → ℕ → ℕ → Bool
+passesIn board clock rows i =
+    planBy (isMarked (openAfter board i)) (jobsAfter board clock i) rows
+    (clock + lookIn board i .cost)
+
+-- the first candidate that passes, by step number, then row
+unfoldable pub chosenIn : Board → ℕ → ℕ → Found
+chosenIn board clock rows =
+    found (passesIn board clock rows)
+    (sorted (byKey (memberAt (board .finished))) (numbersWhere (candidateIn board clock rows) rows))
+
+-- the row that was found, and another number where none was
+abbrev pub rowOr : ℕ → Found → ℕ
+rowOr other (at i) = i
+rowOr other none = other
