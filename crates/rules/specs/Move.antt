@@ -83,10 +83,6 @@ startOrIdleBy long L s (at i) =
     handedBack L (started L s i (long i (s .finished i))) (Start (nextSlot s i))
 startOrIdleBy long L s none = handedBack L (ticked s) Idle
 
--- each step at full cost
-abbrev pub startOrIdle : View → State → Found → Moved
-startOrIdle L s choice = startOrIdleBy (L .cost) L s choice
-
 -- one move of a bench whose state has the load's shape
 unfoldable pub shapedMoveBy : (ℕ → ℕ → ℕ) → View → State → Moved
 shapedMoveBy long L s =

@@ -65,4 +65,4 @@ stack L s = stackBy (isOpen L s) (jobs L s .key) (L .rows)
 
 -- the plan that begins at moment t passes
 abbrev pub planPasses : View → State → ℕ → Bool
-planPasses L s t = planBy (isOpen L s) (jobs L s) (L .rows) t
+planPasses L s t = inTimeBy (jobs L s) t (stack L s)

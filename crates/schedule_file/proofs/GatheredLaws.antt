@@ -21,9 +21,19 @@ use Rattle.refusals.proofs.GivenLaws.{refused-alike}
 use Rattle.rules.specs.declared.Slot.{Slot}
 use Rattle.rules.specs.Slots.{mostSlots}
 use Rattle.schedule_file.specs.declared.write.Gathered.{Gathered}
-use Rattle.schedule_file.specs.ScheduleFile.{headerSize, slotSize, slotPlace, slotsFault, slotRecord}
+use Rattle.schedule_file.specs.ScheduleFile.{slotsFault, slotRecord}
 use Rattle.schedule_file.specs.ScheduleFile.{scheduleBytes}
-use Rattle.schedule_file.specs.inner.Gathered.{mostBytes, lastPlace, counts, headBytes, headed, withSlot}
+use Rattle.schedule_file.specs.inner.Gathered.{
+  mostBytes,
+  lastPlace,
+  counts,
+  headBytes,
+  headed,
+  withSlot,
+  headerSize,
+  slotSize,
+  slotPlace,
+}
 use Rattle.schedule_file.specs.inner.Gathered.{gatheredOf, gathered}
 use Rattle.schedule_file.specs.Calls.{WriteSchedule}
 

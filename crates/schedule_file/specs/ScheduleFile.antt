@@ -1,7 +1,7 @@
 -- "Load file", the schedule file: "mark 53 43 with a slot count (2 bytes), then per slot mark 53
 -- 4C, row (1), step (1), start (4)"; "the schedule's takes slots, their numbers unchecked, with 3
 -- for more than 192".
-use Prim.Native.Nat.{ℕ, _+_, _*_}
+use Prim.Native.Nat.{ℕ}
 use mathlib.Core.List.{List, [], _∷_, _++_}
 use lib.Dec.{ltb}
 use lib.ListN.{length}
@@ -12,18 +12,6 @@ use Rattle.refusals.specs.declared.Checked.{Checked}
 use Rattle.refusals.specs.FirstMet.{firstMet}
 use Rattle.rules.specs.declared.Slot.{Slot}
 use Rattle.rules.specs.Slots.{mostSlots}
-
--- how many bytes the header has, its mark counted
-abbrev pub headerSize : ℕ
-headerSize = 4
-
--- how many bytes the record of a slot has, its mark counted
-abbrev pub slotSize : ℕ
-slotSize = 8
-
--- the place at which the record of slot k stands, and the file of k slots ends
-abbrev pub slotPlace : ℕ → ℕ
-slotPlace k = headerSize + slotSize * k
 
 -- the record of a slot
 abbrev pub slotRecord : Slot → List ℕ

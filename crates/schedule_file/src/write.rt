@@ -20,8 +20,7 @@ ghost use Rattle.refusals.specs.declared.Refusal.the-variants.{OutOfRange};
 ghost use Rattle.refusals.specs.FirstMet.{firstMet};
 ghost use Rattle.refusals.specs.Given.{Given};
 ghost use Rattle.rules.specs.Slots.{noSlot, mostSlots};
-ghost use Rattle.schedule_file.specs.ScheduleFile.{slotPlace};
-ghost use Rattle.schedule_file.specs.inner.Gathered.{headed, withSlot, gatheredOf};
+ghost use Rattle.schedule_file.specs.inner.Gathered.{headed, withSlot, gatheredOf, slotPlace};
 ghost use Rattle.schedule_file.specs.Calls.{WriteSchedule, WriteArray};
 
 // The marks.

@@ -24,7 +24,7 @@ use Rattle.rules.specs.declared.Outcome.{Outcome}
 use Rattle.rules.specs.declared.Outcome.the-variants.{Start, Idle, Done}
 use Rattle.rules.specs.State.{State, isOpen, shaped}
 use Rattle.rules.specs.Lamps.{lampWord, lampCount}
-use Rattle.rules.specs.Move.{startedFull, ticked, allFinished, chosen, nextSlot, startOrIdle, move}
+use Rattle.rules.specs.Move.{startedFull, ticked, allFinished, chosen, nextSlot, startOrIdleBy, move}
 use Rattle.rules.proofs.moves.MoveLaws.{move-unshaped, move-done, move-full, move-goes}
 use Rattle.bench.specs.declared.Bench.{Bench}
 use Rattle.plan.specs.declared.Board.{Board}
@@ -116,7 +116,7 @@ module _ (load : Load) (bench : Bench) (board : Board) (shows : Shows load bench
     idle-move : chosen L s ≡ none
         → handedOn bench (move L s) ≡ handedWith (benchAt bench (bench .clock + 1)) Idle (board .opened) (load .rows)
     idle-move q =
-        ap (handedOn bench) (move-goes (L .cost) L s e d h ∙ ap (startOrIdle L s) q)
+        ap (handedOn bench) (move-goes (L .cost) L s e d h ∙ ap (startOrIdleBy (L .cost) L s) q)
         ∙ movedBy-ext Idle (benchOf (ticked s)) (benchAt bench (bench .clock + 1)) _ _ _ _ (sym (ticked-is bench size))
         (word-is L (ticked s) (load .rows) (rows-are load bench board shows) (board .opened) open-ticked)
         (count-is L (ticked s) (load .rows) (rows-are load bench board shows) (board .opened) open-ticked)
@@ -125,7 +125,7 @@ module _ (load : Load) (bench : Bench) (board : Board) (shows : Shows load bench
         → handedOn bench (move L s) ≡ startedIn bench board (load .rows) i
     unfolding startedIn
     start-move i l q =
-        ap (handedOn bench) (move-goes (L .cost) L s e d h ∙ ap (startOrIdle L s) q)
+        ap (handedOn bench) (move-goes (L .cost) L s e d h ∙ ap (startOrIdleBy (L .cost) L s) q)
         ∙ movedBy-ext (Start (nextSlot s i)) (benchOf after)
         (benchStarted bench i (lookIn board i .cost) opening) _ _ _ _ bench-is
         (word-is L after (load .rows) (rows-are load bench board shows) lit lit-are)

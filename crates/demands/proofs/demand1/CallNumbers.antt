@@ -58,7 +58,7 @@ use Rattle.rules.specs.declared.Outcome.{Outcome}
 use Rattle.rules.specs.declared.Outcome.the-variants.{Refused}
 use Rattle.rules.specs.Outcomes.{toldBy}
 use Rattle.rules.specs.State.{State}
-use Rattle.rules.specs.Move.{startOrIdle, chosen, move}
+use Rattle.rules.specs.Move.{startOrIdleBy, chosen, move}
 use Rattle.rules.specs.Slots.{slotAt}
 use Rattle.rules.specs.Check.{slotTests, checkSlots, checkSchedule}
 use Rattle.rules.proofs.moves.MoveLaws.{Way, unshaped, finished, full, goes, move-way}
@@ -161,7 +161,8 @@ schedule-gives load slots =
 abbrev numberIn : Outcome → ℕ
 numberIn outcome = toldBy outcome .number
 
-choice-gives : (L : View) (s : State) (choice : Found) → OneOf ofMove (numberIn (startOrIdle L s choice .outcome))
+choice-gives : (L : View) (s : State) (choice : Found)
+    → OneOf ofMove (numberIn (startOrIdleBy (L .cost) L s choice .outcome))
 unfolding anyIn
 choice-gives L s (at i) = refl
 choice-gives L s none = refl

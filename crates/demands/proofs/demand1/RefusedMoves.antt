@@ -14,7 +14,7 @@ use Rattle.load.specs.Check.{checkLoad}
 use Rattle.rules.specs.declared.Outcome.{Outcome}
 use Rattle.rules.specs.declared.Outcome.the-variants.{Start, Idle, Done, Refused}
 use Rattle.rules.specs.State.{State}
-use Rattle.rules.specs.Move.{Moved as Move, refusedMove, startOrIdle, chosen, move}
+use Rattle.rules.specs.Move.{Moved as Move, refusedMove, startOrIdleBy, chosen, move}
 use Rattle.rules.proofs.moves.MoveLaws.{Way, unshaped, finished, full, goes, move-way}
 use Rattle.bench.specs.declared.Bench.{Bench}
 use Rattle.bench.specs.declared.Moved.{Moved}
@@ -35,7 +35,7 @@ Alone s m = (refusal : Refusal) → m .outcome ≡ Refused refusal → m ≡ ref
 refused-alone : (s : State) (own : Refusal) → Alone s (refusedMove s own)
 refused-alone s own refusal e = ap (refusedMove s) (ap refusalIn e)
 
-choice-alone : (L : View) (s : State) (choice : Found) → Alone s (startOrIdle L s choice)
+choice-alone : (L : View) (s : State) (choice : Found) → Alone s (startOrIdleBy (L .cost) L s choice)
 choice-alone L s (at i) refusal e = absurd (let z : _≡_ {A = ℕ} 0 1 = cc in omega arith)
 choice-alone L s none refusal e = absurd (let z : _≡_ {A = ℕ} 0 1 = cc in omega arith)
 

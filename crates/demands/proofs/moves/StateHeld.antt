@@ -6,7 +6,7 @@ use Rattle.counting.specs.Searches.{Found, at, none}
 use Rattle.load.specs.Load.{mostRows}
 use Rattle.load.specs.View.{View}
 use Rattle.rules.specs.State.{State}
-use Rattle.rules.specs.Move.{started, ticked, startOrIdle, chosen, move}
+use Rattle.rules.specs.Move.{started, ticked, startOrIdleBy, chosen, move}
 use Rattle.rules.proofs.moves.MoveLaws.{
   started-finished-other,
   started-end-other,
@@ -37,7 +37,7 @@ module _ (L : View) (s : State) (few : L .rows ≤ mostRows) (ends : Ends s) whe
         no-opening = started-opening-other L s k long i apart ∙ ends i l .no-opening;
       }
 
-  choice-ends : (choice : Found) → chosen L s ≡ choice → Ends (startOrIdle L s choice .then)
+  choice-ends : (choice : Found) → chosen L s ≡ choice → Ends (startOrIdleBy (L .cost) L s choice .then)
   choice-ends (at k) e = started-ends k (L .cost k (s .finished k)) (chosen-at L s k e .there)
   choice-ends none e = ticked-ends
 

@@ -16,7 +16,7 @@ use Rattle.rules.specs.declared.Outcome.the-variants.{Refused}
 use Rattle.rules.specs.State.{State, shaped}
 use Rattle.rules.specs.Shape.{Shape, StepLeft, ClockSpent}
 use Rattle.rules.specs.Outcomes.{toldBy}
-use Rattle.rules.specs.Move.{Moved, startOrIdle, allFinished, chosen, move}
+use Rattle.rules.specs.Move.{Moved, startOrIdleBy, allFinished, chosen, move}
 use Rattle.rules.proofs.moves.MoveLaws.{
   move-unshaped,
   move-full,
@@ -51,7 +51,7 @@ module _ (L : View) (s : State) where
         left = leb-false (L .steps (f .place)) (s .finished (f .place)) (f .fails);
       }
 
-  choice-number : (choice : Found) → numberIn (startOrIdle L s choice .outcome) ≡ 0
+  choice-number : (choice : Found) → numberIn (startOrIdleBy (L .cost) L s choice .outcome) ≡ 0
   choice-number (at i) = refl
   choice-number none = refl
 

@@ -1,6 +1,6 @@
 -- What the code of the writing call gathers, slot by slot. Nothing here is to be believed:
 -- write_schedule's own contract cites scheduleBytes.
-use Prim.Native.Nat.{ℕ, _+_, _-_, _%_}
+use Prim.Native.Nat.{ℕ, _+_, _-_, _*_, _%_}
 use mathlib.Core.Bool.{cond}
 use mathlib.Core.List.{List, _∷_, foldl}
 use lib.Dec.{ltb}
@@ -10,7 +10,19 @@ use Rattle.words.specs.LittleEndian.{littleEndian}
 use Rattle.rules.specs.declared.Slot.{Slot}
 use Rattle.rules.specs.Slots.{mostSlots}
 use Rattle.schedule_file.specs.declared.write.Gathered.{Gathered}
-use Rattle.schedule_file.specs.ScheduleFile.{headerSize, slotSize, slotPlace, slotRecord}
+use Rattle.schedule_file.specs.ScheduleFile.{slotRecord}
+
+-- how many bytes the header has, its mark counted
+abbrev pub headerSize : ℕ
+headerSize = 4
+
+-- how many bytes the record of a slot has, its mark counted
+abbrev pub slotSize : ℕ
+slotSize = 8
+
+-- the place at which the record of slot k stands, and the file of k slots ends
+abbrev pub slotPlace : ℕ → ℕ
+slotPlace k = headerSize + slotSize * k
 
 -- how many bytes the longest file has
 abbrev pub mostBytes : ℕ

@@ -6,8 +6,7 @@ use lib.Seq.{length-take-le}
 use borrow.Author.Needs.{needs}
 use borrow.Author.Tests.{lt-ltb, le-ltb}
 use Rattle.words.proofs.OverwriteLaws.{sets-front}
-use Rattle.schedule_file.specs.ScheduleFile.{slotPlace}
-use Rattle.schedule_file.specs.inner.Gathered.{mostBytes}
+use Rattle.schedule_file.specs.inner.Gathered.{mostBytes, slotPlace}
 use Rattle.schedule_file.proofs.write.flush.Statement.{statement}
 use Rattle.schedule_file.proofs.write.flush.Tie as tie
 
