@@ -4,4 +4,6 @@ pub mod Looks
 pub mod Boards
 pub mod Choices
 pub mod Calls
+pub mod WorkedLooks
+pub mod WorkedChoices
 pub mod inner

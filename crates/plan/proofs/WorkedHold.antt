@@ -1,0 +1,40 @@
+-- The worked cases of what is looked up and chosen hold, by computing.
+use mathlib.Core.Path.{refl}
+use Rattle.rules.proofs.worked.WorkedComputing.{computing}
+use Rattle.plan.specs.Looks.{lookOf}
+use Rattle.plan.specs.Boards.{boardWith, zeroBoard}
+use Rattle.plan.specs.Choices.{passesIn, chosenIn}
+use Rattle.plan.specs.WorkedLooks.{WorkedLooks}
+use Rattle.plan.specs.WorkedChoices.{WorkedChoices}
+
+pub looks-hold : WorkedLooks
+unfolding computing lookOf
+looks-hold =
+    record {
+      shut-before = refl;
+      open-inside = refl;
+      shut-behind = refl;
+      looked-before = refl;
+      looked-inside = refl;
+      looked-past = refl;
+      opening-kept = refl;
+      opening-new = refl;
+      opening-none = refl;
+      opening-past = refl;
+    }
+
+pub choices-hold : WorkedChoices
+unfolding computing boardWith zeroBoard passesIn chosenIn
+choices-hold =
+    record {
+      lower-step-first = refl;
+      lower-row-first = refl;
+      not-ready = refl;
+      embedded-later = refl;
+      refused-by-plan = refl;
+      ends-in-time = refl;
+      ends-too-late = refl;
+      none-there = refl;
+      rows-past = refl;
+      steps-past = refl;
+    }

@@ -1,0 +1,70 @@
+-- "Candidates are tried by step number, then row; the first that passes the stacking plan starts",
+-- worked over boards of two rows. The answers come from document 01 by hand. To be read after
+-- Calls. Rests on D79.
+use Prim.Native.Nat.{ℕ}
+use mathlib.Core.Bool.{true, false}
+use Rattle.plan.specs.declared.Look.{Look}
+use Rattle.plan.specs.declared.Board.{Board}
+use Rattle.plan.specs.Boards.{boardWith, zeroBoard}
+use Rattle.plan.specs.Calls.{ChosenRow}
+
+-- a look of a row with no window ahead: steps finished and in all, cost and release
+abbrev pub free : ℕ → ℕ → ℕ → ℕ → Look
+free finished steps cost release =
+    record {
+      finished = finished;
+      steps = steps;
+      opening = 0;
+      cost = cost;
+      release = release;
+      opened = false;
+      left = 0;
+      due = 0;
+      wait = 0;
+      stays = false;
+      rest = 0;
+      limit = 0;
+    }
+
+-- a look of a row whose second and last step of cost 3, from moment 5 on, ends its window
+abbrev pub inside : ℕ → Look
+inside due =
+    record {
+      finished = 1;
+      steps = 2;
+      opening = 1;
+      cost = 3;
+      release = 5;
+      opened = true;
+      left = 3;
+      due = due;
+      wait = 0;
+      stays = false;
+      rest = 0;
+      limit = 0;
+    }
+
+-- a board of two rows
+abbrev pub boardOf : Look → Look → Board
+boardOf first second = boardWith (boardWith zeroBoard 0 first) 1 second
+
+-- which row is chosen
+pub record WorkedChoices : Type 0 where
+  -- both are ready, and row 1's second step waits for row 2's first
+  pub lower-step-first : ChosenRow (boardOf (free 1 2 3 5) (free 0 1 2 0)) 5 2 1
+  -- of two first steps the row decides
+  pub lower-row-first : ChosenRow (boardOf (free 0 1 3 5) (free 0 1 2 0)) 5 2 0
+  -- row 1 is ready at 5 and not before, and then row 2 is tried alone
+  pub not-ready : ChosenRow (boardOf (free 0 1 3 5) (free 0 1 2 0)) 4 2 1
+  -- a first step is tried before an embedded one, and passes: 5 + 2, then 3 more, is due
+  pub embedded-later : ChosenRow (boardOf (inside 10) (free 0 1 2 0)) 5 2 1
+  -- one moment less, and it does not pass: the embedded step is chosen
+  pub refused-by-plan : ChosenRow (boardOf (inside 9) (free 0 1 2 0)) 5 2 0
+  -- a step that would end past 1,000,000 is no candidate
+  pub ends-in-time : ChosenRow (boardOf (free 0 1 3 5) (free 1 1 0 0)) 999997 2 0
+  pub ends-too-late : ChosenRow (boardOf (free 0 1 3 5) (free 1 1 0 0)) 999998 2 2
+  -- where no row is chosen it is the number of rows, at most 24
+  pub none-there : ChosenRow zeroBoard 0 2 2
+  pub rows-past : ChosenRow zeroBoard 0 25 24
+  -- a row past its eighth step has no next one, whatever number of steps it tells
+  pub steps-past : ChosenRow (boardOf (free 8 9 1 0) (free 1 1 0 0)) 0 2 2
