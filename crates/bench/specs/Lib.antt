@@ -1,4 +1,4 @@
--- The bench in memory: one move of it, and what the code looks up, plans and searches.
+-- The bench in memory: one move of it, its run, and what the parts of its code give.
 pub mod Held
 pub mod Runs
 pub mod Calls

@@ -21,7 +21,7 @@ ghost use mathlib.Core.Bool.{true};
 ghost use Prim.Native.Nat.{ℕ, _≤_, _<_};
 ghost use Rattle.counting.specs.Lists.{memberAt};
 ghost use Rattle.refusals.specs.declared.Checked.the-variants.{Good};
-ghost use Rattle.load.specs.Load.{lastMoment};
+ghost use Rattle.load.specs.Load.{mostRows, mostSteps, lastMoment};
 ghost use Rattle.load.specs.Check.{checkLoad};
 ghost use Rattle.load.specs.View.{viewOf};
 ghost use Rattle.rules.specs.State.{shaped};
@@ -39,7 +39,7 @@ ghost use Rattle.bench.specs.Calls.{NextMove};
 
 // Says whether all steps are finished.
 pub fn all_finished(board: Board, rows: usize) -> bool
-    requires { ⌜ rows ≤ 24 ⌝ }
+    requires { ⌜ rows ≤ mostRows ⌝ }
     ensures { λ r. ⌜ r ≡ finishedIn board rows ⌝ }
 {
     for i in 0..rows {
@@ -64,7 +64,7 @@ fn refused(bench: Bench, refusal: Refusal) -> Moved
 
 // Hands a bench back with the lamps of the rows that have an open window, and their count.
 fn handed(bench: Bench, outcome: Outcome, opened: [bool; MOST_ROWS], rows: usize) -> Moved
-    requires { ⌜ rows ≤ 24 ⌝ }
+    requires { ⌜ rows ≤ mostRows ⌝ }
     ensures { λ r. ⌜ r ≡ handedWith bench outcome opened rows ⌝ }
 {
     let lamps = lamp_word(opened, rows);
@@ -78,7 +78,7 @@ fn handed(bench: Bench, outcome: Outcome, opened: [bool; MOST_ROWS], rows: usize
 
 // Done changes nothing.
 fn done(bench: Bench, board: Board, rows: usize) -> Moved
-    requires { ⌜ rows ≤ 24 ⌝ }
+    requires { ⌜ rows ≤ mostRows ⌝ }
     ensures { λ r. ⌜ r ≡ handedWith bench Outcome.Done (board .opened) rows ⌝ }
 {
     let opened = board.opened;
@@ -88,7 +88,7 @@ fn done(bench: Bench, board: Board, rows: usize) -> Moved
 // Gives the next step of row i, which has finished so many, as a slot that starts at a moment: rows
 // and steps are shown counted from 1.
 pub fn slot_of(i: usize, finished: u8, moment: u32) -> Slot
-    requires { ⌜ (i < 24) × (finished < 8) ⌝ }
+    requires { ⌜ (i < mostRows) × (finished < mostSteps) ⌝ }
     ensures { λ r. ⌜ r ≡ slotOf i finished moment ⌝ }
 {
     Slot {
@@ -100,8 +100,8 @@ pub fn slot_of(i: usize, finished: u8, moment: u32) -> Slot
 
 // Starts a row's next step.
 fn started(bench: Bench, board: Board, rows: usize, i: usize) -> Moved
-    requires { ⌜ (rows ≤ 24) × (bench .clock ≤ lastMoment) ⌝ }
-    requires { ⌜ (i < rows) × (lookIn board i .finished < 8)
+    requires { ⌜ (rows ≤ mostRows) × (bench .clock ≤ lastMoment) ⌝ }
+    requires { ⌜ (i < rows) × (lookIn board i .finished < mostSteps)
         × (memberAt (bench .finished) i ≡ lookIn board i .finished) ⌝ }
     ensures { λ r. ⌜ r ≡ startedIn bench board rows i ⌝ }
 {
@@ -116,7 +116,7 @@ fn started(bench: Bench, board: Board, rows: usize, i: usize) -> Moved
 
 // Starts the first candidate that passes, or moves the clock one tick.
 fn start_or_idle(bench: Bench, board: Board, rows: usize) -> Moved
-    requires { ⌜ (rows ≤ 24) × (bench .clock ≤ lastMoment) ⌝ }
+    requires { ⌜ (rows ≤ mostRows) × (bench .clock ≤ lastMoment) ⌝ }
     requires { ⌜ ((i : ℕ) → i < rows → memberAt (bench .finished) i ≡ lookIn board i .finished) ⌝ }
     ensures { λ r. ⌜ Stepped bench board rows r ⌝ }
 {

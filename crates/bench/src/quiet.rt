@@ -6,7 +6,7 @@ ghost use mathlib.Core.Path.{_≡_};
 ghost use mathlib.Core.Bool.{_&&_, _||_, cond, not};
 ghost use Prim.Native.Nat.{_+_, min, _≤_, _<_};
 ghost use lib.Dec.{leb, ltb};
-ghost use Rattle.load.specs.Load.{lastMoment};
+ghost use Rattle.load.specs.Load.{mostRows, lastMoment};
 ghost use Rattle.bench.specs.inner.Running.{QuietTo, crowdedIn};
 
 // Gives the moment by which a window that opens now is due.
@@ -42,7 +42,7 @@ fn is_short(limit: u16, cost: u16, rest: u32, work: u64) -> bool
 // Says whether row i's next step opens a window, and those that are due before it leave too little
 // of its limit: the plan refuses it now, and at any later moment until something starts.
 fn is_crowded(board: Board, clock: u32, rows: usize, i: usize) -> bool
-    requires { ⌜ (rows ≤ 24) × (i < rows) ⌝ }
+    requires { ⌜ (rows ≤ mostRows) × (i < rows) ⌝ }
     ensures { λ r. ⌜ r ≡ crowdedIn board clock rows i ⌝ }
 {
     if board.opened[i] {
@@ -99,7 +99,7 @@ fn sooner_release(
 // Gives the next release of an allowed next step, 1,000,000 at the latest; one tick on where such a
 // step is ready already, and not crowded: what the plan refuses now, it may let pass then.
 pub fn next_moment(board: Board, clock: u32, rows: usize) -> u32
-    requires { ⌜ (rows ≤ 24) × (clock < lastMoment) ⌝ }
+    requires { ⌜ (rows ≤ mostRows) × (clock < lastMoment) ⌝ }
     ensures { λ r. ⌜ QuietTo board clock rows r ⌝ }
 {
     let lowest = lowest_step(board, rows);

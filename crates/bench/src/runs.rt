@@ -25,7 +25,7 @@ ghost use mathlib.Core.List.{[]};
 ghost use Prim.Native.Nat.{_+_, _≤_, _<_};
 ghost use lib.ListN.{replicate};
 ghost use Rattle.refusals.specs.declared.Checked.the-variants.{Good, Refused};
-ghost use Rattle.load.specs.Load.{lastMoment};
+ghost use Rattle.load.specs.Load.{mostRows, mostSteps, lastMoment};
 ghost use Rattle.load.specs.Check.{checkLoad};
 ghost use Rattle.load.specs.View.{viewOf};
 ghost use Rattle.rules.specs.Slots.{noSlot, slotPlaces};
@@ -37,7 +37,7 @@ ghost use Rattle.bench.specs.Calls.{Runs};
 
 // Looks row i up as it will be once its next step, a candidate started at the clock, is over.
 fn look_after(row: Row, board: Board, clock: u32, i: usize) -> Look
-    requires { ⌜ (i < 24) × (lookIn board i .finished < 8)
+    requires { ⌜ (i < mostRows) × (lookIn board i .finished < mostSteps)
         × (clock + lookIn board i .cost ≤ lastMoment) ⌝ }
     ensures { λ r. ⌜ r ≡ lookAfter row board clock i ⌝ }
 {

@@ -4,7 +4,7 @@ use load::MOST_ROWS;
 ghost use mathlib.Core.Path.{_≡_};
 ghost use Prim.Native.Nat.{_+_, _≤_, _<_};
 ghost use Rattle.counting.specs.Lists.{memberAt};
-ghost use Rattle.load.specs.Load.{lastMoment};
+ghost use Rattle.load.specs.Load.{mostRows, lastMoment};
 ghost use Rattle.bench.specs.Held.{benchAt};
 ghost use Rattle.bench.specs.inner.Moves.{benchStarted};
 ghost use Rattle.bench.specs.Calls.{Fresh};
@@ -33,7 +33,8 @@ impl Bench {
     // Starts a row's next step, which takes so long, and sets the row's opening: the clock and the
     // row's end move to the end of the step.
     pub(crate) fn start(mut self, i: usize, long: u16, opening: u32) -> Bench
-        requires { ⌜ (i < 24) × (self .clock ≤ lastMoment) × (memberAt (self .finished) i < 255) ⌝ }
+        requires { ⌜ (i < mostRows) × (self .clock ≤ lastMoment)
+            × (memberAt (self .finished) i < 255) ⌝ }
         ensures { λ r. ⌜ r ≡ benchStarted self i long opening ⌝ }
     {
         let end = end_of(self.clock, long);

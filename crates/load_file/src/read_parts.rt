@@ -19,6 +19,7 @@ ghost use mathlib.Core.Path.{_≡_};
 ghost use Prim.Native.Nat.{_≤_};
 ghost use Rattle.refusals.specs.FirstMet.{firstMet};
 ghost use Rattle.load.specs.Load.{mostSteps, mostWindows, zeroRow};
+ghost use Rattle.load_records.specs.Records.{rowKind};
 ghost use Rattle.load_file.specs.Places.{
   stepIn,
   windowIn,
@@ -32,7 +33,7 @@ ghost use Rattle.load_file.specs.inner.ReadingSteps.{kindOf, stepsFrom, 
 
 // Checks a record that is due at a place: that the file holds it whole, and then its mark.
 pub fn check_due(bytes: &[u8], at: usize, mark: [u8; 2], size: usize) -> Checked
-    requires { ⌜ (at ≤ 8192) × (size ≤ 20) ⌝ }
+    requires { ⌜ (at ≤ 8192) × (size ≤ rowKind .size) ⌝ }
     ensures { λ r. ⌜ r ≡ firstMet (dueTests (kindOf mark size) (now (bytes .entry)) at) ⌝ }
 {
     if bytes.len() < at + size {

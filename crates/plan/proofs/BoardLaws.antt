@@ -9,7 +9,8 @@ use lib.ListN.{length-set}
 use lib.Seq.{set-out, getD-set-same, getD-set-other}
 use Rattle.plan.specs.declared.Look.{Look}
 use Rattle.plan.specs.declared.Board.{Board}
-use Rattle.plan.specs.Boards.{lookIn, boardWith, zeroBoard, Wide}
+use Rattle.plan.specs.Boards.{lookIn, boardWith, zeroBoard}
+use Rattle.plan.specs.inner.Widths.{Wide}
 
 module _ (board : Board) (i : ℕ) (look : Look) where
   pub boardWith-other : (k : ℕ) → k ≢ i → lookIn (boardWith board i look) k ≡ lookIn board k

@@ -21,12 +21,14 @@ looks-hold =
       opening-new = refl;
       opening-none = refl;
       opening-past = refl;
+      clock-past = refl;
     }
 
 pub choices-hold : WorkedChoices
 unfolding computing boardWith zeroBoard passesIn chosenIn
 choices-hold =
     record {
+      not-put = refl;
       lower-step-first = refl;
       lower-row-first = refl;
       not-ready = refl;

@@ -2,8 +2,7 @@
 -- the plan read plain lists. To be read after Looks.
 use Prim.Native.Nat.{ℕ}
 use mathlib.Core.Bool.{false}
-use mathlib.Core.Path.{_≡_}
-use lib.ListN.{length, set, replicate}
+use lib.ListN.{set, replicate}
 use Rattle.counting.specs.Lists.{memberAt, isMarked}
 use Rattle.load.specs.Load.{mostRows}
 use Rattle.plan.specs.declared.Look.{Look}
@@ -62,18 +61,3 @@ zeroBoard =
       rest = replicate mostRows 0;
       limit = replicate mostRows 0;
     }
-
--- a board as it is held in memory, 24 places to a list: what its type alone says
-pub record Wide (board : Board) : Type 0 where
-  pub finished-length : length (board .finished) ≡ 24
-  pub steps-length : length (board .steps) ≡ 24
-  pub opening-length : length (board .opening) ≡ 24
-  pub cost-length : length (board .cost) ≡ 24
-  pub release-length : length (board .release) ≡ 24
-  pub opened-length : length (board .opened) ≡ 24
-  pub left-length : length (board .left) ≡ 24
-  pub due-length : length (board .due) ≡ 24
-  pub wait-length : length (board .wait) ≡ 24
-  pub stays-length : length (board .stays) ≡ 24
-  pub rest-length : length (board .rest) ≡ 24
-  pub limit-length : length (board .limit) ≡ 24

@@ -1,6 +1,6 @@
 -- What each public call's contract says: one relation a call, over what it takes and what it gives.
--- Numbers may be any: rows past 24, steps past 8, windows past 4 and moments past 1,000,000 count
--- as those. To be read after Choices. Rests on D79.
+-- Numbers may be any: a number of rows past 24 is 24, `look_of` takes steps and moments past the
+-- last as the last, and all else is taken as it is. To be read after Choices. Rests on D79.
 use Prim.Native.Nat.{ℕ, min, _≤_}
 use mathlib.Core.Bool.{Bool}
 use mathlib.Core.Path.{_≡_}
@@ -30,7 +30,7 @@ LookOf row finished end opening r =
 abbrev pub ZeroBoard : Board → Type 0
 ZeroBoard r = r ≡ zeroBoard
 
--- with_look(board, i, look): the board with another look of row i; of no other row
+-- with_look(board, i, look): the board with another look of row i, and as it was past row 24
 abbrev pub WithLook : Board → ℕ → Look → Board → Type 0
 WithLook board i look r = r ≡ boardWith board i look
 
@@ -45,7 +45,7 @@ abbrev pub OpeningAfter : Bool → Bool → ℕ → ℕ → ℕ → Type 0
 OpeningAfter stays opened opening clock r = r ≡ openingBy stays opened opening clock
 
 -- chosen_row(board, clock, rows): the row of the first candidate that passes, and the number of
--- rows where none does
+-- rows, at most 24, where none does
 abbrev pub ChosenRow : Board → ℕ → ℕ → ℕ → Type 0
 ChosenRow board clock rows r =
     r ≡ rowOr (min rows mostRows) (chosenIn board clock (min rows mostRows))

@@ -1,5 +1,6 @@
--- "Next steps that are ready, allowed, and candidates", "the first that passes the stacking plan":
--- over a board, whose numbers may be any. To be read after Boards. Rests on D79.
+-- "Candidates are ready, allowed steps that would end by 1,000,000. They are tried by step number,
+-- then row; the first that passes the stacking plan starts": over a board, whose numbers may be
+-- any. To be read after Boards. Rests on D79.
 use Prim.Native.Nat.{ℕ, _+_, min}
 use mathlib.Core.Bool.{Bool, cond, _&&_, _||_}
 use mathlib.Core.List.{List}

@@ -1,12 +1,12 @@
--- "Candidates are tried by step number, then row; the first that passes the stacking plan starts",
--- worked over boards of two rows. The answers come from document 01 by hand. To be read after
+-- "They are tried by step number, then row; the first that passes the stacking plan starts": worked
+-- over boards of two rows. The answers come from document 01 by hand. To be read after
 -- Calls. Rests on D79.
 use Prim.Native.Nat.{ℕ}
 use mathlib.Core.Bool.{true, false}
 use Rattle.plan.specs.declared.Look.{Look}
 use Rattle.plan.specs.declared.Board.{Board}
 use Rattle.plan.specs.Boards.{boardWith, zeroBoard}
-use Rattle.plan.specs.Calls.{ChosenRow}
+use Rattle.plan.specs.Calls.{WithLook, ChosenRow}
 
 -- a look of a row with no window ahead: steps finished and in all, cost and release
 abbrev pub free : ℕ → ℕ → ℕ → ℕ → Look
@@ -48,8 +48,10 @@ inside due =
 abbrev pub boardOf : Look → Look → Board
 boardOf first second = boardWith (boardWith zeroBoard 0 first) 1 second
 
--- which row is chosen
+-- a board, and which row is chosen
 pub record WorkedChoices : Type 0 where
+  -- past row 24 no look is put
+  pub not-put : WithLook zeroBoard 24 (inside 9) zeroBoard
   -- both are ready, and row 1's second step waits for row 2's first
   pub lower-step-first : ChosenRow (boardOf (free 1 2 3 5) (free 0 1 2 0)) 5 2 1
   -- of two first steps the row decides

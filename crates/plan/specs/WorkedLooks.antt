@@ -1,5 +1,5 @@
 -- What is looked up of a row, worked: a row before its window, inside it, and past all numbers that
--- a load has. The answers come from document 01 by hand. To be read after Calls. Rests on D79.
+-- a load has. The answers come by hand from document 01 and D79. To be read after Calls.
 use mathlib.Core.Bool.{true, false}
 use mathlib.Core.List.{[], _∷_}
 use Rattle.load.specs.declared.Row.{Row}
@@ -73,3 +73,4 @@ pub record WorkedLooks : Type 0 where
   pub opening-new : OpeningAfter true false 5 9 9
   pub opening-none : OpeningAfter false true 5 9 0
   pub opening-past : OpeningAfter true true 1000001 9 1000000
+  pub clock-past : OpeningAfter true false 5 1000001 1000001

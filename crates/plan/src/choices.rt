@@ -9,7 +9,7 @@ ghost use mathlib.Core.Path.{_≡_};
 ghost use mathlib.Core.Bool.{_&&_, _||_};
 ghost use Prim.Native.Nat.{ℕ, _+_, min, _≤_, _<_};
 ghost use lib.Dec.{leb, ltb};
-ghost use Rattle.load.specs.Load.{mostSteps, lastMoment};
+ghost use Rattle.load.specs.Load.{mostRows, mostSteps, lastMoment};
 ghost use Rattle.plan.specs.Boards.{lookIn};
 ghost use Rattle.plan.specs.Choices.{passesIn};
 ghost use Rattle.plan.specs.Calls.{LowestStep, OpeningAfter, ChosenRow};
@@ -102,7 +102,7 @@ fn after(moment: u32, long: u16) -> u32
 
 // Says whether a candidate passes the stacking plan, as things stand at its end.
 fn passes(board: Board, clock: u32, rows: usize, i: usize) -> bool
-    requires { ⌜ (rows ≤ 24) × (i < rows) × (clock + lookIn board i .cost ≤ lastMoment) ⌝ }
+    requires { ⌜ (rows ≤ mostRows) × (i < rows) × (clock + lookIn board i .cost ≤ lastMoment) ⌝ }
     ensures { λ r. ⌜ r ≡ passesIn board clock rows i ⌝ }
 {
     let end = after(clock, board.cost[i]);
@@ -122,8 +122,8 @@ fn passes(board: Board, clock: u32, rows: usize, i: usize) -> bool
     plan_passes(stack, &release, &left, &due, rows)
 }
 
-// Gives the row of the first candidate that passes, by step number, then row; the number of rows
-// where none does. Rows past 24 count as 24.
+// Gives the row of the first candidate that passes, by step number, then row; where none does, the
+// number of rows, at most 24.
 pub fn chosen_row(board: Board, clock: u32, rows: usize) -> usize
     ensures { λ r. ⌜ ChosenRow board clock rows r ⌝ }
 {

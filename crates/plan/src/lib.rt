@@ -1,5 +1,5 @@
 // What is looked up of the rows of a load, and the search for the first candidate that passes the
-// stacking plan. Nothing is refused: numbers past their most count as the most.
+// stacking plan. Nothing is refused: each call says what it makes of numbers that no load has.
 mod boards;
 mod choices;
 mod lookups;

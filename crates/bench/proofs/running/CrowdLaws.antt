@@ -14,7 +14,8 @@ use Rattle.rules.specs.Plan.{Jobs}
 use Rattle.rules.proofs.plan.PlanTurns.{crowded-late}
 use Rattle.plan.specs.declared.Look.{Look}
 use Rattle.plan.specs.declared.Board.{Board}
-use Rattle.plan.specs.Boards.{lookIn, Wide}
+use Rattle.plan.specs.Boards.{lookIn}
+use Rattle.plan.specs.inner.Widths.{Wide}
 use Rattle.plan.specs.Choices.{jobsAfter}
 use Rattle.plan.specs.Choices.{openAfter, openingIn, passesIn}
 use Rattle.bench.specs.inner.Running.{isSooner, workBefore, crowdedIn}

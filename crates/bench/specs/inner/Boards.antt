@@ -6,7 +6,8 @@ use Rattle.load.specs.Load.{mostSteps, lastMoment}
 use Rattle.load.specs.View.{viewOf}
 use Rattle.plan.specs.declared.Board.{Board}
 use Rattle.plan.specs.Looks.{lookOf}
-use Rattle.plan.specs.Boards.{lookIn, Wide}
+use Rattle.plan.specs.Boards.{lookIn}
+use Rattle.plan.specs.inner.Widths.{Wide}
 use Rattle.bench.specs.declared.Bench.{Bench}
 use Rattle.bench.specs.Held.{stateOf}
 

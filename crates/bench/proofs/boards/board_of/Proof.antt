@@ -12,7 +12,8 @@ use Rattle.load.specs.View.{viewOf}
 use Rattle.plan.specs.declared.Look.{Look}
 use Rattle.plan.specs.declared.Board.{Board}
 use Rattle.plan.specs.Looks.{lookOf, lookBy}
-use Rattle.plan.specs.Boards.{lookIn, Wide}
+use Rattle.plan.specs.Boards.{lookIn}
+use Rattle.plan.specs.inner.Widths.{Wide}
 use Rattle.plan.proofs.BoardLaws.{zeroBoard-wide, boardWith-same, boardWith-other, boardWith-wide}
 use Rattle.bench.specs.declared.Bench.{Bench}
 use Rattle.bench.specs.Held.{stateOf}

@@ -3,7 +3,8 @@
 use mathlib.Core.Path.{sym}
 use lib.ListN.{length-map}
 use borrow.Author.Needs.{needs}
-use Rattle.plan.specs.Boards.{Wide, boardWith}
+use Rattle.plan.specs.Boards.{boardWith}
+use Rattle.plan.specs.inner.Widths.{Wide}
 use Rattle.plan.proofs.BoardLaws.{boardWith-past}
 use Rattle.plan.proofs.boards.with_look.Statement.{statement}
 use Rattle.plan.proofs.boards.with_look.Tie as tie
