@@ -1,9 +1,11 @@
 /* Measures the library's calls against the second program's, which walks every tick, in one run and
-   on the same load files.
+   on the same load file.
 
-   usage: measure FILE...     prints two lines of a table for each load file
+   usage: measure schedule|bound-and-margins FILE
+          prints the microseconds of our call, those of the other, and how many times as fast ours is
 
-   Both forms fill an output of their own, and the answers must agree before anything is timed.
+   Both forms fill an output of their own, and the answers must agree before anything is timed; the
+   exit status is 1 where they differ, 2 for a wrong use or a file that cannot be read.
    Time is the processor's, so that other programs count for little. A round times each form once,
    one right behind the other, so that whatever slows the machine slows both. The fastest round of
    each counts. */
@@ -15,40 +17,17 @@
 #include <time.h>
 
 #include "calls.h"
-#include "reading_bench.h"
+#include "forms.h"
 
-enum { ROUNDS = 7, MOST_NAME = 64 };
+enum { ROUNDS = 7 };
 
-/* A round of a form lasts at least so many seconds. */
+/* A round of a form lasts at least so many seconds, and no round begins after so many. */
 static const double LEAST_SECONDS = 0.02;
-
-struct file {
-    size_t length;
-    uint8_t bytes[BENCH_LOAD_BYTES_MAX + 1];
-};
-
-struct output {
-    uint8_t bytes[BENCH_SCHEDULE_BYTES_MAX];
-};
-
-typedef uint32_t form(const struct file *file, struct output *out);
-
-static uint32_t our_schedule(const struct file *file, struct output *out)
-{
-    return bench_schedule(file->bytes, file->length, out->bytes, sizeof out->bytes);
-}
+static const double MOST_SECONDS = 10;
 
 static uint32_t their_schedule(const struct file *file, struct output *out)
 {
     return second_schedule(file->bytes, file->length, out->bytes, sizeof out->bytes);
-}
-
-/* The margins stand behind the bound. */
-static uint32_t our_margins(const struct file *file, struct output *out)
-{
-    return bench_bound(file->bytes, file->length, out->bytes, BENCH_BOUND_BYTES)
-        + bench_margins(file->bytes, file->length, out->bytes + BENCH_BOUND_BYTES,
-                        BENCH_MARGINS_BYTES);
 }
 
 static uint32_t their_margins(const struct file *file, struct output *out)
@@ -81,7 +60,7 @@ static double seconds_of(form *call, const struct file *file)
     return spent / (double)(calls / 2);
 }
 
-static int agree(form *ours, form *theirs, const struct file *file)
+static bool agree(form *ours, form *theirs, const struct file *file)
 {
     struct output our_output = {{0}};
     struct output their_output = {{0}};
@@ -94,60 +73,34 @@ static double lower(double a, double b)
     return a < b ? a : b;
 }
 
-/* Prints microseconds of both forms, and how many times as fast ours is. */
-static int compare(const char *name, const char *what, form *ours, form *theirs,
-                   const struct file *file)
+static void time_both(form *ours, form *theirs, const struct file *file)
 {
     double our_best = 1e9;
     double their_best = 1e9;
-    if (!agree(ours, theirs, file)) {
-        fprintf(stderr, "measure: %s, %s: the answers differ\n", name, what);
-        return 1;
-    }
+    double begin = seconds_now();
     for (unsigned round = 0; round < ROUNDS; round++) {
         our_best = lower(our_best, seconds_of(ours, file));
         their_best = lower(their_best, seconds_of(theirs, file));
+        if (seconds_now() - begin > MOST_SECONDS)
+            break;
     }
-    printf("| %s | %s | %.1f | %.1f | %.2f |\n", name, what, our_best * 1e6, their_best * 1e6,
-           their_best / our_best);
-    return 0;
-}
-
-static int take_file(const char *path, struct file *file)
-{
-    FILE *input = fopen(path, "rb");
-    if (input == NULL) {
-        fprintf(stderr, "measure: %s: cannot be read\n", path);
-        return 1;
-    }
-    file->length = fread(file->bytes, 1, sizeof file->bytes, input);
-    fclose(input);
-    return 0;
-}
-
-/* The file's name without folders and ending. */
-static void take_name(const char *path, char name[MOST_NAME])
-{
-    const char *slash = strrchr(path, '/');
-    snprintf(name, MOST_NAME, "%s", slash == NULL ? path : slash + 1);
-    char *dot = strrchr(name, '.');
-    if (dot != NULL)
-        *dot = '\0';
+    printf("%.1f %.1f %.2f\n", our_best * 1e6, their_best * 1e6, their_best / our_best);
 }
 
 int main(int count, char **words)
 {
-    int failed = 0;
-    puts("| Load | Calls | ours, us | tick by tick in C, us | times as fast |");
-    puts("|---|---|---|---|---|");
-    for (int k = 1; k < count; k++) {
-        struct file file;
-        char name[MOST_NAME];
-        if (take_file(words[k], &file) != 0)
-            return 1;
-        take_name(words[k], name);
-        failed |= compare(name, "schedule", our_schedule, their_schedule, &file);
-        failed |= compare(name, "bound and margins", our_margins, their_margins, &file);
+    static form *const ours[] = {our_schedule, our_margins};
+    static form *const theirs[] = {their_schedule, their_margins};
+    static struct file file;
+    unsigned chosen = count == 3 ? form_named(words[1]) : NO_FORM;
+    if (chosen == NO_FORM || !take_file(words[2], &file)) {
+        fputs("measure: it is measure schedule|bound-and-margins FILE\n", stderr);
+        return 2;
     }
-    return failed;
+    if (!agree(ours[chosen], theirs[chosen], &file)) {
+        fprintf(stderr, "measure: %s, %s: the answers differ\n", words[2], words[1]);
+        return 1;
+    }
+    time_both(ours[chosen], theirs[chosen], &file);
+    return 0;
 }
