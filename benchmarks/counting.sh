@@ -23,7 +23,7 @@ fi
 # are bound at the start: what a loader does to find a name is not the call's.
 build_counted() {
     # shellcheck disable=SC2086
-    $compile_c -std=c11 $strict -Wl,-z,now -Idist/include -o "$work/$1" benchmarks/counted_call.c \
+    $compile_c -std=c11 $strict -Wl,-z,now -Iinclude -o "$work/$1" benchmarks/counted_call.c \
         benchmarks/forms.c benchmarks/marks.c "$2"
 }
 
