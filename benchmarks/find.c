@@ -1,11 +1,12 @@
 /* Searches for the load of 24 rows of 8 steps whose schedule costs the most.
  *
- * usage: find SEED SECONDS      progress on standard error; the rows of the load on standard output
+ * usage: find SEED SECONDS FILE...      progress on standard error; the rows of the load that is found
+ *                                       on standard output; a FILE is a load that is known
  *
  * The cost of a load is the number of instructions of one call, where the emulator's plugin counts
- * them; elsewhere the least processor time of some calls. A fifth of the time goes to each kind of
- * load: the costliest of many random ones is altered again and again, and what costs no less is
- * kept. The last fifth goes to the costliest of all. */
+ * them; elsewhere the least processor time of some calls. One share of the time goes to the known
+ * loads, one to each kind of random loads: the costliest of them is altered again and again, and
+ * what costs no less is kept. The last share goes to the costliest of all. */
 #define _POSIX_C_SOURCE 200809L /* for clock_gettime */
 
 #include <inttypes.h>
@@ -14,6 +15,7 @@
 #include <string.h>
 #include <time.h>
 
+#include "forms.h"
 #include "full_load.h"
 #include "load_file.h"
 #include "marks.h"
@@ -226,6 +228,28 @@ static void alter(struct dice *dice, struct load *load)
     mend_limits(load);
 }
 
+/* The costliest of the known loads; those with fewer rows or steps are left out. */
+static struct costed best_known(struct search *search, char **paths)
+{
+    struct costed best = {.cost = 0};
+    for (; *paths != NULL; paths++) {
+        struct file file;
+        struct costed next;
+        if (!take_file(*paths, &file)
+            || read_load(file.bytes, file.length, &next.load) != ACCEPTED) {
+            fprintf(stderr, "find: %s: is no load file\n", *paths);
+            exit(2);
+        }
+        if (steps_of(&next.load) < MOST_ROWS * MOST_STEPS)
+            continue;
+        next.cost = cost_of(search, &next.load);
+        if (next.cost > best.cost)
+            best = next;
+        tell_progress(search, "known loads");
+    }
+    return best;
+}
+
 /* The costliest of random loads of that kind, until that second. */
 static struct costed best_start(struct search *search, enum kind kind, double until)
 {
@@ -254,28 +278,39 @@ static void climb(struct search *search, struct costed *best, const char *what, 
     }
 }
 
+/* Climbs until that second, tells what that gave, and keeps the costlier of two. */
+static void climb_from(struct search *search, struct costed *start, const char *what, double until,
+                       struct costed *best)
+{
+    if (start->cost == 0)
+        return;
+    climb(search, start, what, until);
+    fprintf(stderr, "find: from %s: %" PRIu64 " %s\n", what, start->cost, unit_of(search));
+    if (start->cost > best->cost)
+        *best = *start;
+}
+
 int main(int count, char **words)
 {
-    if (count != 3) {
-        fputs("find: it is find SEED SECONDS\n", stderr);
+    if (count < 3) {
+        fputs("find: it is find SEED SECONDS FILE...\n", stderr);
         return 2;
     }
     struct search search = {.dice = dice_of(strtoull(words[1], NULL, 10)),
                             .seconds = strtod(words[2], NULL),
                             .begin = seconds_of(CLOCK_MONOTONIC)};
     search.counts = open_marks(&search.marks);
+    double share = search.seconds / (KINDS + 2);
     struct costed best = {.cost = 0};
-    double share = search.seconds / (KINDS + 1);
+    struct costed start = best_known(&search, words + 3);
+    climb_from(&search, &start, "known loads", share, &best);
     for (unsigned kind = 0; kind < KINDS; kind++) {
-        double begin = share * kind;
-        struct costed found = best_start(&search, (enum kind)kind, begin + share / 4);
-        climb(&search, &found, KIND_NAMES[kind], begin + share);
-        fprintf(stderr, "find: from %s: %" PRIu64 " %s\n", KIND_NAMES[kind], found.cost,
-                unit_of(&search));
-        if (found.cost > best.cost)
-            best = found;
+        double end = share * (kind + 2);
+        start = best_start(&search, (enum kind)kind, end - share * 3 / 4);
+        climb_from(&search, &start, KIND_NAMES[kind], end, &best);
     }
-    climb(&search, &best, "the costliest", search.seconds);
+    start = best;
+    climb_from(&search, &start, "the costliest", search.seconds, &best);
     fprintf(stderr, "find: %" PRIu64 " loads tried\n", search.tried);
     printf("# %" PRIu64 " %s\n", best.cost, unit_of(&search));
     print_rows(&best.load);
