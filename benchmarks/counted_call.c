@@ -3,11 +3,11 @@
  * usage: counted_call schedule|bound-and-margins FILE
  *
  * The call's number and its whole output go to standard output, as bytes, for a comparison. Where
- * the emulator's plugin counts, the instructions of the call go to standard error; callgrind is told
- * to count what runs inside of counted_call().
+ * the emulator's plugin counts, the instructions of the call go to standard error; callgrind is
+ * told to count what runs inside of counted_call().
  *
- * Exit status: 0 once the call is made, whatever it gave; 2 for a wrong use or a file that cannot be
- * read. */
+ * Exit status: 0 once the call is made, whatever it gave; 2 for a wrong use, or a file that cannot
+ * be read. */
 #include <inttypes.h>
 #include <stdio.h>
 

@@ -1,9 +1,10 @@
-# What counts the instructions of one call of the archive; read by `.` in the root of the repository,
-# after host/machine.sh, and with a folder `work`.
+# What counts the instructions of one call of the archive; read by `.` in the root of the
+# repository, after host/machine.sh, and with a folder `work`.
 #
-# Sets the words `counted_by`, which tells the way, and `counter`, which stands before a program that
-# counts for itself (benchmarks/marks.h), and defines what follows. Both ways count instructions of
-# x86-64, so that the machine that counts them does not matter; its C library's memcpy does a little.
+# Sets the words `counted_by`, which tells the way, and `counter`, which stands before a program
+# that counts for itself (benchmarks/marks.h), and defines what follows. Both ways count
+# instructions of x86-64. Those of the C library's memcpy are among them, and differ a little from
+# one C library to another.
 if [ -z "$emulator" ]; then
     sh tests/tools valgrind=valgrind
     counted_by='callgrind' counter=''
@@ -19,8 +20,8 @@ else
         -o "$work/count.so" benchmarks/instruction_count.c
 fi
 
-# build_counted NAME ARCHIVE: builds the program NAME of `work`, which calls that archive once. Names
-# are bound at the start: what a loader does to find a name is not the call's.
+# build_counted NAME ARCHIVE: builds the program NAME of `work`, which calls that archive once.
+# Names are bound at the start: what a loader does to find a name is not the call's.
 build_counted() {
     # shellcheck disable=SC2086
     $compile_c -std=c11 $strict -Wl,-z,now -Iinclude -o "$work/$1" benchmarks/counted_call.c \

@@ -1,7 +1,7 @@
 /* Searches for the load of 24 rows of 8 steps whose schedule costs the most.
  *
- * usage: find SEED SECONDS FILE...      progress on standard error; the rows of the load that is found
- *                                       on standard output; a FILE is a load that is known
+ * usage: find SEED SECONDS FILE...      a FILE is a load that is known; progress on standard error,
+ *                                       the rows of the load that is found on standard output
  *
  * The cost of a load is the number of instructions of one call, where the emulator's plugin counts
  * them; elsewhere the least processor time of some calls. One share of the time goes to the known
@@ -21,7 +21,8 @@
 #include "marks.h"
 #include "reading_bench.h"
 
-enum { TIMED_CALLS = 3, MOST_ALTERED = 4, PROGRESS_SECONDS = 10, LEAST_STARTS = 8 };
+enum { TIMED_CALLS = 3, MOST_ALTERED = 4, PROGRESS_SECONDS = 10, LEAST_STARTS = 8,
+       MOST_ROOM = 40000 };
 
 struct costed {
     struct load load;
@@ -117,23 +118,50 @@ static uint32_t nearby(struct dice *dice, uint32_t number, uint32_t least, uint3
     return most - number < far ? most : number + far;
 }
 
+/* One row gets the numbers of another, but not who it is. */
+static void copy_row(struct load *load, unsigned to, unsigned from)
+{
+    struct row old = load->rows[to];
+    load->rows[to] = load->rows[from];
+    load->rows[to].identifier = old.identifier;
+    load->rows[to].box = old.box;
+}
+
+static void exchange_rows(struct load *load, unsigned one, unsigned other)
+{
+    struct load before = *load;
+    copy_row(load, one, other);
+    load->rows[other] = before.rows[one];
+    load->rows[other].identifier = before.rows[other].identifier;
+    load->rows[other].box = before.rows[other].box;
+}
+
+/* Every window has so much more room than that of the row before. */
+static void stagger(struct load *load, uint32_t more)
+{
+    for (unsigned row = 0; row < MOST_ROWS; row++)
+        for (unsigned place = 0; place < load->rows[row].window_count; place++)
+            give_room(&load->rows[row], &load->rows[row].windows[place], more * row);
+}
+
+/* All rows are alike but for the room of their windows. */
+static void make_even(struct dice *dice, struct load *load, unsigned like)
+{
+    for (unsigned row = 0; row < MOST_ROWS; row++)
+        copy_row(load, row, like);
+    stagger(load, any_number(dice, 0, 1000));
+}
+
 static struct load any_start(struct dice *dice, enum kind kind)
 {
     struct most most;
     most.cost = any_number(dice, 1, MOST_COST);
     most.wait = any_number(dice, 0, MOST_WAIT);
-    most.room = any_number(dice, 0, 40000);
+    most.room = any_number(dice, 0, MOST_ROOM);
     most.phase = throw_dice(dice) % 2 == 0 ? 0 : any_number(dice, 0, MOST_PHASE);
     struct load load = load_of_kind(dice, kind, MOST_ROWS, MOST_STEPS, &most);
-    if (kind != STAGGERED || throw_dice(dice) % 2 == 0)
-        return load;
-    for (unsigned row = 0; row < MOST_ROWS; row++) { /* as even as they can be */
-        for (unsigned step = 0; step < MOST_STEPS; step++)
-            load.rows[row].steps[step] = (struct step){
-                (uint16_t)most.cost, (uint16_t)(step + 1 < MOST_STEPS ? most.wait : 0)};
-        give_room(&load.rows[row], &load.rows[row].windows[0],
-                  most.room * row / MOST_ROWS + row);
-    }
+    if (throw_dice(dice) % 2 == 0)
+        make_even(dice, &load, 0);
     return load;
 }
 
@@ -164,11 +192,11 @@ static void alter_limit(struct dice *dice, struct row *row)
 static void alter_windows(struct dice *dice, struct row *row)
 {
     unsigned windows = between(dice, 1, MOST_WINDOWS);
-    place_windows(dice, row, windows, any_number(dice, 0, 40000));
+    place_windows(dice, row, windows, any_number(dice, 0, MOST_ROOM));
     if (windows == 1 && throw_dice(dice) % 2 == 0) {
         row->windows[0].first = 1;
         row->windows[0].last = MOST_STEPS;
-        give_room(row, &row->windows[0], any_number(dice, 0, 40000));
+        give_room(row, &row->windows[0], any_number(dice, 0, MOST_ROOM));
     }
 }
 
@@ -185,47 +213,42 @@ static void alter_column(struct dice *dice, struct load *load)
             load->rows[row].steps[place].wait = (uint16_t)number;
 }
 
-/* One row gets the numbers of another; with both ways they change places. */
-static void copy_row(struct load *load, unsigned to, unsigned from, bool both)
-{
-    struct row old = load->rows[to];
-    load->rows[to] = load->rows[from];
-    load->rows[to].identifier = old.identifier;
-    load->rows[to].box = old.box;
-    if (!both)
-        return;
-    old.identifier = load->rows[from].identifier;
-    old.box = load->rows[from].box;
-    load->rows[from] = old;
-}
-
-/* Windows whose chain has grown beyond their limit get the chain as their limit. */
-static void mend_limits(struct load *load)
+/* Windows keep their room where their chain has changed. */
+static void keep_rooms(struct load *load, const struct load *before)
 {
     for (unsigned row = 0; row < MOST_ROWS; row++)
         for (unsigned place = 0; place < load->rows[row].window_count; place++) {
-            struct window *window = &load->rows[row].windows[place];
-            if (window->limit < chain_of(&load->rows[row], window))
-                give_room(&load->rows[row], window, 0);
+            const struct window *old = &before->rows[row].windows[place];
+            give_room(&load->rows[row], &load->rows[row].windows[place],
+                      old->limit - chain_of(&before->rows[row], old));
         }
 }
 
 static void alter(struct dice *dice, struct load *load)
 {
+    struct load before = *load;
     unsigned other = throw_dice(dice) % MOST_ROWS;
     unsigned chosen = throw_dice(dice) % MOST_ROWS;
     struct row *row = &load->rows[chosen];
-    switch (throw_dice(dice) % 10) {
+    switch (throw_dice(dice) % 12) {
     case 0: alter_windows(dice, row); break;
-    case 1: copy_row(load, chosen, other, false); break;
-    case 2: copy_row(load, chosen, other, true); break;
-    case 3: alter_column(dice, load); break;
-    case 4: row->phase = any_number(dice, 0, throw_dice(dice) % 2 == 0 ? 0 : MOST_PHASE); break;
-    case 5:
-    case 6: alter_step(dice, row); break;
+    case 1: copy_row(load, chosen, other); break;
+    case 2: exchange_rows(load, chosen, other); break;
+    case 3: row->phase = any_number(dice, 0, throw_dice(dice) % 2 == 0 ? 0 : MOST_PHASE); break;
+    case 4: make_even(dice, load, chosen); break;
+    case 5: stagger(load, any_number(dice, 0, 1000)); break;
+    case 6:
+    case 7:
+        alter_column(dice, load);
+        keep_rooms(load, &before);
+        break;
+    case 8:
+    case 9:
+        alter_step(dice, row);
+        keep_rooms(load, &before);
+        break;
     default: alter_limit(dice, row); break;
     }
-    mend_limits(load);
 }
 
 /* The costliest of the known loads; those with fewer rows or steps are left out. */

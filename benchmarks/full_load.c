@@ -70,7 +70,8 @@ static void add_wide_windows(struct dice *dice, struct row *row, uint32_t most_r
     unsigned steps = row->step_count;
     bool two = steps >= 4 && throw_dice(dice) % 3 == 0;
     unsigned first = two ? 1 : between(dice, 1, 1 + (steps - 2) / 3);
-    unsigned last = two ? between(dice, 2, steps - 2) : between(dice, steps - (steps - 2) / 3, steps);
+    unsigned last
+        = two ? between(dice, 2, steps - 2) : between(dice, steps - (steps - 2) / 3, steps);
     add_window(row, first, last, between(dice, 0, most_room));
     if (two)
         add_window(row, last + 1, steps, between(dice, 0, most_room));

@@ -1,7 +1,7 @@
-/* A plugin for QEMU's emulator of programs: counts the instructions of the program that it runs, and
+/* A plugin for QEMU's emulator of programs: counts the instructions of the program that runs, and
  * tells them where the program asks.
  *
- * use: qemu-x86_64 -plugin THIS.so PROGRAM ...     built by cc -shared -fPIC, for the machine itself
+ * use: qemu-x86_64 -plugin THIS.so PROGRAM ...     built for the machine itself, not for x86-64
  *
  * A program asks by a write of no bytes, which does nothing else: see marks.h. The answer is a
  * number of 8 bytes, written to the file descriptor of that write: the instructions since the

@@ -1,8 +1,8 @@
 /* Measures the library's calls against the second program's, which walks every tick, in one run and
    on the same load file.
 
-   usage: measure schedule|bound-and-margins FILE
-          prints the microseconds of our call, those of the other, and how many times as fast ours is
+   usage: measure schedule|bound-and-margins FILE      prints the microseconds of our call, those of
+                                                       theirs, and how many times as fast ours is
 
    Both forms fill an output of their own, and the answers must agree before anything is timed; the
    exit status is 1 where they differ, 2 for a wrong use or a file that cannot be read.
