@@ -36,24 +36,11 @@ use Rattle.schedule_file.specs.inner.Gathered.{
 }
 use Rattle.schedule_file.specs.inner.Gathered.{gatheredOf, gathered}
 use Rattle.schedule_file.specs.Calls.{WriteSchedule}
+use Rattle.schedule_file.proofs.FileLaws.{record-length, head-length, file-is, file-length}
 
 -- a file with room for the longest, and these bytes at its front
 abbrev front : List ℕ → Gathered
 front bytes = record { at = length bytes; bytes = sets (replicate mostBytes 0) 0 bytes }
-
-record-length : (slot : Slot) → length (slotRecord slot) ≡ slotSize
-record-length slot = omega (arith, littleEndian-length 4 (slot .start))
-
-joinIn-length : (slots : List Slot) → length (joinIn slotRecord slots) ≡ slotSize * length slots
-unfolding joinIn
-joinIn-length [] = refl
-joinIn-length (slot ∷ rest) =
-    omega (
-      arith,
-      length-append (slotRecord slot) (joinIn slotRecord rest),
-      record-length slot,
-      joinIn-length rest,
-    )
 
 -- one record behind the bytes at the front
 front-next : (bytes : List ℕ) (slot : Slot) → length bytes ≤ lastPlace
@@ -79,9 +66,6 @@ front-all (slot ∷ rest) bytes l =
     (omega (arith, length-append bytes (slotRecord slot), record-length slot))
     ∙ ap front (append-assoc bytes (slotRecord slot) (joinIn slotRecord rest)))
 
-head-length : (n : ℕ) → length (headBytes n) ≡ headerSize
-head-length n = omega (arith, littleEndian-length 2 (n % counts))
-
 headed-front : (n : ℕ) → headed n ≡ front (headBytes n)
 unfolding headed
 headed-front n =
@@ -92,24 +76,6 @@ front-taken : (bytes : List ℕ) (k : ℕ) → length bytes ≡ k → k ≤ most
 front-taken bytes k e l =
     ap (take k) (sets-front (replicate mostBytes 0) bytes (omega (arith, length-replicate {A = ℕ} mostBytes 0)))
     ∙ take-at bytes (drop (length bytes) (replicate mostBytes 0)) k e
-
--- the count of so few slots fits the header, and their file the room
-file-is : (slots : List Slot) → length slots ≤ mostSlots
-    → headBytes (length slots) ++ joinIn slotRecord slots ≡ scheduleBytes slots
-unfolding scheduleBytes
-file-is slots l =
-    let small : length slots % counts ≡ length slots = omega arith in
-    ap (λ (n : ℕ). (0x53 ∷ 0x43 ∷ littleEndian 2 n) ++ joinIn slotRecord slots) small
-
-file-length : (slots : List Slot)
-    → length (headBytes (length slots) ++ joinIn slotRecord slots) ≡ slotPlace (length slots)
-file-length slots =
-    omega (
-      arith,
-      length-append (headBytes (length slots)) (joinIn slotRecord slots),
-      head-length (length slots),
-      joinIn-length slots,
-    )
 
 gathered-bytes : (slots : List Slot) → length slots ≤ mostSlots
     → take (slotPlace (length slots)) (gathered slots (headed (length slots)) .bytes) ≡ scheduleBytes slots

@@ -1,4 +1,5 @@
 -- The laws of the calls that write slots: what the code gathers is what the definitions say of all slots.
+pub mod FileLaws
 pub mod GatheredLaws
 pub mod LoopCalls
 pub mod CallLaws

@@ -1,13 +1,12 @@
-// The writing of a schedule file. The slots are lent as a slice of slot records, their numbers
-// unchecked; a function over it is proved by a walk by hand, so each of the three does little: one
-// takes a slot apart, one is the loop, and one lends the front of an array. The file is gathered by
-// value, and written where it fits.
+// The writing of a schedule file, the slots' numbers unchecked. Slots in an array are written one
+// by one straight to the output. Where they are lent as a slice of slot records, a function over it
+// is proved by a walk by hand, so each of the two does little: one takes a slot apart, one is the
+// loop; there the file is gathered by value, and written where it fits.
 use refusals::Checked;
 use refusals::Refusal;
 use rules::SLOT_PLACES;
 use rules::Slot;
 use schedule::MOST_SLOTS;
-use schedule::at_most_places;
 use words::bytes16;
 use words::bytes32;
 use words::overwrite;
@@ -20,7 +19,9 @@ ghost use Rattle.refusals.specs.declared.Refusal.the-variants.{OutOfRange};
 ghost use Rattle.refusals.specs.FirstMet.{firstMet};
 ghost use Rattle.refusals.specs.Given.{Given};
 ghost use Rattle.rules.specs.Slots.{noSlot, mostSlots};
-ghost use Rattle.schedule_file.specs.inner.Gathered.{headed, withSlot, gatheredOf, slotPlace};
+ghost use Rattle.schedule_file.specs.ScheduleFile.{slotRecord};
+ghost use Rattle.schedule_file.specs.inner.Gathered.{headBytes, headed, slotOf, withSlot};
+ghost use Rattle.schedule_file.specs.inner.Gathered.{gatheredOf, slotPlace};
 ghost use Rattle.schedule_file.specs.Calls.{WriteSchedule, WriteArray};
 
 // The marks.
@@ -48,16 +49,38 @@ pub struct Gathered {
     pub bytes: [u8; MOST_BYTES],
 }
 
+// Gives the head of a file of n slots.
+fn head_record(n: usize) -> [u8; HEADER_SIZE]
+    ensures { λ r. ⌜ r ≡ headBytes n ⌝ }
+{
+    let count = bytes16((n % COUNTS) as u16);
+    [HEADER_MARK[0], HEADER_MARK[1], count[0], count[1]]
+}
+
+// Gives the record of a slot.
+fn slot_record(row: u8, step: u8, start: u32) -> [u8; SLOT_SIZE]
+    ensures { λ r. ⌜ r ≡ slotRecord (slotOf row step start) ⌝ }
+{
+    let number = bytes32(start);
+    [
+        SLOT_MARK[0],
+        SLOT_MARK[1],
+        row,
+        step,
+        number[0],
+        number[1],
+        number[2],
+        number[3],
+    ]
+}
+
 // Begins a file of n slots with its head.
 pub fn head(n: usize) -> Gathered
     ensures { λ r. ⌜ r ≡ headed n ⌝ }
 {
-    let count = bytes16((n % COUNTS) as u16);
+    let record = head_record(n);
     let mut bytes = [0u8; MOST_BYTES];
-    bytes[0] = HEADER_MARK[0];
-    bytes[1] = HEADER_MARK[1];
-    bytes[2] = count[0];
-    bytes[3] = count[1];
+    overwrite(&mut bytes, 0, &record);
     Gathered {
         at: HEADER_SIZE,
         bytes,
@@ -69,17 +92,7 @@ pub fn head(n: usize) -> Gathered
 fn with_slot(file: Gathered, row: u8, step: u8, start: u32) -> Gathered
     ensures { λ r. ⌜ r ≡ withSlot file row step start ⌝ }
 {
-    let number = bytes32(start);
-    let record = [
-        SLOT_MARK[0],
-        SLOT_MARK[1],
-        row,
-        step,
-        number[0],
-        number[1],
-        number[2],
-        number[3],
-    ];
+    let record = slot_record(row, step, start);
     let mut at = file.at;
     let mut bytes = file.bytes;
     if at <= LAST_PLACE {
@@ -132,10 +145,22 @@ pub fn write_schedule(slots: &[Slot], out: &mut [u8]) -> Checked
 }
 
 // Writes the schedule file of the first n slots of an array, at most 256, as write_schedule does
-// that of a lent slice.
+// that of a lent slice, record by record, straight to the output.
 pub fn write_array(slots: [Slot; SLOT_PLACES], n: usize, out: &mut [u8]) -> Checked
     ensures { λ r. ⌜ WriteArray slots n (now (out .entry)) r (now (out .exit)) ⌝ }
 {
-    let count = at_most_places(n);
-    write_schedule(&slots[..count], out)
+    if MOST_SLOTS < n {
+        return Checked::Refused(Refusal::OutOfRange);
+    }
+    if out.len() < HEADER_SIZE + SLOT_SIZE * n {
+        return Checked::Refused(Refusal::OutputShort);
+    }
+    let head = head_record(n);
+    overwrite(out, 0, &head);
+    for k in 0..n {
+        let slot = slots[k];
+        let record = slot_record(slot.row, slot.step, slot.start);
+        overwrite(out, HEADER_SIZE + SLOT_SIZE * k, &record);
+    }
+    Checked::Good
 }

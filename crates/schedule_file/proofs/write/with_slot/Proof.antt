@@ -1,17 +1,16 @@
--- `with_slot` makes the record of a slot and writes it behind what was gathered.
+-- `with_slot` writes the record of a slot behind what was gathered.
 use borrow.Author.Needs.{needs}
 use borrow.Author.Tests.{lt-ltb, le-ltb}
-use Rattle.words.specs.LittleEndian.{littleEndian}
 use Rattle.schedule_file.specs.inner.Gathered.{withSlot}
 use Rattle.schedule_file.proofs.write.with_slot.Statement.{statement}
 use Rattle.schedule_file.proofs.write.with_slot.Tie as tie
 
 added : tie.Need-returns
-unfolding withSlot littleEndian
+unfolding withSlot
 added c =
     let fits = c .before .before .before .before in
     let asked = fits .before .before in
-    rw (le-ltb _ _ (fits .if1 .taken), c .before .overwrite .ensures, asked .bytes32 .ensures)
+    rw (le-ltb _ _ (fits .if1 .taken), c .before .overwrite .ensures, asked .slot-record .ensures)
 
 full : tie.Need-returns-2
 unfolding withSlot
@@ -22,12 +21,6 @@ with-slot-spec =
     tie.close
     (tie.spec
     (λ c κs. search needs)
-    (λ c. search needs)
-    (λ c. search needs)
-    (λ c. search needs)
-    (λ c. search needs)
-    (λ c. search needs)
-    (λ c. search needs)
     (λ c. search needs)
     (λ c. search needs)
     (λ c κs. search needs)
