@@ -1,8 +1,8 @@
 -- What is gathered of at most 192 slots is the file: each slot's record stands behind those before it, and the file's
 -- bytes are the first of those gathered. Of more slots nothing is written.
-use Prim.Native.Nat.{ℕ, _+_, _*_, _%_, _≤_}
+use Prim.Native.Nat.{ℕ, _+_, _*_, _≤_}
 use mathlib.Core.List.{List, [], _∷_, _++_, append-nil, append-assoc}
-use mathlib.Core.Path.{_≡_, refl, ap, sym, _∙_, subst}
+use mathlib.Core.Path.{_≡_, ap, sym, _∙_, subst}
 use native.Mathlib.Decide.{decLt}
 use native.Mathlib.Omega.{arith}
 use lib.Dec.{ltb}
@@ -10,8 +10,6 @@ use lib.ListN.{length, take, drop, replicate, length-append, length-replicate}
 use lib.Seq.{sets, take-at}
 use borrow.Author.Tests.{lt-ltb, le-ltb}
 use Rattle.counting.specs.Lists.{joinIn}
-use Rattle.words.specs.LittleEndian.{littleEndian}
-use Rattle.words.proofs.LittleEndianLaws.{littleEndian-length}
 use Rattle.words.proofs.OverwriteLaws.{sets-behind, sets-front}
 use Rattle.refusals.specs.declared.Refusal.the-variants.{OutOfRange}
 use Rattle.refusals.specs.declared.Checked.{Checked}
@@ -26,11 +24,9 @@ use Rattle.schedule_file.specs.ScheduleFile.{scheduleBytes}
 use Rattle.schedule_file.specs.inner.Gathered.{
   mostBytes,
   lastPlace,
-  counts,
   headBytes,
   headed,
   withSlot,
-  headerSize,
   slotSize,
   slotPlace,
 }

@@ -2,11 +2,14 @@
 -- write_schedule's own contract cites scheduleBytes.
 use Prim.Native.Nat.{ℕ, _+_, _-_, _*_, _%_}
 use mathlib.Core.Bool.{cond}
-use mathlib.Core.List.{List, _∷_, foldl}
+use mathlib.Core.List.{List, [], _∷_, foldl}
 use lib.Dec.{ltb}
 use lib.ListN.{replicate}
 use lib.Seq.{sets}
 use Rattle.words.specs.LittleEndian.{littleEndian}
+use Rattle.refusals.specs.declared.Refusal.the-variants.{OutOfRange, OutputShort}
+use Rattle.refusals.specs.declared.Checked.{Checked}
+use Rattle.refusals.specs.FirstMet.{firstMet}
 use Rattle.rules.specs.declared.Slot.{Slot}
 use Rattle.rules.specs.Slots.{mostSlots}
 use Rattle.schedule_file.specs.declared.write.Gathered.{Gathered}
@@ -39,6 +42,11 @@ counts = 65536
 -- the head of the file of n slots
 abbrev pub headBytes : ℕ → List ℕ
 headBytes n = 0x53 ∷ 0x43 ∷ littleEndian 2 (n % counts)
+
+-- what n slots are refused for where there is room for so many bytes: 3 for more than 192, then 9
+abbrev pub roomFault : ℕ → ℕ → Checked
+roomFault n room =
+    firstMet ((ltb mostSlots n, OutOfRange) ∷ (ltb room (slotPlace n), OutputShort) ∷ [])
 
 -- no slot yet
 unfoldable pub headed : ℕ → Gathered

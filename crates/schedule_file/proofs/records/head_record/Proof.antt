@@ -1,8 +1,8 @@
 -- `head_record` gives the mark, and behind it the two bytes of the count.
 use borrow.Author.Needs.{needs}
 use Rattle.words.specs.LittleEndian.{littleEndian}
-use Rattle.schedule_file.proofs.write.head_record.Statement.{statement}
-use Rattle.schedule_file.proofs.write.head_record.Tie as tie
+use Rattle.schedule_file.proofs.records.head_record.Statement.{statement}
+use Rattle.schedule_file.proofs.records.head_record.Tie as tie
 
 is-record : tie.Need-returns
 unfolding littleEndian

@@ -1,8 +1,8 @@
 -- `slot_record` gives the mark, the row, the step, and behind them the four bytes of the start.
 use borrow.Author.Needs.{needs}
 use Rattle.words.specs.LittleEndian.{littleEndian}
-use Rattle.schedule_file.proofs.write.slot_record.Statement.{statement}
-use Rattle.schedule_file.proofs.write.slot_record.Tie as tie
+use Rattle.schedule_file.proofs.records.slot_record.Statement.{statement}
+use Rattle.schedule_file.proofs.records.slot_record.Tie as tie
 
 is-record : tie.Need-returns
 unfolding littleEndian
