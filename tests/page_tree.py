@@ -104,7 +104,7 @@ RATTLE_NAMES = (re.compile(r'\b(?:fn|struct|enum|const|mod)\s+(\w+)'), re.compil
                 re.compile(r'^\s+([A-Z]\w*)(?:\([^)]*\))?,$', re.M))
 C_NAMES = (re.compile(r'#define\s+(\w+)'), re.compile(r'^[A-Za-z_][\w ]*[ *](\w+)\(', re.M))
 COMMENT = re.compile(r'(?<!\S)(?:--|//)[^\n]*')
-FUNCTION = re.compile(r'\bpub\s+(?:extern\s+"C"\s+)?fn\s+(?P<name>\w+)\s*\((?P<given>[^)]*)\)')
+FUNCTION = re.compile(r'\bpub\s+(?:extern\s+"C"\s+)?fn\s+(?P<name>\w+)(?:<[^>]*>)?\s*\((?P<given>[^)]*)\)')
 IMPLEMENTATION = re.compile(r'^impl\s+(\w+)[^{]*\{(.*?)^\}', re.M | re.S)
 
 
