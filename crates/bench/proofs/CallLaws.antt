@@ -1,10 +1,12 @@
 -- Any two results that meet a call's contract are equal.
+use Prim.Native.Nat.{ℕ}
+use mathlib.Core.List.{List}
 use mathlib.Core.Path.{_≡_, sym, _∙_}
 use Rattle.load.specs.declared.Load.{Load}
 use Rattle.bench.specs.declared.Bench.{Bench}
 use Rattle.bench.specs.declared.Moved.{Moved}
 use Rattle.bench.specs.declared.Ran.{Ran}
-use Rattle.bench.specs.Calls.{Fresh, NextMove, Runs}
+use Rattle.bench.specs.Calls.{Fresh, NextMove, Runs, RunsFile}
 
 pub Fresh-unique : (r s : Bench) → Fresh r → Fresh s → r ≡ s
 Fresh-unique r s p q = p ∙ sym q
@@ -15,3 +17,6 @@ NextMove-unique load bench r s p q = p ∙ sym q
 
 pub Runs-unique : (load : Load) (r s : Ran) → Runs load r → Runs load s → r ≡ s
 Runs-unique load r s p q = p ∙ sym q
+
+pub RunsFile-unique : (bs : List ℕ) (r s : Ran) → RunsFile bs r → RunsFile bs s → r ≡ s
+RunsFile-unique bs r s p q = p ∙ sym q

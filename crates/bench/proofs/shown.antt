@@ -2,4 +2,5 @@
 pub mod HeldLaws
 pub mod LookLaws
 pub mod CheckedLaws
+pub mod ShownRows
 pub mod LaterBoards

@@ -3,7 +3,6 @@ use crate::Bench;
 use load::Load;
 use plan::Board;
 use plan::look_of;
-use plan::with_look;
 use plan::zero_board;
 ghost use mathlib.Core.Path.{_≡_};
 ghost use mathlib.Core.Bool.{true};
@@ -14,7 +13,8 @@ ghost use Rattle.rules.specs.State.{shaped};
 ghost use Rattle.bench.specs.Held.{stateOf};
 ghost use Rattle.bench.specs.inner.Boards.{Shows};
 
-// Looks up every row of a load that was checked, for a bench that has its shape.
+// Looks up every row of a load that was checked, for a bench that has its shape, and stores each
+// look in the row's places: a board handed on by value would be copied for every row.
 pub fn board_of(load: Load, bench: Bench) -> Board
     requires { ⌜ checkLoad load ≡ Good ⌝ }
     requires { ⌜ shaped (viewOf load) (stateOf bench) ≡ true ⌝ }
@@ -25,7 +25,18 @@ pub fn board_of(load: Load, bench: Bench) -> Board
     for i in 0..rows {
         let row = load.row[i];
         let look = look_of(row, bench.finished[i], bench.end[i], bench.opening[i]);
-        board = with_look(board, i, look);
+        board.finished[i] = look.finished;
+        board.steps[i] = look.steps;
+        board.opening[i] = look.opening;
+        board.cost[i] = look.cost;
+        board.release[i] = look.release;
+        board.opened[i] = look.opened;
+        board.left[i] = look.left;
+        board.due[i] = look.due;
+        board.wait[i] = look.wait;
+        board.stays[i] = look.stays;
+        board.rest[i] = look.rest;
+        board.limit[i] = look.limit;
     }
     board
 }

@@ -1,14 +1,15 @@
 // The bench, by value: a fresh one, one move of it, and the run from fresh to Done. A move is
 // refused by the load's own numbers, by a state that does not have the load's shape (10), and with
-// the clock full (11); a run by the load's own numbers alone.
+// the clock full (11); a run by the load's own numbers alone, and that of a file by the file's.
 mod boards;
+mod files;
 mod lamps;
 mod moves;
-mod quiet;
 mod runs;
 mod shape;
 mod state;
 
+pub use files::run_file;
 use load::MOST_ROWS;
 pub use moves::next_move;
 use refusals::Checked;

@@ -9,7 +9,6 @@ use load::LAST_MOMENT;
 use load::Load;
 use load::MOST_ROWS;
 use load::check_load;
-use plan::Board;
 use plan::chosen_row;
 use plan::opening_after;
 use refusals::Checked;
@@ -18,32 +17,24 @@ use rules::Outcome;
 use rules::Slot;
 ghost use mathlib.Core.Path.{_≡_};
 ghost use mathlib.Core.Bool.{true};
-ghost use Prim.Native.Nat.{ℕ, _≤_, _<_};
-ghost use Rattle.counting.specs.Lists.{memberAt};
+ghost use Prim.Native.Nat.{_≤_, _<_};
 ghost use Rattle.refusals.specs.declared.Checked.the-variants.{Good};
-ghost use Rattle.load.specs.Load.{mostRows, mostSteps, lastMoment};
+ghost use Rattle.load.specs.Load.{mostRows, mostSteps};
 ghost use Rattle.load.specs.Check.{checkLoad};
 ghost use Rattle.load.specs.View.{viewOf};
 ghost use Rattle.rules.specs.State.{shaped};
 ghost use Rattle.rules.specs.Move.{move};
 ghost use Rattle.bench.specs.Held.{stateOf, handedOn, refusedWith};
-ghost use Rattle.plan.specs.Boards.{lookIn};
-ghost use Rattle.bench.specs.inner.Moves.{
-  slotOf,
-  finishedIn,
-  handedWith,
-  startedIn,
-  Stepped,
-};
+ghost use Rattle.bench.specs.inner.Moves.{slotOf, finishedBy, handedWith};
 ghost use Rattle.bench.specs.Calls.{NextMove};
 
 // Says whether all steps are finished.
-pub fn all_finished(board: Board, rows: usize) -> bool
+fn all_finished<'a>(finished: &'a [u8; MOST_ROWS], steps: &'a [u8; MOST_ROWS], rows: usize) -> bool
     requires { ⌜ rows ≤ mostRows ⌝ }
-    ensures { λ r. ⌜ r ≡ finishedIn board rows ⌝ }
+    ensures { λ r. ⌜ r ≡ finishedBy (now (finished .entry)) (now (steps .entry)) rows ⌝ }
 {
     for i in 0..rows {
-        if board.finished[i] < board.steps[i] {
+        if finished[i] < steps[i] {
             return false;
         }
     }
@@ -77,11 +68,10 @@ fn handed(bench: Bench, outcome: Outcome, opened: [bool; MOST_ROWS], rows: usize
 }
 
 // Done changes nothing.
-fn done(bench: Bench, board: Board, rows: usize) -> Moved
+fn done(bench: Bench, opened: [bool; MOST_ROWS], rows: usize) -> Moved
     requires { ⌜ rows ≤ mostRows ⌝ }
-    ensures { λ r. ⌜ r ≡ handedWith bench Outcome.Done (board .opened) rows ⌝ }
+    ensures { λ r. ⌜ r ≡ handedWith bench Outcome.Done opened rows ⌝ }
 {
-    let opened = board.opened;
     handed(bench, Outcome::Done, opened, rows)
 }
 
@@ -98,38 +88,9 @@ pub fn slot_of(i: usize, finished: u8, moment: u32) -> Slot
     }
 }
 
-// Starts a row's next step.
-fn started(bench: Bench, board: Board, rows: usize, i: usize) -> Moved
-    requires { ⌜ (rows ≤ mostRows) × (bench .clock ≤ lastMoment) ⌝ }
-    requires { ⌜ (i < rows) × (lookIn board i .finished < mostSteps)
-        × (memberAt (bench .finished) i ≡ lookIn board i .finished) ⌝ }
-    ensures { λ r. ⌜ r ≡ startedIn bench board rows i ⌝ }
-{
-    let clock = bench.clock;
-    let opening = opening_after(board.stays[i], board.opened[i], board.opening[i], clock);
-    let mut opened = board.opened;
-    opened[i] = board.stays[i];
-    let slot = slot_of(i, board.finished[i], clock);
-    let next = bench.start(i, board.cost[i], opening);
-    handed(next, Outcome::Start(slot), opened, rows)
-}
-
-// Starts the first candidate that passes, or moves the clock one tick.
-fn start_or_idle(bench: Bench, board: Board, rows: usize) -> Moved
-    requires { ⌜ (rows ≤ mostRows) × (bench .clock ≤ lastMoment) ⌝ }
-    requires { ⌜ ((i : ℕ) → i < rows → memberAt (bench .finished) i ≡ lookIn board i .finished) ⌝ }
-    ensures { λ r. ⌜ Stepped bench board rows r ⌝ }
-{
-    let i = chosen_row(board, bench.clock, rows);
-    if i < rows {
-        return started(bench, board, rows, i);
-    }
-    let opened = board.opened;
-    handed(bench.idle(), Outcome::Idle, opened, rows)
-}
-
 // Makes one move of a bench that has the shape of its load, which was checked: Done where all steps
-// are finished; a full clock with work left is refused (11).
+// are finished; a full clock with work left is refused (11); else the first candidate that passes
+// starts, or the clock moves one tick.
 fn move_shaped(load: Load, bench: Bench) -> Moved
     requires { ⌜ checkLoad load ≡ Good ⌝ }
     requires { ⌜ shaped (viewOf load) (stateOf bench) ≡ true ⌝ }
@@ -137,13 +98,38 @@ fn move_shaped(load: Load, bench: Bench) -> Moved
 {
     let board = board_of(load, bench);
     let rows = load.rows as usize;
-    if all_finished(board, rows) {
-        return done(bench, board, rows);
+    let clock = bench.clock;
+    let mut opened = board.opened;
+    if all_finished(&board.finished, &board.steps, rows) {
+        return done(bench, opened, rows);
     }
-    if LAST_MOMENT <= bench.clock {
+    if LAST_MOMENT <= clock {
         return refused(bench, Refusal::ClockFull);
     }
-    start_or_idle(bench, board, rows)
+    let i = chosen_row(
+        &board.finished,
+        &board.steps,
+        &board.opening,
+        &board.cost,
+        &board.release,
+        &board.opened,
+        &board.left,
+        &board.due,
+        &board.wait,
+        &board.stays,
+        &board.rest,
+        &board.limit,
+        clock,
+        rows,
+    );
+    if rows <= i {
+        return handed(bench.idle(), Outcome::Idle, opened, rows);
+    }
+    let opening = opening_after(board.stays[i], board.opened[i], board.opening[i], clock);
+    opened[i] = board.stays[i];
+    let slot = slot_of(i, board.finished[i], clock);
+    let next = bench.start(i, board.cost[i], opening);
+    handed(next, Outcome::Start(slot), opened, rows)
 }
 
 // Makes one move of a bench with a load that was checked; a state that does not have the load's

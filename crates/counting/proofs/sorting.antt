@@ -2,6 +2,7 @@
 pub mod SortLaws
 pub mod OrderLaws
 pub mod KeyLaws
+pub mod InsertLaws
 pub mod SmallestLaws
 pub mod ThresholdLaws
 pub mod PairLaws

@@ -13,6 +13,11 @@ pub data Found : Type 0 where
   at : ℕ → Found
   none : Found
 
+-- whether a number was found
+abbrev pub isFound : Found → Bool
+isFound (at i) = true
+isFound none = false
+
 -- the first member of a list that has p
 unfoldable pub found : (ℕ → Bool) → List ℕ → Found
 found p [] = none

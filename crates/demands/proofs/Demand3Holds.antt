@@ -13,6 +13,7 @@ use Rattle.load.specs.View.{viewOf}
 use Rattle.load.specs.Check.{checkLoad}
 use Rattle.load.proofs.AcceptableLaws.{check-acceptable}
 use Rattle.load_file.specs.declared.Reading.{Reading}
+use Rattle.load_file.proofs.CallLaws.{ReadLoad-answer, ReadLoad-load}
 use Rattle.rules.specs.declared.Slot.{Slot}
 use Rattle.rules.specs.Outcomes.{toldBy}
 use Rattle.rules.specs.Margins.{verdict}
@@ -27,6 +28,7 @@ use Rattle.rules.proofs.Demand3.{accepted-demand3, accepted-passes}
 use Rattle.bound.specs.declared.Judged.{Judged}
 use Rattle.bound.specs.Calls.{VerdictOf}
 use Rattle.bench.proofs.running.RunsLaws.{Runs-schedule}
+use Rattle.bench.proofs.running.FileRuns.{RunsFile-schedule}
 use Rattle.demands.specs.NumberLists.{OneOf, ofLateRow}
 use Rattle.demands.specs.Demand3.{Run, startsOf, RunKept, Demand3}
 use Rattle.demands.proofs.Demand2Holds.{file-back, demand2}
@@ -84,5 +86,8 @@ demand3 =
       of-loads = λ load good run. run-kept load (sym good) run;
       of-files = λ bs b r e g run.
           run-kept (r .load) (rw e (file-back bs b (ap (λ (x : Reading). x .answer) (sym e) ∙ g) .good)) run;
+      runs-of-files = λ bs b r e g ran runs.
+          RunsFile-schedule bs (sym (ReadLoad-answer bs r e) ∙ g) ran runs
+          ∙ ap (λ load. schedule (viewOf load)) (sym (ReadLoad-load bs r e g));
       runs = run-of;
     }

@@ -2,24 +2,26 @@
 -- To be read after the Calls of the crates that it names.
 use Prim.Native.Nat.{ℕ}
 use mathlib.Core.Bool.{Bool}
+use mathlib.Core.List.{List}
 use Rattle.load.specs.declared.Row.{Row}
 use Rattle.load.specs.declared.Window.{Window}
 use Rattle.load.specs.declared.Load.{Load}
 use Rattle.plan.specs.declared.Look.{Look}
 use Rattle.plan.specs.declared.Board.{Board}
+use Rattle.plan.specs.declared.Chosen.{Chosen}
+use Rattle.plan.specs.Boards.{boardOf}
 use Rattle.plan.specs.Calls.{
   OpenWindow,
   LookOf,
   ZeroBoard,
-  WithLook,
-  LowestStep,
   OpeningAfter,
   ChosenRow,
+  NextStart,
 }
 use Rattle.bench.specs.declared.Bench.{Bench}
 use Rattle.bench.specs.declared.Moved.{Moved}
 use Rattle.bench.specs.declared.Ran.{Ran}
-use Rattle.bench.specs.Calls.{Fresh, NextMove, Runs}
+use Rattle.bench.specs.Calls.{Fresh, NextMove, Runs, RunsFile}
 
 -- what is claimed of the relation of each call on plan and bench, for all that it is given
 pub record EveryBenchCall {ℓ} (Claim : (A : Type 0) → (A → Type 0) → Type ℓ) : Type ℓ where
@@ -28,12 +30,20 @@ pub record EveryBenchCall {ℓ} (Claim : (A : Type 0) → (A → Type 0) → Typ
   pub look-of : (row : Row) (finished end opening : ℕ)
       → Claim Look (LookOf row finished end opening)
   pub zero-board : Claim Board ZeroBoard
-  pub with-look : (board : Board) (i : ℕ) (look : Look) → Claim Board (WithLook board i look)
-  pub lowest-step : (board : Board) (rows : ℕ) → Claim ℕ (LowestStep board rows)
   pub opening-after : (stays opened : Bool) (opening clock : ℕ)
       → Claim ℕ (OpeningAfter stays opened opening clock)
-  pub chosen-row : (board : Board) (clock rows : ℕ) → Claim ℕ (ChosenRow board clock rows)
+  pub chosen-row : (finished steps opening cost release : List ℕ) (opened : List Bool)
+      (left due wait : List ℕ) (stays : List Bool) (rest limit : List ℕ) (clock rows : ℕ)
+      → Claim ℕ
+      (ChosenRow (boardOf finished steps opening cost release opened left due wait stays rest limit)
+      clock rows)
+  pub next-start : (finished steps opening cost release : List ℕ) (opened : List Bool)
+      (left due wait : List ℕ) (stays : List Bool) (rest limit : List ℕ) (clock rows : ℕ)
+      → Claim Chosen
+      (NextStart (boardOf finished steps opening cost release opened left due wait stays rest limit)
+      clock rows)
   -- bench
   pub fresh : Claim Bench Fresh
   pub next-move : (load : Load) (bench : Bench) → Claim Moved (NextMove load bench)
   pub run : (load : Load) → Claim Ran (Runs load)
+  pub run-file : (bs : List ℕ) → Claim Ran (RunsFile bs)

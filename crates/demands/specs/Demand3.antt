@@ -33,7 +33,7 @@ use Rattle.schedule.specs.Calls.{CheckSchedule}
 use Rattle.bench.specs.declared.Bench.{Bench}
 use Rattle.bench.specs.declared.Moved.{Moved}
 use Rattle.bench.specs.declared.Ran.{Ran}
-use Rattle.bench.specs.Calls.{Fresh, NextMove, Runs}
+use Rattle.bench.specs.Calls.{Fresh, NextMove, Runs, RunsFile}
 use Rattle.demands.specs.NumberLists.{OneOf, ofLateRow}
 use Rattle.demands.specs.Demand2.{SameMove}
 
@@ -100,5 +100,8 @@ pub record Demand3 : Type 0 where
   -- any file that is not refused
   pub of-files : (bs : List ℕ) → Bytes bs → (r : Reading) → ReadLoad bs r → r .answer ≡ Good
       → (run : Run (r .load)) → RunKept (r .load) run
+  -- whose call hands the schedule back as well
+  pub runs-of-files : (bs : List ℕ) → Bytes bs → (r : Reading) → ReadLoad bs r → r .answer ≡ Good
+      → (ran : Ran) → RunsFile bs ran → take (ran .count) (ran .slots) ≡ schedule (viewOf (r .load))
   -- and every load has a run
   pub runs : (load : Load) → Run load

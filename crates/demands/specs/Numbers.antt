@@ -23,7 +23,7 @@ use Rattle.schedule_file.specs.Calls.{WriteSchedule, WriteArray}
 use Rattle.bench.specs.declared.Bench.{Bench}
 use Rattle.bench.specs.declared.Moved.{Moved}
 use Rattle.bench.specs.declared.Ran.{Ran}
-use Rattle.bench.specs.Calls.{NextMove, Runs}
+use Rattle.bench.specs.Calls.{NextMove, Runs, RunsFile}
 use Rattle.reading_bench.specs.Calls.{BenchBound, BenchVerdict, BenchMargins, BenchSchedule}
 use Rattle.lines.specs.Calls.{PrintLines}
 use Rattle.demands.specs.NumberLists.{OneOf, ofLoad, ofFile, ofRange, ofWindow, ofOutput}
@@ -67,10 +67,11 @@ pub record Numbers : Type 0 where
       → WriteSchedule slots out r after → OneOf ofSlotWriting (numberGiven r)
   pub write-array : (slots : List Slot) (n : ℕ) (out : List ℕ) (r : Checked) (after : List ℕ)
       → WriteArray slots n out r after → OneOf ofSlotWriting (numberGiven r)
-  -- a move and a run
+  -- a move, and a run
   pub next-move : (load : Load) (bench : Bench) (r : Moved) → NextMove load bench r
       → OneOf ofMove (toldBy (r .outcome) .number)
   pub run : (load : Load) (r : Ran) → Runs load r → OneOf ofLoad (numberGiven (r .answer))
+  pub run-file : (bs : List ℕ) (r : Ran) → RunsFile bs r → OneOf ofFile (numberGiven (r .answer))
   -- the calls for C, and printing
   pub bench-bound : NumbersForC BenchBound
   pub bench-verdict : NumbersForC BenchVerdict

@@ -1,12 +1,12 @@
 -- A board with another look of row i shows that look at i, and at every other row what it showed; its lists stay 24
 -- places long. Past the last place nothing changes.
-use Prim.Native.Nat.{ℕ, _≤_, _<_}
+use Prim.Native.Nat.{ℕ, _<_}
 use mathlib.Core.Bool.{false}
 use mathlib.Core.Logic.{_≢_}
 use mathlib.Core.Path.{_≡_, refl, _∙_}
 use native.Mathlib.Omega.{arith}
 use lib.ListN.{length-set}
-use lib.Seq.{set-out, getD-set-same, getD-set-other}
+use lib.Seq.{getD-set-same, getD-set-other}
 use Rattle.plan.specs.declared.Look.{Look}
 use Rattle.plan.specs.declared.Board.{Board}
 use Rattle.plan.specs.Boards.{lookIn, boardWith, zeroBoard}
@@ -67,24 +67,6 @@ module _ (board : Board) (i : ℕ) (look : Look) where
           rest-length = length-set (board .rest) i (look .rest) ∙ wide .rest-length;
           limit-length = length-set (board .limit) i (look .limit) ∙ wide .limit-length;
         }
-
-    pub boardWith-past : 24 ≤ i → boardWith board i look ≡ board
-    unfolding boardWith
-    boardWith-past l =
-        rw (
-          set-out (board .finished) i (look .finished) (omega (arith, wide .finished-length)),
-          set-out (board .steps) i (look .steps) (omega (arith, wide .steps-length)),
-          set-out (board .opening) i (look .opening) (omega (arith, wide .opening-length)),
-          set-out (board .cost) i (look .cost) (omega (arith, wide .cost-length)),
-          set-out (board .release) i (look .release) (omega (arith, wide .release-length)),
-          set-out (board .opened) i (look .opened) (omega (arith, wide .opened-length)),
-          set-out (board .left) i (look .left) (omega (arith, wide .left-length)),
-          set-out (board .due) i (look .due) (omega (arith, wide .due-length)),
-          set-out (board .wait) i (look .wait) (omega (arith, wide .wait-length)),
-          set-out (board .stays) i (look .stays) (omega (arith, wide .stays-length)),
-          set-out (board .rest) i (look .rest) (omega (arith, wide .rest-length)),
-          set-out (board .limit) i (look .limit) (omega (arith, wide .limit-length)),
-        )
 
 pub zeroBoard-wide : Wide zeroBoard
 unfolding zeroBoard

@@ -2,7 +2,11 @@
 pub mod StoreLaws
 pub mod LookLaws
 pub mod BoardLaws
-pub mod StackLaws
+pub mod OrderLaws
+pub mod refused
 pub mod SearchLaws
+pub mod NextLaws
+pub mod MomentLaws
+pub mod TriedLaws
 pub mod CallLaws
 pub mod WorkedHold

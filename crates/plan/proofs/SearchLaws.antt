@@ -1,9 +1,9 @@
--- The search by step number and row: what has been passed over, one row and one step number at a time; and the lowest
--- unfinished step, which tells whether every row has finished all its steps of lower number.
+-- The search by step number and row: what has been passed over, and what is chosen then; and the lowest unfinished
+-- step, which tells whether every row has finished all its steps of lower number.
 use Prim.Native.Nat.{ℕ, _+_, min, _≤_, _<_}
 use mathlib.Core.Bool.{Bool, true, false, _&&_, _||_}
 use mathlib.Core.Path.{_≡_, refl, ap, sym, _∙_, subst}
-use native.Mathlib.Decide.{ℕ-discrete, decLt}
+use native.Mathlib.Decide.{decLt}
 use native.Mathlib.Omega.{arith}
 use borrow.Author.Tests.{ltb-true, leb-true, le-leb, lt-leb}
 use lib.Dec.{leb, ltb}
@@ -20,7 +20,7 @@ use Rattle.plan.specs.declared.Look.{Look}
 use Rattle.plan.specs.declared.Board.{Board}
 use Rattle.plan.specs.Boards.{lookIn}
 use Rattle.plan.specs.Choices.{belowIn, candidateBy, candidateIn, openingBy, passesIn, chosenIn, rowOr}
-use Rattle.plan.specs.Calls.{LowestStep, ChosenRow}
+use Rattle.plan.specs.Calls.{ChosenRow}
 
 -- a row that has finished all its steps lowers nothing
 pub lower-finished : (j lowest finished steps : ℕ) → steps ≤ finished
@@ -65,13 +65,6 @@ pub openingBy-le : (stays opened : Bool) (opening clock : ℕ) → clock ≤ las
 openingBy-le true true opening clock h = omega arith
 openingBy-le true false opening clock h = h
 openingBy-le false opened opening clock h = omega arith
-
--- the lowest unfinished step of at most 24 rows tells which steps are allowed
-pub lowest-tells : (board : Board) (rows r : ℕ) → rows ≤ mostRows → LowestStep board rows r → (j : ℕ) → j ≤ mostSteps
-    → allTo (belowIn board j) rows ≡ leb j r
-lowest-tells board rows r most lowest j l =
-    let e : min rows mostRows ≡ rows = omega arith in
-    subst (λ n. allTo (belowIn board j) n ≡ leb j r) e (lowest .below j l)
 
 -- what a candidate tells: its step is there, ready and allowed, and ends by 1,000,000
 module _ (look : Look) (clock : ℕ) (below : Bool) (e : candidateBy look clock below ≡ true) where
@@ -119,21 +112,6 @@ module _ (board : Board) (clock rows : ℕ) where
   -- and so are the first i rows with that number
   abbrev pub PassedRows : ℕ → ℕ → Type 0
   PassedRows step i = (k : ℕ) → k < i → lookIn board k .finished ≡ step → PassedRow k
-
-  pub passed-row : (step i : ℕ) → PassedRows step i → (lookIn board i .finished ≡ step → PassedRow i)
-      → PassedRows step (i + 1)
-  passed-row step i h here k l e =
-      elim (ℕ-discrete k i) [
-        | yes q ↦ subst PassedRow (sym q) (here (ap (λ x. lookIn board x .finished) (sym q) ∙ e))
-        | no q ↦ h k (omega arith) e
-      ]
-
-  pub passed-step : (step : ℕ) → PassedSteps step → PassedRows step rows → PassedSteps (step + 1)
-  passed-step step h g k l e =
-      elim (ℕ-discrete (lookIn board k .finished) step) [
-        | yes q ↦ g k l q
-        | no q ↦ h k l (omega arith)
-      ]
 
   -- below the lowest unfinished step no row has a step left
   pub passed-lowest : (lowest : ℕ) → ((j : ℕ) → j ≤ mostSteps → allTo (belowIn board j) rows ≡ leb j lowest)

@@ -1,11 +1,13 @@
 -- The worked cases of what is looked up and chosen hold, by computing.
 use mathlib.Core.Path.{refl}
 use Rattle.rules.proofs.worked.WorkedComputing.{computing}
+use Rattle.counting.specs.Searches.{firstTo}
 use Rattle.plan.specs.Looks.{lookOf}
 use Rattle.plan.specs.Boards.{boardWith, zeroBoard}
 use Rattle.plan.specs.Choices.{passesIn, chosenIn}
 use Rattle.plan.specs.WorkedLooks.{WorkedLooks}
 use Rattle.plan.specs.WorkedChoices.{WorkedChoices}
+use Rattle.plan.specs.WorkedStarts.{WorkedStarts}
 
 pub looks-hold : WorkedLooks
 unfolding computing lookOf
@@ -28,7 +30,6 @@ pub choices-hold : WorkedChoices
 unfolding computing boardWith zeroBoard passesIn chosenIn
 choices-hold =
     record {
-      not-put = refl;
       lower-step-first = refl;
       lower-row-first = refl;
       not-ready = refl;
@@ -39,4 +40,20 @@ choices-hold =
       none-there = refl;
       rows-past = refl;
       steps-past = refl;
+    }
+
+pub starts-hold : WorkedStarts
+unfolding computing boardWith zeroBoard passesIn chosenIn firstTo
+starts-hold =
+    record {
+      now = (refl, refl);
+      released = (refl, refl);
+      never = (refl, refl);
+      clock-past = (refl, refl);
+      refused-free = (refl, refl);
+      refused-before = (refl, refl);
+      refused-crowded = (refl, refl);
+      refused-own = (refl, refl);
+      refused-behind = (refl, refl);
+      refused-tie = (refl, refl);
     }

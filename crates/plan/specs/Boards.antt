@@ -1,12 +1,32 @@
 -- The board: what is looked up of every row of a load, one list a number, so that the search and
 -- the plan read plain lists. To be read after Looks.
 use Prim.Native.Nat.{ℕ}
-use mathlib.Core.Bool.{false}
+use mathlib.Core.Bool.{Bool, false}
+use mathlib.Core.List.{List}
 use lib.ListN.{set, replicate}
 use Rattle.counting.specs.Lists.{memberAt, isMarked}
 use Rattle.load.specs.Load.{mostRows}
 use Rattle.plan.specs.declared.Look.{Look}
 use Rattle.plan.specs.declared.Board.{Board}
+
+-- the board that lent lists make
+abbrev pub boardOf : List ℕ → List ℕ → List ℕ → List ℕ → List ℕ → List Bool → List ℕ → List ℕ
+    → List ℕ → List Bool → List ℕ → List ℕ → Board
+boardOf finished steps opening cost release opened left due wait stays rest limit =
+    record {
+      finished = finished;
+      steps = steps;
+      opening = opening;
+      cost = cost;
+      release = release;
+      opened = opened;
+      left = left;
+      due = due;
+      wait = wait;
+      stays = stays;
+      rest = rest;
+      limit = limit;
+    }
 
 -- what a board has of row i
 abbrev pub lookIn : Board → ℕ → Look

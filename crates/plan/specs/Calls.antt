@@ -1,20 +1,19 @@
 -- What each public call's contract says: one relation a call, over what it takes and what it gives.
 -- Numbers may be any: a number of rows past 24 is 24, `look_of` takes steps and moments past the
 -- last as the last, and all else is taken as it is. To be read after Choices. Rests on D79.
-use Prim.Native.Nat.{ℕ, min, _≤_}
+use Prim.Native.Nat.{ℕ, min}
 use mathlib.Core.Bool.{Bool}
 use mathlib.Core.Path.{_≡_}
-use lib.Dec.{leb}
-use Rattle.counting.specs.Sums.{allTo}
 use Rattle.load.specs.declared.Row.{Row}
 use Rattle.load.specs.declared.Window.{Window}
 use Rattle.load.specs.Load.{mostRows, mostSteps, lastMoment}
 use Rattle.load.specs.View.{openAt}
 use Rattle.plan.specs.declared.Look.{Look}
 use Rattle.plan.specs.declared.Board.{Board}
+use Rattle.plan.specs.declared.Chosen.{Chosen}
 use Rattle.plan.specs.Looks.{viewAlike, lookBy}
-use Rattle.plan.specs.Boards.{boardWith, zeroBoard}
-use Rattle.plan.specs.Choices.{belowIn, openingBy, chosenIn, rowOr}
+use Rattle.plan.specs.Boards.{zeroBoard}
+use Rattle.plan.specs.Choices.{openingBy, chosenIn, nextMoment, rowOr}
 
 -- open_window(row, finished): the window that is open once so many steps are finished, and a window
 -- of zeros where none is
@@ -30,16 +29,6 @@ LookOf row finished end opening r =
 abbrev pub ZeroBoard : Board → Type 0
 ZeroBoard r = r ≡ zeroBoard
 
--- with_look(board, i, look): the board with another look of row i, and as it was past row 24
-abbrev pub WithLook : Board → ℕ → Look → Board → Type 0
-WithLook board i look r = r ≡ boardWith board i look
-
--- lowest_step(board, rows): the lowest step that some row has not finished, 8 where there is none:
--- the rows have finished all their steps below a place exactly where that is not after it
-pub record LowestStep (board : Board) (rows r : ℕ) : Type 0 where
-  pub most : r ≤ mostSteps
-  pub below : (j : ℕ) → j ≤ mostSteps → allTo (belowIn board j) (min rows mostRows) ≡ leb j r
-
 -- opening_after(stays, opened, opening, clock): a row's opening once its next step is over
 abbrev pub OpeningAfter : Bool → Bool → ℕ → ℕ → ℕ → Type 0
 OpeningAfter stays opened opening clock r = r ≡ openingBy stays opened opening clock
@@ -49,3 +38,10 @@ OpeningAfter stays opened opening clock r = r ≡ openingBy stays opened opening
 abbrev pub ChosenRow : Board → ℕ → ℕ → ℕ → Type 0
 ChosenRow board clock rows r =
     r ≡ rowOr (min rows mostRows) (chosenIn board clock (min rows mostRows))
+
+-- next_start(board, clock, rows): the row whose next step starts next, and when: the first moment
+-- from the clock on at which a candidate passes, and the row that is chosen there
+abbrev pub NextStart : Board → ℕ → ℕ → Chosen → Type 0
+NextStart board clock rows r =
+    (r .moment ≡ nextMoment board clock (min rows mostRows))
+    × ChosenRow board (r .moment) rows (r .row)

@@ -1,14 +1,14 @@
 -- "Candidates are ready, allowed steps that would end by 1,000,000. They are tried by step number,
 -- then row; the first that passes the stacking plan starts": over a board, whose numbers may be
 -- any. To be read after Boards. Rests on D79.
-use Prim.Native.Nat.{ℕ, _+_, min}
+use Prim.Native.Nat.{ℕ, _+_, _-_, min}
 use mathlib.Core.Bool.{Bool, cond, _&&_, _||_}
 use mathlib.Core.List.{List}
 use lib.Dec.{leb, ltb}
 use lib.ListN.{set}
 use Rattle.counting.specs.Sums.{allTo}
 use Rattle.counting.specs.Lists.{memberAt, isMarked, numbersWhere}
-use Rattle.counting.specs.Searches.{Found, at, none, found}
+use Rattle.counting.specs.Searches.{Found, at, none, isFound, firstTo, found}
 use Rattle.counting.specs.Sorting.{sorted, byKey}
 use Rattle.load.specs.Load.{mostSteps, lastMoment}
 use Rattle.rules.specs.Plan.{Jobs, planBy}
@@ -77,6 +77,12 @@ unfoldable pub chosenIn : Board → ℕ → ℕ → Found
 chosenIn board clock rows =
     found (passesIn board clock rows)
     (sorted (byKey (memberAt (board .finished))) (numbersWhere (candidateIn board clock rows) rows))
+
+-- the first moment from the clock on at which a candidate passes; where none does before 1,000,000,
+-- that, or the clock past it
+abbrev pub nextMoment : Board → ℕ → ℕ → ℕ
+nextMoment board clock rows =
+    clock + firstTo (λ d. isFound (chosenIn board (clock + d) rows)) (lastMoment - clock)
 
 -- the row that was found, and another number where none was
 abbrev pub rowOr : ℕ → Found → ℕ

@@ -6,4 +6,5 @@ pub mod Choices
 pub mod Calls
 pub mod WorkedLooks
 pub mod WorkedChoices
+pub mod WorkedStarts
 pub mod inner

@@ -6,7 +6,7 @@ use mathlib.Core.Bool.{true, false}
 use Rattle.plan.specs.declared.Look.{Look}
 use Rattle.plan.specs.declared.Board.{Board}
 use Rattle.plan.specs.Boards.{boardWith, zeroBoard}
-use Rattle.plan.specs.Calls.{WithLook, ChosenRow}
+use Rattle.plan.specs.Calls.{ChosenRow}
 
 -- a look of a row with no window ahead: steps finished and in all, cost and release
 abbrev pub free : ℕ → ℕ → ℕ → ℕ → Look
@@ -45,28 +45,26 @@ inside due =
     }
 
 -- a board of two rows
-abbrev pub boardOf : Look → Look → Board
-boardOf first second = boardWith (boardWith zeroBoard 0 first) 1 second
+abbrev pub twoRows : Look → Look → Board
+twoRows first second = boardWith (boardWith zeroBoard 0 first) 1 second
 
 -- a board, and which row is chosen
 pub record WorkedChoices : Type 0 where
-  -- past row 24 no look is put
-  pub not-put : WithLook zeroBoard 24 (inside 9) zeroBoard
   -- both are ready, and row 1's second step waits for row 2's first
-  pub lower-step-first : ChosenRow (boardOf (free 1 2 3 5) (free 0 1 2 0)) 5 2 1
+  pub lower-step-first : ChosenRow (twoRows (free 1 2 3 5) (free 0 1 2 0)) 5 2 1
   -- of two first steps the row decides
-  pub lower-row-first : ChosenRow (boardOf (free 0 1 3 5) (free 0 1 2 0)) 5 2 0
+  pub lower-row-first : ChosenRow (twoRows (free 0 1 3 5) (free 0 1 2 0)) 5 2 0
   -- row 1 is ready at 5 and not before, and then row 2 is tried alone
-  pub not-ready : ChosenRow (boardOf (free 0 1 3 5) (free 0 1 2 0)) 4 2 1
+  pub not-ready : ChosenRow (twoRows (free 0 1 3 5) (free 0 1 2 0)) 4 2 1
   -- a first step is tried before an embedded one, and passes: 5 + 2, then 3 more, is due
-  pub embedded-later : ChosenRow (boardOf (inside 10) (free 0 1 2 0)) 5 2 1
+  pub embedded-later : ChosenRow (twoRows (inside 10) (free 0 1 2 0)) 5 2 1
   -- one moment less, and it does not pass: the embedded step is chosen
-  pub refused-by-plan : ChosenRow (boardOf (inside 9) (free 0 1 2 0)) 5 2 0
+  pub refused-by-plan : ChosenRow (twoRows (inside 9) (free 0 1 2 0)) 5 2 0
   -- a step that would end past 1,000,000 is no candidate
-  pub ends-in-time : ChosenRow (boardOf (free 0 1 3 5) (free 1 1 0 0)) 999997 2 0
-  pub ends-too-late : ChosenRow (boardOf (free 0 1 3 5) (free 1 1 0 0)) 999998 2 2
+  pub ends-in-time : ChosenRow (twoRows (free 0 1 3 5) (free 1 1 0 0)) 999997 2 0
+  pub ends-too-late : ChosenRow (twoRows (free 0 1 3 5) (free 1 1 0 0)) 999998 2 2
   -- where no row is chosen it is the number of rows, at most 24
   pub none-there : ChosenRow zeroBoard 0 2 2
   pub rows-past : ChosenRow zeroBoard 0 25 24
   -- a row past its eighth step has no next one, whatever number of steps it tells
-  pub steps-past : ChosenRow (boardOf (free 8 9 1 0) (free 1 1 0 0)) 0 2 2
+  pub steps-past : ChosenRow (twoRows (free 8 9 1 0) (free 1 1 0 0)) 0 2 2

@@ -1,3 +1,7 @@
 -- What the parts of the code give, for private functions alone: nothing here needs to be believed.
 pub mod Widths
-pub mod Stacks
+pub mod Orders
+pub mod Passing
+pub mod Searching
+pub mod Walks
+pub mod Staying

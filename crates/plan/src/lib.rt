@@ -3,15 +3,20 @@
 mod boards;
 mod choices;
 mod lookups;
+mod moments;
+mod orders;
+mod passing;
 mod ranges;
-mod stacks;
+mod searching;
+mod staying;
+mod walking;
 
-pub use boards::with_look;
 pub use boards::zero_board;
 pub use choices::chosen_row;
-pub use choices::lowest_step;
+pub use choices::next_start;
 pub use choices::opening_after;
 use load::MOST_ROWS;
+use load::MOST_STEPS;
 pub use lookups::look_of;
 pub use lookups::open_window;
 
@@ -51,9 +56,43 @@ pub struct Board {
     pub limit: [u16; MOST_ROWS],
 }
 
-// What the plan has come to: the rows whose open windows are still to be finished, and the moment
-// at which those before them are.
-pub(crate) struct Stack {
-    pub waiting: [bool; MOST_ROWS],
+// The row whose next step starts, and the moment at which it does.
+pub struct Chosen {
+    pub row: usize,
+    pub moment: u32,
+}
+
+// The moment from which each row is tried, and which step numbers those rows have that are tried at
+// some moment.
+pub(crate) struct Tried {
+    pub from: [u32; MOST_ROWS],
+    pub numbers: [bool; MOST_STEPS],
+}
+
+// How far the search has come: a row, or the number of rows where it is past all of them; the step
+// number it is at; and the first moment at which a row before that place is tried.
+pub(crate) struct Pick {
+    pub row: usize,
+    pub step: u8,
+    pub next: u32,
+}
+
+// The rows with an open window, in the order of the stack: the first `count` places count.
+pub(crate) struct Order {
+    pub row: [u8; MOST_ROWS],
+    pub count: usize,
+}
+
+// What the plan has come to: the moment at which the windows gone over so far are finished.
+pub(crate) struct Plan {
     pub time: u64,
+}
+
+// What a walk over the open rows has come to: the place behind those that it went over, the moment
+// at which they are finished, the sum of what was left of them, and whether one was late.
+pub(crate) struct Walked {
+    pub place: usize,
+    pub time: u64,
+    pub work: u64,
+    pub late: bool,
 }

@@ -20,23 +20,28 @@ use Rattle.load_file.specs.Calls.{ReadLoad}
 use Rattle.load_file.proofs.CallLaws.{ReadLoad-answer, ReadLoad-load, ReadLoad-accepted}
 use Rattle.reading_bench.specs.Calls.{Numbered, ForC}
 
+-- a refused file is told by its number, and the output stays
+pub refused-file-for-c : (bs : List ℕ) (answer : View → List ℕ) (out : List ℕ) (refusal : Refusal) (r : ℕ)
+    → fileFault bs ≡ Refused refusal → r ≡ numberOf refusal → ForC answer bs out r out
+refused-file-for-c bs answer out refusal r e n =
+    record {
+      found = Refused refusal;
+      given = refused-given (fileFault bs) (answer (viewOf (loadIn bs))) out refusal e;
+      number-is = n;
+    }
+
 module _ (bs : List ℕ) (reading : Reading) (read : ReadLoad bs reading) where
   found : reading .answer ≡ fileFault bs
   found = ReadLoad-answer bs reading read
 
-  -- a refused file is told by its number, and the output stays
+  -- the same, of a file that was read
   pub refused-for-c : (answer : View → List ℕ) (out : List ℕ) (refusal : Refusal) (r : ℕ)
       → reading .answer ≡ Refused refusal → r ≡ numberOf refusal → ForC answer bs out r out
-  refused-for-c answer out refusal r e n =
-      record {
-        found = Refused refusal;
-        given = refused-given (fileFault bs) (answer (viewOf (loadIn bs))) out refusal (sym found ∙ e);
-        number-is = n;
-      }
+  refused-for-c answer out refusal r e n = refused-file-for-c bs answer out refusal r (sym found ∙ e) n
 
   module _ (inside : (at : ℕ) → Fits w8 (byteAt bs at)) (good : reading .answer ≡ Good) where
     -- the load of a file that is not refused passes its check
-    pub load-good : checkLoad (reading .load) ≡ Good
+    load-good : checkLoad (reading .load) ≡ Good
     load-good = ReadLoad-accepted bs reading read (λ at. omega (arith, inside at)) good
 
     -- what a call gives of the answer for the load that it read

@@ -1,7 +1,7 @@
 // The calls for C. Each is lent the bytes of a load file and an output, and gives one number: what
 // is wrong with the file, 1 to 8; then 9, where the output is shorter than the answer; else 0. A
 // refusal alters no byte, and bytes past the answer stay. A refused file is looked at no further.
-use bench::run;
+use bench::run_file;
 use bound::bound_of;
 use bound::margin_bytes;
 use bound::margins_of;
@@ -84,11 +84,10 @@ pub extern "C" fn bench_margins(load: &[u8], out: &mut [u8]) -> u32
 pub extern "C" fn bench_schedule(load: &[u8], out: &mut [u8]) -> u32
     ensures { λ r. ⌜ BenchSchedule (now (load .entry)) (now (out .entry)) r (now (out .exit)) ⌝ }
 {
-    let read = read_load(load);
-    let found = read.answer;
+    let ran = run_file(load);
+    let found = ran.answer;
     match found {
         Checked::Good => {
-            let ran = run(read.load);
             let slots = ran.slots;
             number_given(write_array(slots, ran.count, out))
         }

@@ -8,7 +8,7 @@ use native.Mathlib.Decide.{decLt}
 use native.Mathlib.Omega.{arith}
 use lib.Dec.{leb}
 use Rattle.counting.specs.Sums.{allTo, bit, countTo}
-use Rattle.counting.specs.Lists.{isMarked}
+use Rattle.counting.specs.Lists.{memberAt, isMarked}
 use Rattle.counting.specs.Searches.{at, none}
 use Rattle.counting.proofs.sums.SumLaws.{sumTo-ext}
 use Rattle.counting.proofs.tests.TestLaws.{allTo-ext}
@@ -33,8 +33,9 @@ use Rattle.bench.specs.Held.{stateOf, benchOf, HeldBench, benchAt, hande
 use Rattle.plan.specs.Boards.{lookIn}
 use Rattle.bench.specs.inner.Boards.{Shows}
 use Rattle.plan.specs.Choices.{openingIn, openAfter, chosenIn}
+use Rattle.plan.specs.Calls.{ChosenRow}
 use Rattle.bench.specs.inner.Moves.{benchStarted, slotOf, finishedIn, handedWith, startedIn, Stepped}
-use Rattle.plan.proofs.SearchLaws.{search-row, search-none}
+use Rattle.plan.proofs.SearchLaws.{candidate-more, chosen-there, search-row, search-none}
 use Rattle.bench.proofs.shown.HeldLaws.{benchOf-stateOf, ticked-is, benchStarted-is}
 use Rattle.bench.proofs.choice.JoinLaws.{rows-are, finished-same, steps-same, cost-same, opened-same}
 use Rattle.bench.proofs.choice.ChoiceLaws.{opening-after, open-after, chosen-same}
@@ -111,6 +112,15 @@ module _ (load : Load) (bench : Bench) (board : Board) (shows : Shows load bench
   open-ticked : (k : ℕ) → k < load .rows → isMarked (board .opened) k ≡ isOpen L (ticked s) k
   unfolding ticked
   open-ticked = opened-same load bench board shows
+
+  -- the next step of the row that the search gives is there
+  pub chosen-next : (i : ℕ) → ChosenRow board (bench .clock) (load .rows) i → i < load .rows
+      → (lookIn board i .finished < 8) × (memberAt (bench .finished) i < 8)
+  chosen-next i c l =
+      let found = search-row board (bench .clock) (load .rows) most i c l in
+      let more = candidate-more (lookIn board i) (bench .clock) _
+      (chosen-there board (bench .clock) (load .rows) i found .1) in
+      (omega (arith, more), omega (arith, more, finished-same load bench board shows i l))
 
   module _ (e : shaped L s ≡ true) (d : allFinished L s ≡ false) (h : bench .clock < lastMoment) where
     idle-move : chosen L s ≡ none

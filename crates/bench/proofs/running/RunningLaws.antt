@@ -1,19 +1,23 @@
 -- What holds at every turn of the run: the board shows a state of the run, the slots so far are the first of the
--- schedule, and the starts of the moves that are left are its other slots. It holds at first; a stretch of ticks at
--- which nothing is chosen keeps it; once all is finished, the slots so far are the schedule.
-use Prim.Native.Nat.{ℕ, _+_, _-_, _≤_, _<_}
-use mathlib.Core.Bool.{true, false}
+-- schedule, and the starts of the moves that are left are its other slots. It holds at first, and at the next start,
+-- before which nothing is chosen; once there are as many slots as the schedule has, they are the schedule.
+use Prim.Native.Nat.{ℕ, _+_, _-_, min, _≤_, _<_}
+use mathlib.Core.Bool.{Bool, true, false}
 use mathlib.Core.List.{List, [], _++_, append-nil}
 use mathlib.Core.Path.{_≡_, refl, ap, ap₂, sym, _∙_, subst}
-use native.Mathlib.Decide.{ℕ-discrete}
+use native.Mathlib.Decide.{decLt}
 use native.Mathlib.Omega.{arith}
-use lib.ListN.{length, replicate}
-use Rattle.counting.specs.Lists.{filled}
-use Rattle.counting.specs.Searches.{none}
+use lib.ListN.{length, length-append, replicate}
+use Rattle.counting.specs.Sums.{sumTo}
+use Rattle.counting.specs.Lists.{memberAt, filled}
+use Rattle.counting.specs.Searches.{none, isFound}
+use Rattle.counting.proofs.sums.SumLaws.{sumTo-ext}
+use Rattle.counting.proofs.tests.TestLaws.{true-false}
 use Rattle.counting.proofs.lists.ListLaws.{filled-none}
+use Rattle.counting.proofs.searches.FirstToLaws.{firstTo-first}
 use Rattle.refusals.specs.declared.Checked.the-variants.{Good}
 use Rattle.load.specs.declared.Load.{Load}
-use Rattle.load.specs.Load.{lastMoment}
+use Rattle.load.specs.Load.{mostRows, lastMoment}
 use Rattle.load.specs.View.{View, viewOf}
 use Rattle.load.specs.Check.{checkLoad}
 use Rattle.load.proofs.AcceptableLaws.{check-acceptable}
@@ -28,22 +32,24 @@ use Rattle.rules.proofs.invariant.WorkedSince.{workedSince}
 use Rattle.rules.proofs.invariant.Setting.{Setting}
 use Rattle.rules.proofs.invariant.FullSetting.{fullSetting}
 use Rattle.rules.proofs.invariant.MoveKeeps.{Accounted, fresh-accounted, accounted-time, accounted-shaped}
-use Rattle.rules.proofs.run.StretchLaws.{later, Quiet, starts-done, quiet-accounted, quiet-starts}
+use Rattle.rules.proofs.run.StretchLaws.{Quiet, starts-done, quiet-accounted, quiet-starts}
 use Rattle.bench.specs.declared.Bench.{Bench}
 use Rattle.plan.specs.declared.Board.{Board}
 use Rattle.bench.specs.Held.{stateOf, benchOf, HeldBench, benchAt}
 use Rattle.bench.specs.inner.Boards.{Shows}
-use Rattle.plan.specs.Choices.{candidateIn, passesIn, chosenIn}
-use Rattle.plan.specs.Calls.{ChosenRow}
+use Rattle.plan.specs.declared.Chosen.{Chosen}
+use Rattle.plan.specs.Choices.{chosenIn, nextMoment}
+use Rattle.plan.specs.Calls.{NextStart}
 use Rattle.bench.specs.inner.Moves.{finishedIn}
-use Rattle.bench.specs.inner.Running.{QuietTo}
 use Rattle.bench.specs.Runs.{ranWith}
 use Rattle.bench.proofs.shown.HeldLaws.{benchOf-held, fresh-state, benchAt-held}
-use Rattle.plan.proofs.SearchLaws.{none-chosen, search-none}
+use Rattle.plan.proofs.SearchLaws.{search-none}
+use Rattle.plan.proofs.NextLaws.{QuietBefore, nextMoment-quiet}
+use Rattle.bench.proofs.choice.JoinLaws.{rows-are, steps-same}
 use Rattle.bench.proofs.choice.ChoiceLaws.{chosen-same}
 use Rattle.bench.proofs.choice.NextLaws.{finished-is}
-use Rattle.bench.proofs.running.CrowdLaws.{crowded-refused}
 use Rattle.bench.proofs.shown.LaterBoards.{shows-at}
+use Rattle.bench.proofs.running.RunsLaws.{schedule-counted}
 
 -- the run at a turn: its bench is in no place of memory
 pub record Running (load : Load) (board : Board) (clock count : ℕ) (slots : List Slot) : Type 0 where
@@ -73,6 +79,14 @@ module _ (load : Load) (accepted : checkLoad load ≡ Good) (most : load .rows �
 
   pub fresh-shaped : shaped L (stateOf (benchOf fresh)) ≡ true
   fresh-shaped = rw fresh-state (accounted-shaped L fresh full fresh-kept)
+
+  -- a board that shows the load has as many steps as the schedule has slots
+  pub steps-counted : (bench : Bench) (board : Board) → Shows load bench board
+      → sumTo (memberAt (board .steps)) (load .rows) ≡ length (schedule L)
+  steps-counted bench board shows =
+      sumTo-ext (memberAt (board .steps)) (L .steps) (load .rows) (steps-same load bench board shows)
+      ∙ ap (sumTo (L .steps)) (sym (rows-are load bench board shows))
+      ∙ sym (schedule-counted load accepted)
 
   -- before the first move
   pub running-fresh : (board : Board) → Shows load (benchOf fresh) board
@@ -104,15 +118,30 @@ module _ (load : Load) (accepted : checkLoad load ≡ Good) (most : load .rows �
     pub running-early : finishedIn board (load .rows) ≡ false → clock < lastMoment
     running-early nd = omega (arith, accounted-time L s full (r .kept) (sym asked ∙ nd), r .clock-is)
 
+    -- while the schedule has more slots, work is left
+    pub running-more : count < length (schedule L) → finishedIn board (load .rows) ≡ false
+    running-more h = go (finishedIn board (load .rows)) refl
+      where
+        go : (b : Bool) → finishedIn board (load .rows) ≡ b → b ≡ false
+        go false e = refl
+        go true e =
+            let whole : schedule L ≡ r .before =
+            r .schedule-is
+            ∙ (ap (λ l. r .before ++ l) (starts-done L full (r .moves) s (r .kept) (sym asked ∙ e))
+            ∙ append-nil (r .before)) in
+            absurd (omega (arith, ap length whole, r .count-is))
+
     -- after the last
-    pub running-done : finishedIn board (load .rows) ≡ true
+    pub running-done : length (schedule L) ≤ count
         → record { answer = Good; count = count; slots = slots } ≡ ranWith Good (schedule L)
-    running-done d =
-        let whole : schedule L ≡ r .before =
-        r .schedule-is
-        ∙ (ap (λ l. r .before ++ l) (starts-done L full (r .moves) s (r .kept) (sym asked ∙ d))
-        ∙ append-nil (r .before)) in
-        let counted : count ≡ length (schedule L) = sym (r .count-is) ∙ ap length (sym whole) in
+    running-done h =
+        let counted : count ≡ length (schedule L) =
+        omega (
+          arith,
+          ap length (r .schedule-is),
+          length-append (r .before) (starts L (r .moves) s),
+          r .count-is,
+        ) in
         ap₂ (λ n l. record { answer = Good; count = n; slots = l }) counted
         (r .slots-are ∙ ap (λ n. filled (slotAt (schedule L)) n slotPlaces noSlot) counted)
 
@@ -139,34 +168,55 @@ module _ (load : Load) (accepted : checkLoad load ≡ Good) (most : load .rows �
           slots-are = r .slots-are;
         }
 
-    -- to a moment before which nothing is chosen
-    pub running-on : finishedIn board (load .rows) ≡ false → (i t : ℕ) → load .rows ≤ i
-        → ChosenRow board clock (load .rows) i → QuietTo board clock (load .rows) t → Running load board t count slots
-    running-on nd i t h c q =
-        subst (λ m. Running load board m count slots) on (running-idle nd (t - clock) (omega (arith, q .most)) quiet)
-      where
-        on : clock + (t - clock) ≡ t
-        on = omega (arith, q .later)
+    -- to the next start
+    module _ (nd : finishedIn board (load .rows) ≡ false) (next : Chosen)
+        (n : NextStart board clock (load .rows) next) where
+      moment-is : next .moment ≡ nextMoment board clock (load .rows)
+      moment-is =
+          let e : min (load .rows) mostRows ≡ load .rows = omega arith in
+          subst (λ rows. next .moment ≡ nextMoment board clock rows) e (n .0)
 
-        shown-at : (m : ℕ) → Shows load (benchAt (r .bench) m) board
-        shown-at m = shows-at load (r .bench) board (r .shows) m
+      before-next : QuietBefore board clock (load .rows) (next .moment)
+      before-next =
+          subst (QuietBefore board clock (load .rows)) (sym moment-is) (nextMoment-quiet board clock (load .rows))
 
-        refused : (m : ℕ) → clock < m → m < t → (k : ℕ) → k < load .rows
-            → candidateIn board m (load .rows) k ≡ true → passesIn board m (load .rows) k ≡ false
-        refused m a b k l e =
-            crowded-refused board clock (load .rows) k (r .shows .wide) most l (q .quiet m k a b l e) m (omega arith)
+      pub running-on : Running load board (next .moment) count slots
+      running-on =
+          subst (λ m. Running load board m count slots) on
+          (running-idle nd (next .moment - clock) (omega (arith, before-next .most, running-early nd)) quiet)
+        where
+          on : clock + (next .moment - clock) ≡ next .moment
+          on = omega (arith, before-next .from)
 
-        none-at : (m : ℕ) → clock ≤ m → m < t → chosen L (stateOf (benchAt (r .bench) m)) ≡ none
-        none-at m a b =
-            elim (ℕ-discrete m clock) [
-              | yes e ↦
-                  sym (chosen-same load (benchAt (r .bench) m) board (shown-at m) most)
-                  ∙ ap (λ x. chosenIn board x (load .rows)) e
-                  ∙ search-none board clock (load .rows) most i c h
-              | no e ↦
-                  sym (chosen-same load (benchAt (r .bench) m) board (shown-at m) most)
-                  ∙ none-chosen board m (load .rows) (refused m (omega arith) b)
-            ]
+          none-at : (m : ℕ) → clock ≤ m → m < next .moment → chosen L (stateOf (benchAt (r .bench) m)) ≡ none
+          none-at m a b =
+              sym (chosen-same load (benchAt (r .bench) m) board (shows-at load (r .bench) board (r .shows) m) most)
+              ∙ before-next .none-before m a b
 
-        quiet : Quiet L s (t - clock)
-        quiet d l = none-at (r .bench .clock + d) (omega (arith, r .clock-is)) (omega (arith, r .clock-is))
+          quiet : Quiet L s (next .moment - clock)
+          quiet d l = none-at (r .bench .clock + d) (omega (arith, r .clock-is)) (omega (arith, r .clock-is))
+
+-- with work left there is a next start: else the clock would go on to the last moment
+module _ (load : Load) (accepted : checkLoad load ≡ Good) (most : load .rows ≤ 24) (board : Board) (clock count : ℕ)
+    (slots : List Slot) (r : Running load board clock count slots) (nd : finishedIn board (load .rows) ≡ false)
+    (next : Chosen) (n : NextStart board clock (load .rows) next) where
+  early : next .moment < lastMoment
+  early =
+      running-early load accepted most board (next .moment) count slots
+      (running-on load accepted most board clock count slots r nd next n) nd
+
+  starts-then : isFound (chosenIn board (next .moment) (load .rows)) ≡ true
+  starts-then =
+      let e = moment-is load accepted most board clock count slots r nd next n in
+      let first = firstTo-first (λ d. isFound (chosenIn board (clock + d) (load .rows))) (lastMoment - clock) in
+      subst (λ m. isFound (chosenIn board m (load .rows)) ≡ true) (sym e) (first .has (omega (arith, early, e)))
+
+  pub running-row : next .row < load .rows
+  running-row =
+      elim (decLt (next .row) (load .rows)) [
+        | yes l ↦ l
+        | no l ↦
+            absurd
+            (true-false _ starts-then
+            (ap isFound (search-none board (next .moment) (load .rows) most (next .row) (n .1) (omega arith))))
+      ]

@@ -1,7 +1,7 @@
 -- A run hands back the schedule: the first slots of its array, as many as it counts, are the schedule of the load, at
 -- most 192, and a load that is refused has none.
 use Prim.Native.Nat.{_≤_}
-use mathlib.Core.List.{[]}
+use mathlib.Core.List.{List, []}
 use mathlib.Core.Path.{_≡_, refl, ap, _∙_}
 use native.Mathlib.Omega.{arith}
 use lib.ListN.{length, take}
@@ -10,29 +10,34 @@ use Rattle.counting.specs.Lists.{listTo}
 use Rattle.counting.proofs.lists.ListLaws.{listTo-length}
 use Rattle.counting.proofs.sums.SumLaws.{sumTo-le}
 use Rattle.refusals.specs.declared.Refusal.{Refusal}
+use Rattle.refusals.specs.declared.Checked.{Checked}
 use Rattle.refusals.specs.declared.Checked.the-variants.{Good, Refused}
 use Rattle.refusals.proofs.GivenLaws.{ifGood-good, ifGood-refused}
 use Rattle.load.specs.declared.Load.{Load}
 use Rattle.load.specs.Load.{mostSteps}
 use Rattle.load.specs.View.{viewOf, stepsInAll}
-use Rattle.load.specs.Check.{checkLoad}
+use Rattle.load.specs.Check.{checkLoad, forBench}
 use Rattle.load.proofs.AcceptableLaws.{check-acceptable}
+use Rattle.rules.specs.declared.Slot.{Slot}
 use Rattle.rules.specs.Slots.{noSlot, slotAt}
 use Rattle.rules.specs.Run.{schedule}
 use Rattle.rules.proofs.invariant.RunnableLaws.{acceptable-runnable}
 use Rattle.rules.proofs.run.RunMade.{schedule-is-whole}
 use Rattle.bench.specs.declared.Ran.{Ran}
-use Rattle.bench.specs.Runs.{scheduleOr}
+use Rattle.bench.specs.Runs.{scheduleOr, ranWith}
 use Rattle.bench.specs.Calls.{Runs}
 use Rattle.plan.proofs.StoreLaws.{listTo-read}
 
 -- the slots that a run counts are those of the list that it was made from
-pub Runs-taken : (load : Load) (r : Ran) → Runs load r → take (r .count) (r .slots) ≡ scheduleOr load
-Runs-taken load r e =
-    let slots = scheduleOr load in
+pub ranWith-taken : (answer : Checked) (slots : List Slot) (r : Ran) → r ≡ ranWith answer slots
+    → take (r .count) (r .slots) ≡ slots
+ranWith-taken answer slots r e =
     ap (λ (a : Ran). take (a .count) (a .slots)) e
     ∙ take-at (listTo (slotAt slots) (length slots)) _ (length slots) (listTo-length (slotAt slots) (length slots))
     ∙ listTo-read noSlot slots (length slots) refl
+
+pub Runs-taken : (load : Load) (r : Ran) → Runs load r → take (r .count) (r .slots) ≡ scheduleOr load
+Runs-taken load r e = ranWith-taken (forBench load) (scheduleOr load) r e
 
 pub scheduleOr-refused : (load : Load) (refusal : Refusal) → checkLoad load ≡ Refused refusal → scheduleOr load ≡ []
 unfolding scheduleOr

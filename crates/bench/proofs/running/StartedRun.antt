@@ -11,7 +11,8 @@ use Rattle.counting.specs.Searches.{at}
 use Rattle.counting.proofs.lists.ListLaws.{filled-stored}
 use Rattle.refusals.specs.declared.Checked.the-variants.{Good}
 use Rattle.load.specs.declared.Load.{Load}
-use Rattle.load.specs.Load.{lastMoment, rowAt}
+use Rattle.load.specs.declared.Row.{Row}
+use Rattle.load.specs.Load.{mostSteps, lastMoment, rowAt}
 use Rattle.load.specs.View.{View, viewOf}
 use Rattle.load.specs.Check.{checkLoad}
 use Rattle.load.proofs.AcceptableLaws.{check-acceptable}
@@ -31,13 +32,14 @@ use Rattle.bench.specs.declared.Bench.{Bench}
 use Rattle.plan.specs.declared.Look.{Look}
 use Rattle.plan.specs.declared.Board.{Board}
 use Rattle.bench.specs.Held.{stateOf}
+use Rattle.plan.specs.Looks.{lookBy}
 use Rattle.plan.specs.Boards.{lookIn, boardWith}
-use Rattle.plan.specs.Choices.{candidateIn, chosenIn}
+use Rattle.plan.specs.Choices.{openingIn, candidateIn, chosenIn}
 use Rattle.plan.specs.Calls.{ChosenRow}
 use Rattle.bench.specs.inner.Moves.{slotOf, finishedIn}
 use Rattle.bench.specs.inner.Running.{lookAfter}
 use Rattle.bench.proofs.shown.HeldLaws.{benchStarted-held}
-use Rattle.plan.proofs.SearchLaws.{candidate-more, candidate-ends, chosen-there, search-row}
+use Rattle.plan.proofs.SearchLaws.{openingBy-le, candidate-more, candidate-ends, chosen-there, search-row}
 use Rattle.bench.proofs.choice.JoinLaws.{finished-same, steps-same, cost-same}
 use Rattle.bench.proofs.choice.ChoiceLaws.{chosen-same}
 use Rattle.bench.proofs.choice.NextLaws.{finished-is}
@@ -50,10 +52,24 @@ pub record Startable (board : Board) (clock count i : ℕ) : Type 0 where
   pub place : i < 24
   pub more : lookIn board i .finished < 8
   pub ends : clock + lookIn board i .cost ≤ lastMoment
-  -- the clock moves on
-  pub long : 1 ≤ lookIn board i .cost
   -- there is a place for the slot
   pub room : count < 192
+
+-- none of the numbers by which the row is looked up counts as less
+pub started-look : (row : Row) (board : Board) (clock count i end opening : ℕ) → Startable board clock count i
+    → end ≡ clock + lookIn board i .cost → opening ≡ openingIn board clock i
+    → lookBy row (min (lookIn board i .finished + 1) mostSteps) (min end lastMoment) (min opening lastMoment)
+    ≡ lookAfter row board clock i
+started-look row board clock count i end opening goes e f =
+    let look = lookIn board i in
+    let early : clock ≤ lastMoment = omega (arith, goes .ends) in
+    let small : openingIn board clock i ≤ lastMoment =
+    openingBy-le (look .stays) (look .opened) (look .opening) clock early in
+    let g : min (look .finished + 1) mostSteps ≡ look .finished + 1 = omega (arith, goes .more) in
+    let h : min end lastMoment ≡ clock + look .cost = omega (arith, goes .ends, e) in
+    let o : min opening lastMoment ≡ openingIn board clock i = omega (arith, small, f) in
+    ap (λ n. lookBy row n (min end lastMoment) (min opening lastMoment)) g
+    ∙ ap₂ (lookBy row (look .finished + 1)) h o
 
 module _ (load : Load) (accepted : checkLoad load ≡ Good) (most : load .rows ≤ 24) (board : Board) (clock count : ℕ)
     (slots : List Slot) (r : Running load board clock count slots) where
@@ -148,11 +164,10 @@ module _ (load : Load) (accepted : checkLoad load ≡ Good) (most : load .rows �
           place = omega arith;
           more = omega (arith, more);
           ends = candidate-ends (lookIn board i) clock _ candidate;
-          long = cost-least;
           room = place-left;
         }
 
-    pub running-start : (look : Look) → look ≡ lookAfter (rowAt load i) board clock i
+    running-start : (look : Look) → look ≡ lookAfter (rowAt load i) board clock i
         → Running load (boardWith board i look) (clock + lookIn board i .cost) (count + 1) (set slots count slot)
     running-start look e =
         let over : Bench = benchOver (r .bench) board i in
@@ -178,3 +193,12 @@ module _ (load : Load) (accepted : checkLoad load ≡ Good) (most : load .rows �
               filled-stored (slotAt (schedule L)) count slotPlaces noSlot slot slots (r .slots-are) (sym slot-stands)
               (omega (arith, place-left));
         }
+
+    -- and so with what the code has of the slot, the end and the look
+    pub running-made : (made : Slot) (end : ℕ) (look : Look) → made ≡ slot → end ≡ clock + lookIn board i .cost
+        → look ≡ lookAfter (rowAt load i) board clock i
+        → Running load (boardWith board i look) end (count + 1) (set slots count made)
+    running-made made end look m e k =
+        subst (λ (x : Slot). Running load (boardWith board i look) end (count + 1) (set slots count x)) (sym m)
+        (subst (λ t. Running load (boardWith board i look) t (count + 1) (set slots count slot)) (sym e)
+        (running-start look k))

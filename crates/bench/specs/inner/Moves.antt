@@ -31,9 +31,13 @@ benchStarted bench i long opening =
       opening = set (bench .opening) i opening;
     }
 
+-- all steps are finished, of rows that have finished so many of so many
+abbrev pub finishedBy : List ℕ → List ℕ → ℕ → Bool
+finishedBy finished steps rows = allTo (λ i. leb (memberAt steps i) (memberAt finished i)) rows
+
 -- all steps are finished
 abbrev pub finishedIn : Board → ℕ → Bool
-finishedIn board rows = allTo (λ i. leb (lookIn board i .steps) (lookIn board i .finished)) rows
+finishedIn board rows = finishedBy (board .finished) (board .steps) rows
 
 -- a bench handed back with its lamps
 abbrev pub handedWith : Bench → Outcome → List Bool → ℕ → Moved

@@ -1,14 +1,18 @@
 -- Laws of the members that are kept of a list: each has p and stood at a place of the list, and has what every member
--- has; and a search among them finds what it would find in the list, where all that it looks for are kept.
+-- has; they are kept one place after the other; and a search among them finds what it would find in the list, where
+-- all that it looks for are kept.
 use Prim.Native.Nat.{ℕ, zero, suc, _<_}
-use mathlib.Core.Bool.{Bool, true, false, cond, _&&_, _||_, and-true, and-false, and-or-distrib-right}
-use mathlib.Core.List.{List, [], _∷_}
-use mathlib.Core.Path.{_≡_, refl, sym, ap₂, _∙_}
+use mathlib.Core.Bool.{Bool, true, false, cond, _&&_, _||_, not, and-true, and-false, and-or-distrib-right}
+use mathlib.Core.List.{List, [], _∷_, _++_}
+use mathlib.Core.Logic.{_≢_}
+use mathlib.Core.Path.{_≡_, refl, ap, sym, ap₂, _∙_}
 use native.Mathlib.Omega.{arith}
+use borrow.Author.Tests.{eq-eqb, ne-eqb}
+use lib.Dec.{eqb}
 use lib.ListN.{length, getD}
 use Rattle.counting.specs.Lists.{anyIn, keepIn, firstIn}
 use Rattle.counting.proofs.tests.TestLaws.{true-false}
-use Rattle.counting.proofs.sorting.SortLaws.{Every}
+use Rattle.counting.proofs.sorting.SortLaws.{Every, Every-map}
 
 module _ {A : Type 0} (p : A → Bool) where
   -- the place in the list of the kept member at place k
@@ -51,6 +55,28 @@ module _ {A : Type 0} where
       go true f = (e .0, f)
       go false f = f
 
+  module _ (q : A → Bool) where
+    -- a list in which every member has q
+    keepIn-every : (l : List A) → Every (λ a. q a ≡ true) l → keepIn q l ≡ l
+    unfolding keepIn
+    keepIn-every [] e = refl
+    keepIn-every (a ∷ rest) e = rw (e .0, keepIn-every rest (e .1))
+
+    keepIn-gone : (a : A) (l : List A) → q a ≡ false → keepIn q (a ∷ l) ≡ keepIn q l
+    unfolding keepIn
+    keepIn-gone a l e = rw e
+
+    pub keepIn-append : (l m : List A) → keepIn q (l ++ m) ≡ keepIn q l ++ keepIn q m
+    unfolding keepIn
+    keepIn-append [] m = refl
+    keepIn-append (a ∷ rest) m = go (q a) (keepIn-append rest m)
+      where
+        go : (b : Bool) → keepIn q (rest ++ m) ≡ keepIn q rest ++ keepIn q m
+            → cond b (a ∷ keepIn q (rest ++ m)) (keepIn q (rest ++ m))
+            ≡ cond b (a ∷ keepIn q rest) (keepIn q rest) ++ keepIn q m
+        go true ih = rw ih
+        go false ih = ih
+
   anyIn-cond : (p : A → Bool) (a : A) (t : Bool) (l : List A) → anyIn p (cond t (a ∷ l) l) ≡ (p a && t || anyIn p l)
   unfolding anyIn
   anyIn-cond p a true l = ap₂ _||_ (sym (and-true (p a))) refl
@@ -79,3 +105,15 @@ module _ {A : Type 0} where
       go true f false h ih = rw h ih
       go false f true h ih = absurd (true-false (q a) (e .0 h) f)
       go false f false h ih = ih
+
+-- a list without a number
+module _ (i : ℕ) where
+  -- it does not stand there
+  pub without-none : (l : List ℕ) → Every (λ k. k ≢ i) l → keepIn (λ k. not (eqb k i)) l ≡ l
+  without-none l e =
+      keepIn-every (λ k. not (eqb k i)) l
+      (Every-map (λ k. k ≢ i) (λ k. not (eqb k i) ≡ true) l (λ k ne. ap not (ne-eqb k i ne)) e)
+
+  -- it stands first, and no more
+  pub without-first : (l : List ℕ) → Every (λ k. k ≢ i) l → keepIn (λ k. not (eqb k i)) (i ∷ l) ≡ l
+  without-first l e = keepIn-gone (λ k. not (eqb k i)) i l (ap not (eq-eqb i i refl)) ∙ without-none l e

@@ -1,19 +1,18 @@
 -- The numbers below n that have p, as a list and sorted: each is there once and nothing else is, there are as many as
 -- are counted, and a sum over them is a sum over the numbers below n.
 use Prim.Native.Nat.{ℕ, zero, suc, _+_, _<_}
-use mathlib.Core.Bool.{Bool, true, false, cond, _&&_}
+use mathlib.Core.Bool.{Bool, true, false, cond}
 use mathlib.Core.List.{[], _∷_}
 use mathlib.Core.Path.{_≡_, refl, sym, ap, _∙_}
 use native.Mathlib.Decide.{ℕ-discrete, decLt}
 use native.Mathlib.Omega.{arith}
-use borrow.Author.Tests.{lt-ltb, le-ltb, eq-eqb, ne-eqb}
-use lib.Dec.{eqb, ltb}
+use borrow.Author.Tests.{lt-ltb, le-ltb}
+use lib.Dec.{ltb}
 use lib.ListN.{length}
 use Rattle.counting.specs.Sums.{sumTo, bit, countTo}
 use Rattle.counting.specs.Lists.{joinTo, numbersWhere}
-use Rattle.counting.specs.Sorting.{sorted}
 use Rattle.counting.proofs.sums.SumLaws.{sumTo-ext}
-use Rattle.counting.proofs.sorting.SortLaws.{totalIn, totalIn-append, totalIn-length, totalIn-sorted}
+use Rattle.counting.proofs.sorting.SortLaws.{totalIn, totalIn-append, totalIn-length}
 
 -- a sum over the numbers below n that have p
 pub totalIn-numbersWhere : (f : ℕ → ℕ) (p : ℕ → Bool) (n : ℕ)
@@ -47,24 +46,6 @@ sumTo-only f (suc n) i h = step (sumTo-only f n i (λ k l. h k (omega arith)))
                     (omega (arith, h n (omega arith) e))
               ]
         ]
-
--- the members of the sorted numbers are those below n that have p, each once
-pub sorted-numbers-once : (before : ℕ → ℕ → Bool) (p : ℕ → Bool) (n i : ℕ)
-    → totalIn (λ k. bit (eqb k i)) (sorted before (numbersWhere p n)) ≡ bit (ltb i n && p i)
-sorted-numbers-once before p n i =
-    totalIn-sorted before (λ k. bit (eqb k i)) (numbersWhere p n)
-    ∙ totalIn-numbersWhere (λ k. bit (eqb k i)) p n
-    ∙ sumTo-only (λ k. cond (p k) (bit (eqb k i)) 0) n i (λ k l e. other (p k) k e)
-    ∙ here (ltb i n) (p i)
-  where
-    other : (b : Bool) (k : ℕ) → (k ≡ i → ⊥) → cond b (bit (eqb k i)) 0 ≡ 0
-    other true k e = rw (ne-eqb k i e)
-    other false k e = refl
-
-    here : (s t : Bool) → cond s (cond t (bit (eqb i i)) 0) 0 ≡ bit (s && t)
-    here true true = rw (eq-eqb i i refl)
-    here true false = refl
-    here false t = refl
 
 pub numbersWhere-length : (p : ℕ → Bool) (n : ℕ) → length (numbersWhere p n) ≡ countTo p n
 numbersWhere-length p n =

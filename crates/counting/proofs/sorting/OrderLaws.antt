@@ -1,7 +1,7 @@
 -- A list sorted by a total order: the order between members decides, and members taken away before sorting or after
 -- it give the same list.
 use mathlib.Core.Bool.{Bool, true, false, cond}
-use mathlib.Core.List.{List, [], _∷_}
+use mathlib.Core.List.{List, [], _∷_, _++_}
 use mathlib.Core.Path.{_≡_, refl, ap, ap₂, sym, _∙_}
 use Rattle.counting.specs.Lists.{keepIn}
 use Rattle.counting.specs.Sorting.{inserted, sorted}
@@ -24,6 +24,13 @@ module _ {A : Type 0} where
     sorted-ext (a ∷ rest) e =
         ap (inserted before a) (sorted-ext rest (e .1))
         ∙ inserted-ext a (sorted before′ rest) (e .0) (Every-sorted before′ P rest (e .1))
+
+  -- a member stands behind all those that it may not stand before
+  pub inserted-past : (before : A → A → Bool) (a : A) (l m : List A) → Every (λ c. before a c ≡ false) l
+      → inserted before a (l ++ m) ≡ l ++ inserted before a m
+  unfolding inserted
+  inserted-past before a [] m e = refl
+  inserted-past before a (c ∷ cs) m e = rw (e .0, inserted-past before a cs m (e .1))
 
   module _ (before : A → A → Bool) (order : IsOrder before) where
     inserted-front : (a : A) (l : List A) → Every (λ c. before a c ≡ true) l → inserted before a l ≡ a ∷ l

@@ -38,6 +38,11 @@ or-neither a b p q = rw (p, q)
 pub true-false : (b : Bool) → b ≡ true → b ≡ false → ⊥
 true-false b p q = let z : _≡_ {A = ℕ} 0 1 = cc in omega arith
 
+-- a test that cannot be met
+pub never-true : (b : Bool) → (b ≡ true → ⊥) → b ≡ false
+never-true true h = absurd (h refl)
+never-true false h = refl
+
 pub allTo-zero : (p : ℕ → Bool) → allTo p 0 ≡ true
 unfolding allTo
 allTo-zero p = refl

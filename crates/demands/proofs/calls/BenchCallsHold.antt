@@ -1,17 +1,17 @@
 -- The calls on plan and bench: each contract is its relation in BenchCalls, which a result meets, and one only.
 use mathlib.Core.Path.{refl}
+use Rattle.plan.specs.Boards.{boardOf}
 use Rattle.plan.proofs.CallLaws.{
   OpenWindow-unique,
   LookOf-unique,
   ZeroBoard-unique,
-  WithLook-unique,
-  LowestStep-unique,
   OpeningAfter-unique,
   ChosenRow-unique,
-  lowestOf,
-  LowestStep-met,
+  NextStart-unique,
+  nextStart,
+  NextStart-met,
 }
-use Rattle.bench.proofs.CallLaws.{Fresh-unique, NextMove-unique, Runs-unique}
+use Rattle.bench.proofs.CallLaws.{Fresh-unique, NextMove-unique, Runs-unique, RunsFile-unique}
 use Rattle.demands.specs.BenchCalls.{EveryBenchCall}
 use Rattle.demands.specs.Sameness.{OneResult}
 use Rattle.demands.specs.JoinedContract.{Relation}
@@ -25,13 +25,13 @@ bench-relations =
       open-window = λ row finished. listed;
       look-of = λ row finished end opening. listed;
       zero-board = listed;
-      with-look = λ board i look. listed;
-      lowest-step = λ board rows. listed;
       opening-after = λ stays opened opening clock. listed;
-      chosen-row = λ board clock rows. listed;
+      chosen-row = λ finished steps opening cost release opened left due wait stays rest limit clock rows. listed;
+      next-start = λ finished steps opening cost release opened left due wait stays rest limit clock rows. listed;
       fresh = listed;
       next-move = λ load bench. listed;
       run = λ load. listed;
+      run-file = λ bs. listed;
     }
 
 pub bench-contracts : BenchContracts bench-relations
@@ -40,13 +40,13 @@ bench-contracts =
       open-window = refl;
       look-of = refl;
       zero-board = refl;
-      with-look = refl;
-      lowest-step = refl;
       opening-after = refl;
       chosen-row = refl;
+      next-start = refl;
       fresh = refl;
       next-move = refl;
       run = refl;
+      run-file = refl;
     }
 
 pub bench-same : EveryBenchCall OneResult
@@ -55,13 +55,15 @@ bench-same =
       open-window = OpenWindow-unique;
       look-of = LookOf-unique;
       zero-board = ZeroBoard-unique;
-      with-look = WithLook-unique;
-      lowest-step = LowestStep-unique;
       opening-after = OpeningAfter-unique;
-      chosen-row = ChosenRow-unique;
+      chosen-row = λ finished steps opening cost release opened left due wait stays rest limit.
+          ChosenRow-unique (boardOf finished steps opening cost release opened left due wait stays rest limit);
+      next-start = λ finished steps opening cost release opened left due wait stays rest limit.
+          NextStart-unique (boardOf finished steps opening cost release opened left due wait stays rest limit);
       fresh = Fresh-unique;
       next-move = NextMove-unique;
       run = Runs-unique;
+      run-file = RunsFile-unique;
     }
 
 pub bench-answers : EveryBenchCall Answer
@@ -70,11 +72,13 @@ bench-answers =
       open-window = λ row finished. is _;
       look-of = λ row finished end opening. is _;
       zero-board = is _;
-      with-look = λ board i look. is _;
-      lowest-step = λ board rows. record { result = lowestOf board rows; met = LowestStep-met board rows };
       opening-after = λ stays opened opening clock. is _;
-      chosen-row = λ board clock rows. is _;
+      chosen-row = λ finished steps opening cost release opened left due wait stays rest limit clock rows. is _;
+      next-start = λ finished steps opening cost release opened left due wait stays rest limit clock rows.
+          let board = boardOf finished steps opening cost release opened left due wait stays rest limit in
+          record { result = nextStart board clock rows; met = NextStart-met board clock rows };
       fresh = is _;
       next-move = λ load bench. is _;
       run = λ load. is _;
+      run-file = λ bs. is _;
     }

@@ -5,16 +5,16 @@ use mathlib.Core.Path.{_≡_, ap, sym, _∙_}
 use native.Mathlib.Omega.{arith}
 use borrow.Author.Tests.{le-leb, lt-leb}
 use Rattle.counting.proofs.tests.TestLaws.{allTo-zero, allTo-next, false-allTo}
-use Rattle.bench.specs.inner.Moves.{finishedIn}
+use Rattle.bench.specs.inner.Moves.{finishedBy}
 use borrow.Author.Needs.{needs}
 use Rattle.bench.proofs.moves.all_finished.Statement.{statement}
 use Rattle.bench.proofs.moves.all_finished.Tie as tie
 
 abbrev Inv-loop : tie.InvT-loop
-Inv-loop rows board i₀ i = (i ≤ rows) × (rows ≤ 24) × (finishedIn board i ≡ true)
+Inv-loop finished steps rows i₀ i = (i ≤ rows) × (rows ≤ 24) × (finishedBy finished steps i ≡ true)
 
 abbrev μ-loop : tie.MeasureT-loop
-μ-loop rows board i₀ i = rows - i
+μ-loop finished steps rows i₀ i = rows - i
 
 loop-holds : tie.Need-loop-holds Inv-loop μ-loop
 loop-holds c = (search needs, search needs, allTo-zero _)
@@ -35,7 +35,7 @@ returns-2 : tie.Need-returns-2 Inv-loop μ-loop
 returns-2 c =
     let start = c .before .before in
     let e : start .args .rows ≡ c .before .loop .i = omega arith in
-    sym (ap (finishedIn (start .args .t1)) e ∙ c .before .loop .inv .2)
+    sym (ap (finishedBy (start .args .finished .now) (start .args .steps .now)) e ∙ c .before .loop .inv .2)
 
 pub all-finished-spec : {M : Type 1} → statement M
 all-finished-spec =

@@ -1,7 +1,6 @@
 -- `refused_run` fills no place of the array.
 use mathlib.Core.List.{[]}
-use mathlib.Core.Path.{ap, sym, _∙_}
-use borrow.Author.Needs.{needs}
+use mathlib.Core.Path.{ap, sym}
 use Rattle.counting.proofs.lists.ListLaws.{filled-none}
 use Rattle.refusals.specs.declared.Checked.the-variants.{Refused}
 use Rattle.rules.specs.Slots.{noSlot, slotPlaces, slotAt}
@@ -10,8 +9,8 @@ use Rattle.bench.proofs.runs.refused_run.Tie as tie
 
 returns : tie.Need-returns
 returns c =
-    ap (λ l. record { answer = Refused (c .before .args .refusal); count = 0; slots = l })
-    (c .no-slots .ensures ∙ sym (filled-none (slotAt []) slotPlaces noSlot))
+    ap (λ l. record { answer = Refused (c .args .refusal); count = 0; slots = l })
+    (sym (filled-none (slotAt []) slotPlaces noSlot))
 
 pub refused-run-spec : {M : Type 1} → statement M
-refused-run-spec = tie.close (tie.spec (λ c κs. search needs) returns)
+refused-run-spec = tie.close (tie.spec returns)

@@ -1,0 +1,86 @@
+-- Rows of a board that are shown: a row of a bench in shape is looked up with no number counted as less, and storing
+-- its look shows one row more and leaves the others as they are.
+use Prim.Native.Nat.{ℕ, min, _+_, _≤_, _<_}
+use mathlib.Core.Path.{_≡_, ap, ap₂, sym, _∙_, subst}
+use native.Mathlib.Decide.{ℕ-discrete}
+use native.Mathlib.Omega.{arith}
+use Rattle.counting.specs.Lists.{memberAt}
+use Rattle.load.specs.declared.Load.{Load}
+use Rattle.load.specs.Load.{mostSteps, lastMoment, rowAt}
+use Rattle.load.specs.View.{viewOf}
+use Rattle.plan.specs.declared.Look.{Look}
+use Rattle.plan.specs.declared.Board.{Board}
+use Rattle.plan.specs.Looks.{lookOf, lookBy}
+use Rattle.plan.specs.Boards.{lookIn, boardWith}
+use Rattle.plan.specs.inner.Widths.{Wide}
+use Rattle.plan.proofs.BoardLaws.{boardWith-same, boardWith-other}
+use Rattle.bench.specs.declared.Bench.{Bench}
+use Rattle.bench.specs.Held.{stateOf}
+use Rattle.bench.proofs.shown.CheckedLaws.{InShape}
+use Rattle.bench.proofs.shown.LookLaws.{look-of-row}
+
+-- a board shows row k
+pub record Shown (load : Load) (bench : Bench) (board : Board) (k : ℕ) : Type 0 where
+  pub look-is : lookIn board k ≡ lookOf (viewOf load) (stateOf bench) k
+  pub steps-le : lookIn board k .steps ≤ mostSteps
+  pub opening-le : lookIn board k .opening ≤ lastMoment
+
+-- a row of the load, looked up by numbers that are in range
+module _ (load : Load) (bench : Bench) (i : ℕ) (steps : rowAt load i .steps ≤ mostSteps)
+    (shape : InShape (viewOf load) (stateOf bench) i) (clock : bench .clock ≤ lastMoment) where
+  finished-most : memberAt (bench .finished) i ≤ mostSteps
+  unfolding viewOf
+  finished-most = omega (arith, shape .finished-le)
+
+  pub row-looked : lookBy (rowAt load i) (min (memberAt (bench .finished) i) mostSteps)
+      (min (memberAt (bench .end) i) lastMoment) (min (memberAt (bench .opening) i) lastMoment)
+      ≡ lookOf (viewOf load) (stateOf bench) i
+  row-looked =
+      let f : min (memberAt (bench .finished) i) mostSteps ≡ memberAt (bench .finished) i =
+      omega (arith, finished-most) in
+      let e : min (memberAt (bench .end) i) lastMoment ≡ memberAt (bench .end) i =
+      omega (arith, shape .end-le) in
+      let o : min (memberAt (bench .opening) i) lastMoment ≡ memberAt (bench .opening) i =
+      omega (arith, shape .opening-le) in
+      ap (λ n. lookBy (rowAt load i) n (min (memberAt (bench .end) i) lastMoment)
+      (min (memberAt (bench .opening) i) lastMoment)) f
+      ∙ ap₂ (lookBy (rowAt load i) (memberAt (bench .finished) i)) e o
+      ∙ look-of-row load bench i
+
+  pub row-steps : lookOf (viewOf load) (stateOf bench) i .steps ≤ mostSteps
+  unfolding lookOf viewOf
+  row-steps = steps
+
+  pub row-opening : lookOf (viewOf load) (stateOf bench) i .opening ≤ lastMoment
+  unfolding lookOf
+  row-opening = omega (arith, shape .opening-le)
+
+-- the same look has the same numbers
+few : {a b : Look} → a ≡ b → b .steps ≤ mostSteps → a .steps ≤ mostSteps
+few e h = subst (λ (look : Look). look .steps ≤ mostSteps) (sym e) h
+
+soon : {a b : Look} → a ≡ b → b .opening ≤ lastMoment → a .opening ≤ lastMoment
+soon e h = subst (λ (look : Look). look .opening ≤ lastMoment) (sym e) h
+
+-- one row more is shown, once its look is stored
+module _ (load : Load) (bench : Bench) (board : Board) (i : ℕ) (look : Look) (wide : Wide board) (l : i < 24)
+    (shown : (k : ℕ) → k < i → Shown load bench board k)
+    (same : look ≡ lookOf (viewOf load) (stateOf bench) i)
+    (steps : lookOf (viewOf load) (stateOf bench) i .steps ≤ mostSteps)
+    (opening : lookOf (viewOf load) (stateOf bench) i .opening ≤ lastMoment) where
+  pub shown-next : (k : ℕ) → k < i + 1 → Shown load bench (boardWith board i look) k
+  shown-next k b =
+      elim (ℕ-discrete k i) [
+        | yes q ↦
+            (let here = boardWith-same board i look wide l ∙ same in
+            rw q
+            (record { look-is = here; steps-le = few here steps; opening-le = soon here opening }))
+        | no q ↦
+            (let was = shown k (omega arith) in
+            let kept = boardWith-other board i look k q in
+            record {
+              look-is = kept ∙ was .look-is;
+              steps-le = few kept (was .steps-le);
+              opening-le = soon kept (was .opening-le);
+            })
+      ]
