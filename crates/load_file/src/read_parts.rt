@@ -16,20 +16,18 @@ use words::byte_at;
 use words::number16_at;
 use words::number32_at;
 ghost use mathlib.Core.Path.{_≡_};
-ghost use Prim.Native.Nat.{_≤_};
+ghost use Prim.Native.Nat.{min, _≤_};
 ghost use Rattle.refusals.specs.FirstMet.{firstMet};
-ghost use Rattle.load.specs.Load.{mostSteps, mostWindows, zeroRow};
+ghost use Rattle.load.specs.Load.{mostSteps, mostWindows};
 ghost use Rattle.load_records.specs.Records.{rowKind};
-ghost use Rattle.load_file.specs.Places.{
-  stepIn,
-  windowIn,
-  rowFrom,
-  stepsSaid,
-  windowsSaid,
-  rowWith,
-};
+ghost use Rattle.load_file.specs.Places.{stepIn, windowIn, rowWith};
 ghost use Rattle.load_file.specs.Reading.{dueTests};
-ghost use Rattle.load_file.specs.inner.ReadingSteps.{kindOf, stepsFrom, windowsFrom};
+ghost use Rattle.load_file.specs.inner.ReadingSteps.{
+  kindOf,
+  stepsFrom,
+  windowsFrom,
+  rowWithin,
+};
 
 // Checks a record that is due at a place: that the file holds it whole, and then its mark.
 pub fn check_due(bytes: &[u8], at: usize, mark: [u8; 2], size: usize) -> Checked
@@ -121,24 +119,18 @@ fn row_with(
     }
 }
 
-// Gives the row whose own record stands at a place, with steps and windows of zeros.
-pub fn fields_from(bytes: &[u8], at: usize) -> Row
-    requires { ⌜ at ≤ 4096 ⌝ }
-    ensures { λ r. ⌜ r ≡ rowWith (now (bytes .entry)) at (zeroRow .step) (zeroRow .window) ⌝ }
+// Gives n, or the most where that is less.
+fn at_most(n: usize, most: usize) -> usize
+    ensures { λ r. ⌜ r ≡ min n most ⌝ }
 {
-    let zeros = load::zero_row();
-    let step = zeros.step;
-    let window = zeros.window;
-    row_with(bytes, at, step, window)
+    if n < most { n } else { most }
 }
 
-// Gives the row whose record stands at a place, with its steps and windows, of which the record
-// announces no more than a row has.
+// Gives the row whose record stands at a place, with its steps and its windows. Where the record
+// announces more than a row has places for, the row has the first 8 and the first 4 of them.
 pub fn row_from(bytes: &[u8], at: usize) -> Row
     requires { ⌜ at ≤ 4096 ⌝ }
-    requires { ⌜ stepsSaid (now bytes) at ≤ mostSteps ⌝ }
-    requires { ⌜ windowsSaid (now bytes) at ≤ mostWindows ⌝ }
-    ensures { λ r. ⌜ r ≡ rowFrom (now (bytes .entry)) at ⌝ }
+    ensures { λ r. ⌜ r ≡ rowWithin (now (bytes .entry)) at ⌝ }
 {
     let steps = byte_at(bytes, at + 18) as usize;
     let windows = byte_at(bytes, at + 19) as usize;
@@ -147,7 +139,7 @@ pub fn row_from(bytes: &[u8], at: usize) -> Row
     row_with(
         bytes,
         at,
-        steps_from(bytes, from, steps),
-        windows_from(bytes, behind, windows),
+        steps_from(bytes, from, at_most(steps, MOST_STEPS)),
+        windows_from(bytes, behind, at_most(windows, MOST_WINDOWS)),
     )
 }

@@ -1,7 +1,6 @@
 // A row of a load file, as it is read: the tests of its own record, of its steps and of its
 // windows, in the order in which they are asked, and the row.
 use crate::read_parts::check_due;
-use crate::read_parts::fields_from;
 use crate::read_parts::row_from;
 use load::BoxNumber;
 use load::Identifier;
@@ -15,17 +14,17 @@ use load_records::WINDOW_MARK;
 use load_records::WINDOW_SIZE;
 use refusals::Checked;
 use refusals::Refusal;
-ghost use mathlib.Core.List.{_++_};
+ghost use mathlib.Core.List.{List, _++_};
 ghost use mathlib.Core.Path.{_≡_};
-ghost use Prim.Native.Nat.{_≤_};
+ghost use Prim.Native.Nat.{ℕ, _≤_};
 ghost use Rattle.refusals.specs.declared.Checked.the-variants.{Refused};
 ghost use Rattle.refusals.specs.FirstMet.{firstMet};
 ghost use Rattle.load.specs.Load.{zeroRow};
 ghost use Rattle.load.specs.Faults.{stepTests, windowTests};
 ghost use Rattle.load_records.specs.Records.{stepKind, windowKind};
 ghost use Rattle.load_file.specs.Places.{rowFrom};
-ghost use Rattle.load_file.specs.Reading.{dueTests, ownFault, stepsFault, windowsFault};
-ghost use Rattle.load_file.specs.inner.ReadingSteps.{RowsBefore, readRow};
+ghost use Rattle.load_file.specs.Reading.{dueTests, stepsFault, windowsFault};
+ghost use Rattle.load_file.specs.inner.ReadingSteps.{RowsBefore, fieldsFault, readRow};
 
 // What reading a row gives: the refusal that comes first, or Good and the row. A refused row is the
 // row of zeros.
@@ -34,24 +33,17 @@ pub struct RowReading {
     pub row: Row,
 }
 
-// Checks the own record of row i, at a place: 1, 2, 3 in field order, then 4 and 5 against the
-// identifiers and the boxes of the rows before it.
+// Checks the own fields of row i: 3 in field order, then 4 and 5 against the identifiers and the
+// boxes of the rows before it. The steps and the windows are not asked.
 fn check_own(
-    bytes: &[u8],
-    at: usize,
+    row: Row,
     identifiers: [Identifier; MOST_ROWS],
     boxes: [BoxNumber; MOST_ROWS],
     i: usize,
 ) -> Checked
-    requires { ⌜ at ≤ 4096 ⌝ }
-    requires { ⌜ RowsBefore (now bytes) i identifiers boxes ⌝ }
-    ensures { λ r. ⌜ r ≡ ownFault (now (bytes .entry)) i at ⌝ }
+    ensures { λ r. ⌜ ((bs : List ℕ) → RowsBefore bs i identifiers boxes
+        → r ≡ fieldsFault bs i row) ⌝ }
 {
-    match check_due(bytes, at, ROW_MARK, ROW_SIZE) {
-        Checked::Good => {}
-        Checked::Refused(refusal) => return Checked::Refused(refusal),
-    }
-    let row = fields_from(bytes, at);
     match load::check_fields(row) {
         Checked::Good => {}
         Checked::Refused(refusal) => return Checked::Refused(refusal),
@@ -146,11 +138,15 @@ pub fn read_row(
     requires { ⌜ RowsBefore (now bytes) i identifiers boxes ⌝ }
     ensures { λ r. ⌜ r ≡ readRow (now (bytes .entry)) i at ⌝ }
 {
-    match check_own(bytes, at, identifiers, boxes, i) {
+    match check_due(bytes, at, ROW_MARK, ROW_SIZE) {
         Checked::Good => {}
         Checked::Refused(refusal) => return no_row(refusal),
     }
     let row = row_from(bytes, at);
+    match check_own(row, identifiers, boxes, i) {
+        Checked::Good => {}
+        Checked::Refused(refusal) => return no_row(refusal),
+    }
     match check_steps(bytes, at, row) {
         Checked::Good => {}
         Checked::Refused(refusal) => return no_row(refusal),

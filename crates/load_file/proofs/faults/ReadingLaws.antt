@@ -1,5 +1,5 @@
 -- Laws that the reading call rests on: the tests behind tests that are found, the parts of a row's fault, what the rows
--- before a row hold, and the row that its parts make.
+-- before a row hold, and the row that its parts make, which is read whole where its own record is Good.
 use Prim.Native.Nat.{ℕ, min, _≤_, _<_}
 use mathlib.Core.Bool.{Bool}
 use mathlib.Core.List.{List, _++_}
@@ -32,7 +32,7 @@ use Rattle.load.proofs.CheckLaws.{fields-steps-le, fields-windows-le}
 use Rattle.load_records.specs.Records.{rowKind}
 use Rattle.load_file.specs.Places.{stepsSaid, windowsSaid, rowFrom, rowPlace, rowsSaid, loadIn, rowWith}
 use Rattle.load_file.specs.Reading.{dueTests, rowFaultAt, ownFault, stepsFault, windowsFault}
-use Rattle.load_file.specs.inner.ReadingSteps.{RowsBefore, readRow}
+use Rattle.load_file.specs.inner.ReadingSteps.{RowsBefore, rowWithin, fieldsFault, readRow}
 
 -- tests, of which the first is found, and the tests behind them
 module _ (ts us : List (Bool × Refusal)) {c : Checked} (found : c ≡ firstMet ts) where
@@ -100,6 +100,14 @@ module _ (bs : List ℕ) (at : ℕ) where
   unfolding rowWith rowFrom
   box-with step window = refl
 
+  -- of a row that announces no more steps and windows than a row has, all are read
+  rowWithin-few : stepsSaid bs at ≤ mostSteps → windowsSaid bs at ≤ mostWindows → rowWithin bs at ≡ rowFrom bs at
+  unfolding rowWithin rowFrom
+  rowWithin-few steps windows =
+      let all-steps : min (stepsSaid bs at) mostSteps ≡ stepsSaid bs at = omega arith in
+      let all-windows : min (windowsSaid bs at) mostWindows ≡ windowsSaid bs at = omega arith in
+      rw (all-steps, all-windows)
+
   module _ (i : ℕ) where
     -- the parts of a row's fault, in their order
     pub rowFaultAt-parts : rowFaultAt bs i at
@@ -107,6 +115,21 @@ module _ (bs : List ℕ) (at : ℕ) where
         (andThen (stepsFault bs at) (andThen (windowsFault bs at) Good))
     unfolding rowFaultAt ownFault
     rowFaultAt-parts = refl
+
+    -- what the tests of a record that is due find of a row's own: a refusal is its fault; else its fields decide,
+    -- whatever steps and windows are read beside them
+    module _ {c : Checked} (found : c ≡ firstMet (dueTests rowKind bs at)) where
+      pub ownFault-refused : {r : Refusal} → c ≡ Refused r → ownFault bs i at ≡ Refused r
+      unfolding ownFault
+      ownFault-refused e =
+          let fields = rowTests (rowFrom bs at) ++ takenTests (loadIn bs) i (rowFrom bs at) in
+          sym (behind-refused (dueTests rowKind bs at) fields found e)
+
+      pub ownFault-fields : c ≡ Good → fieldsFault bs i (rowWithin bs at) ≡ ownFault bs i at
+      unfolding ownFault fieldsFault rowTests takenTests rowWithin rowWith rowFrom
+      ownFault-fields e =
+          let fields = rowTests (rowFrom bs at) ++ takenTests (loadIn bs) i (rowFrom bs at) in
+          behind-good (dueTests rowKind bs at) fields found e
 
     -- a row whose own record is Good announces no more steps and windows than a row has
     fields-good : ownFault bs i at ≡ Good → firstMet (rowTests (rowFrom bs at)) ≡ Good
@@ -124,6 +147,9 @@ module _ (bs : List ℕ) (at : ℕ) where
     pub own-windows-le : ownFault bs i at ≡ Good → windowsSaid bs at ≤ mostWindows
     unfolding rowFrom rowWith
     own-windows-le h = fields-windows-le (rowFrom bs at) (fields-good h)
+
+    pub rowWithin-good : ownFault bs i at ≡ Good → rowWithin bs at ≡ rowFrom bs at
+    rowWithin-good h = rowWithin-few (own-steps-le h) (own-windows-le h)
 
     -- what reading a row gives, by what it finds
     pub readRow-refused : (r : Refusal) → rowFaultAt bs i at ≡ Refused r

@@ -1,7 +1,7 @@
 -- What the parts of the reading call give: definitions that its private functions cite, and no
 -- public contract. To be read after Reading.
-use Prim.Native.Nat.{ℕ, _+_, _*_, _≤_}
-use mathlib.Core.List.{List, [], _∷_}
+use Prim.Native.Nat.{ℕ, min, _+_, _*_, _≤_}
+use mathlib.Core.List.{List, [], _∷_, _++_}
 use mathlib.Core.Path.{_≡_}
 use lib.ListN.{getD}
 use Rattle.counting.specs.Lists.{filled}
@@ -12,11 +12,24 @@ use Rattle.load.specs.declared.Identifier.{Identifier}
 use Rattle.load.specs.declared.BoxNumber.{BoxNumber}
 use Rattle.load.specs.declared.Step.{Step}
 use Rattle.load.specs.declared.Window.{Window}
+use Rattle.load.specs.declared.Row.{Row}
 use Rattle.load.specs.Load.{mostRows, mostSteps, mostWindows, noStep, noWindow, zeroRow, zeroLoad}
-use Rattle.load_records.specs.Records.{Kind, stepKind, windowKind}
+use Rattle.load.specs.Faults.{rowTests, takenTests}
+use Rattle.load_records.specs.Records.{Kind, rowKind, stepKind, windowKind}
 use Rattle.load_file.specs.declared.Reading.{Reading}
 use Rattle.load_file.specs.declared.read_row.RowReading.{RowReading}
-use Rattle.load_file.specs.Places.{stepIn, windowIn, rowFrom, rowPlace, rowsSaid, loadIn}
+use Rattle.load_file.specs.Places.{
+  stepIn,
+  windowIn,
+  stepsSaid,
+  windowsSaid,
+  stepPlace,
+  rowWith,
+  rowFrom,
+  rowPlace,
+  rowsSaid,
+  loadIn,
+}
 use Rattle.load_file.specs.Reading.{rowFaultAt, rowFaultIn, endTests}
 
 -- the kind of record with a mark and a size
@@ -32,6 +45,13 @@ abbrev pub windowsFrom : List ℕ → ℕ → ℕ → List Window
 windowsFrom bs from n =
     filled (λ k. windowIn bs (from + windowKind .size * k)) n mostWindows noWindow
 
+-- the row whose record stands at a place, without what it announces beyond a row's places
+unfoldable pub rowWithin : List ℕ → ℕ → Row
+rowWithin bs at =
+    rowWith bs at
+    (stepsFrom bs (at + rowKind .size) (min (stepsSaid bs at) mostSteps))
+    (windowsFrom bs (stepPlace at (stepsSaid bs at)) (min (windowsSaid bs at) mostWindows))
+
 -- the identifiers and the boxes of the rows before row i, and zeros in the places behind them
 pub record RowsBefore (bs : List ℕ) (i : ℕ) (identifiers : List Identifier)
     (boxes : List BoxNumber) : Type 0 where
@@ -41,6 +61,10 @@ pub record RowsBefore (bs : List ℕ) (i : ℕ) (identifiers : List Identifier)
       ≡ filled (λ k. rowFrom bs (rowPlace bs k) .identifier) i mostRows (record { 0 = 0 })
   pub boxes-are : boxes
       ≡ filled (λ k. rowFrom bs (rowPlace bs k) .«box_number») i mostRows (record { 0 = 0 })
+
+-- what row i is refused for by its own fields, and by what it shares with a row before
+unfoldable pub fieldsFault : List ℕ → ℕ → Row → Checked
+fieldsFault bs i row = firstMet (rowTests row ++ takenTests (loadIn bs) i row)
 
 -- what reading row i at a place gives: a refused row is the row of zeros
 unfoldable pub readRow : List ℕ → ℕ → ℕ → RowReading

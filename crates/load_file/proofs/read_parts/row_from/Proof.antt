@@ -1,19 +1,22 @@
 -- `row_from` reads the row's own record beside its steps, which stand behind that record, and its windows, which stand
 -- behind the steps.
 use borrow.Author.Needs.{needs}
-use Rattle.load_file.specs.Places.{rowFrom, rowWith}
+use Rattle.load_file.specs.inner.ReadingSteps.{rowWithin}
 use Rattle.load_file.proofs.read_parts.row_from.Statement.{statement}
 use Rattle.load_file.proofs.read_parts.row_from.Tie as tie
 
 is-row : tie.Need-returns
-unfolding rowWith rowFrom
+unfolding rowWithin
 is-row c =
-    let parts = c .before in
-    let bytes = parts .before .before in
+    let windows = c .before in
+    let steps = windows .before .before in
+    let bytes = steps .before .before in
     rw (
       c .row-with .ensures,
-      parts .windows-from .ensures,
-      parts .before .steps-from .ensures,
+      windows .windows-from .ensures,
+      windows .before .at-most2 .ensures,
+      steps .steps-from .ensures,
+      steps .before .at-most .ensures,
       bytes .byte-at2 .ensures,
       bytes .before .byte-at .ensures,
     )
@@ -31,6 +34,8 @@ row-from-spec =
     (λ c. search needs)
     (λ c. search needs)
     (λ c. search needs)
+    (λ c κs. search needs)
+    (λ c κs. search needs)
     (λ c κs. search needs)
     (λ c κs. search needs)
     (λ c κs. search needs)
