@@ -6,25 +6,21 @@ use mathlib.Core.Path.{_≡_, refl, ap, sym, _∙_, subst}
 use native.Mathlib.Decide.{decLt}
 use native.Mathlib.Numerals.{add-one}
 use native.Mathlib.Omega.{arith}
-use lib.Dec.{ltb}
 use lib.ListN.{length, take}
 use lib.Seq.{sets, take-suc, length-take-le}
 use borrow.Author.Tests.{lt-ltb, le-ltb}
 use Rattle.counting.specs.Lists.{joinIn}
 use Rattle.counting.proofs.lists.ListLaws.{joinIn-append}
 use Rattle.words.proofs.OverwriteLaws.{sets-more}
-use Rattle.refusals.specs.declared.Refusal.the-variants.{OutOfRange}
 use Rattle.refusals.specs.declared.Checked.{Checked}
-use Rattle.refusals.specs.FirstMet.{firstMet}
 use Rattle.refusals.specs.Given.{Given}
 use Rattle.rules.specs.declared.Slot.{Slot}
 use Rattle.rules.specs.Slots.{noSlot, slotPlaces, mostSlots, slotAt}
 use Rattle.schedule.specs.Calls.{firstSlots}
-use Rattle.schedule_file.specs.ScheduleFile.{slotRecord, scheduleBytes}
-use Rattle.schedule_file.specs.inner.Gathered.{headBytes, headerSize, slotPlace}
+use Rattle.schedule_file.specs.ScheduleFile.{headerSize, slotPlace}
+use Rattle.schedule_file.specs.ScheduleFile.{headBytes, slotRecord, scheduleBytes, countFault}
 use Rattle.schedule_file.specs.Calls.{WriteArray}
 use Rattle.schedule_file.proofs.FileLaws.{joinIn-length, head-length, file-is, scheduleBytes-length}
-use Rattle.schedule_file.proofs.RoomLaws.{countFault}
 
 -- the records of the first so many slots of an array
 abbrev pub recordsOf : List Slot → ℕ → List ℕ
@@ -60,18 +56,18 @@ module _ (slots : List Slot) (all : length slots ≡ slotPlaces) (n : ℕ) where
   pub firsts-size : n ≤ mostSlots → length (scheduleBytes firsts) ≡ slotPlace n
   firsts-size few =
       let count : length firsts ≡ n = omega (arith, firsts-length) in
-      scheduleBytes-length firsts (omega (arith, count)) ∙ ap slotPlace count
+      scheduleBytes-length firsts ∙ ap slotPlace count
 
   -- too many are too many of the array
   pub array-given : (out : List ℕ) (found : Checked) (after : List ℕ)
       → Given (countFault n) (scheduleBytes firsts) out found after → WriteArray slots n out found after
   array-given out found after g =
-      let same : ltb mostSlots n ≡ ltb mostSlots (length firsts) =
+      let same : countFault n ≡ countFault (length firsts) =
       elim (decLt mostSlots n) [
         | yes l ↦ rw (lt-ltb mostSlots n l, lt-ltb mostSlots (length firsts) (omega (arith, firsts-length)))
         | no l ↦ rw (le-ltb mostSlots n (omega arith), le-ltb mostSlots (length firsts) (omega (arith, firsts-length)))
       ] in
-      subst (λ test. Given (firstMet ((test, OutOfRange) ∷ [])) (scheduleBytes firsts) out found after) same g
+      subst (λ finding. Given finding (scheduleBytes firsts) out found after) same g
 
   -- the head, and then all records
   pub array-written : n ≤ mostSlots → (out after-head after : List ℕ) → after-head ≡ sets out 0 (headBytes n)
@@ -81,6 +77,6 @@ module _ (slots : List Slot) (all : length slots ≡ slotPlaces) (n : ℕ) where
       let so-many : length (take n slots) ≡ n = length-take-le n slots (omega (arith, all)) in
       let file : headBytes n ++ recordsOf slots n ≡ scheduleBytes (take n slots) =
       subst (λ k. headBytes k ++ recordsOf slots n ≡ scheduleBytes (take n slots)) so-many
-      (file-is (take n slots) (omega (arith, so-many))) in
+      (file-is (take n slots)) in
       sets-more out after-head after 0 headerSize (headBytes n) (recordsOf slots n) (omega (arith, head-length n)) p q
       ∙ ap (sets out 0) (file ∙ ap (λ k. scheduleBytes (take k slots)) (sym taken))

@@ -5,7 +5,6 @@ use mathlib.Core.List.{List, [], _∷_, _++_, append-nil, append-assoc}
 use mathlib.Core.Path.{_≡_, ap, sym, _∙_, subst}
 use native.Mathlib.Decide.{decLt}
 use native.Mathlib.Omega.{arith}
-use lib.Dec.{ltb}
 use lib.ListN.{length, take, drop, replicate, length-append, length-replicate}
 use lib.Seq.{sets, take-at}
 use borrow.Author.Tests.{lt-ltb, le-ltb}
@@ -13,24 +12,14 @@ use Rattle.counting.specs.Lists.{joinIn}
 use Rattle.words.proofs.OverwriteLaws.{sets-behind, sets-front}
 use Rattle.refusals.specs.declared.Refusal.the-variants.{OutOfRange}
 use Rattle.refusals.specs.declared.Checked.{Checked}
-use Rattle.refusals.specs.FirstMet.{firstMet}
 use Rattle.refusals.specs.Given.{Given}
 use Rattle.refusals.proofs.GivenLaws.{refused-alike}
 use Rattle.rules.specs.declared.Slot.{Slot}
 use Rattle.rules.specs.Slots.{mostSlots}
 use Rattle.schedule_file.specs.declared.write.Gathered.{Gathered}
-use Rattle.schedule_file.specs.ScheduleFile.{slotsFault, slotRecord}
-use Rattle.schedule_file.specs.ScheduleFile.{scheduleBytes}
-use Rattle.schedule_file.specs.inner.Gathered.{
-  mostBytes,
-  lastPlace,
-  headBytes,
-  headed,
-  withSlot,
-  slotSize,
-  slotPlace,
-}
-use Rattle.schedule_file.specs.inner.Gathered.{gatheredOf, gathered}
+use Rattle.schedule_file.specs.ScheduleFile.{slotSize, slotPlace, headBytes, slotRecord}
+use Rattle.schedule_file.specs.ScheduleFile.{scheduleBytes, countFault, slotsFault}
+use Rattle.schedule_file.specs.inner.Gathered.{mostBytes, lastPlace, headed, withSlot, gatheredOf, gathered}
 use Rattle.schedule_file.specs.Calls.{WriteSchedule}
 use Rattle.schedule_file.proofs.FileLaws.{record-length, head-length, file-is, file-length}
 
@@ -82,10 +71,10 @@ gathered-bytes slots l =
     ∙ front-all slots head (omega (arith, head-length (length slots))) in
     ap (λ (file : Gathered). take (slotPlace (length slots)) (file .bytes)) whole
     ∙ (front-taken (head ++ joinIn slotRecord slots) (slotPlace (length slots)) (file-length slots) (omega arith)
-    ∙ file-is slots l)
+    ∙ file-is slots)
 
 pub gathered-given : (slots : List Slot) (out : List ℕ) (r : Checked) (after : List ℕ)
-    → Given (firstMet ((ltb mostSlots (length slots), OutOfRange) ∷ []))
+    → Given (countFault (length slots))
     (take (slotPlace (length slots)) (gathered slots (headed (length slots)) .bytes)) out r after
     → WriteSchedule slots out r after
 gathered-given slots out r after g =
@@ -95,6 +84,6 @@ gathered-given slots out r after g =
           (take (slotPlace (length slots)) (gathered slots (headed (length slots)) .bytes)) (scheduleBytes slots)
           out r after (rw (lt-ltb mostSlots (length slots) l)) g
       | no l ↦
-          subst (λ answer. Given (firstMet ((ltb mostSlots (length slots), OutOfRange) ∷ [])) answer out r after)
+          subst (λ answer. Given (countFault (length slots)) answer out r after)
           (gathered-bytes slots (omega arith)) g
     ]

@@ -1,7 +1,6 @@
 -- What is found of the number of slots and of the room is what a writing call has to find, where its answer has the
 -- length of their file: a refusal leaves the output, and an answer that is not refused fits.
 use Prim.Native.Nat.{ℕ, _≤_}
-use mathlib.Core.Bool.{Bool}
 use mathlib.Core.List.{List, [], _∷_}
 use mathlib.Core.Path.{_≡_, refl, sym, _∙_}
 use native.Mathlib.Decide.{decLt}
@@ -9,7 +8,7 @@ use native.Mathlib.Omega.{arith}
 use lib.Dec.{ltb}
 use lib.ListN.{length}
 use lib.Seq.{sets}
-use borrow.Author.Tests.{lt-ltb, le-ltb, ltb-false}
+use borrow.Author.Tests.{lt-ltb, ltb-false}
 use Rattle.words.proofs.OverwriteLaws.{sets-front}
 use Rattle.refusals.specs.declared.Refusal.{Refusal}
 use Rattle.refusals.specs.declared.Refusal.the-variants.{OutOfRange, OutputShort}
@@ -17,34 +16,32 @@ use Rattle.refusals.specs.declared.Checked.{Checked}
 use Rattle.refusals.specs.declared.Checked.the-variants.{Good, Refused}
 use Rattle.refusals.specs.FirstMet.{firstMet, firstFault}
 use Rattle.refusals.specs.Given.{roomFor, Given}
-use Rattle.refusals.proofs.FirstMetLaws.{andThen-last, firstMet-good-first, firstMet-good-rest}
+use Rattle.refusals.proofs.FirstMetLaws.{andThen-good-first, andThen-good-second, firstMet-good-first}
 use Rattle.rules.specs.Slots.{mostSlots}
-use Rattle.schedule_file.specs.inner.Gathered.{slotPlace, roomFault}
-
--- so many slots are too many
-abbrev pub countFault : ℕ → Checked
-countFault n = firstMet ((ltb mostSlots n, OutOfRange) ∷ [])
+use Rattle.schedule_file.specs.ScheduleFile.{slotPlace, countFault, roomFault}
 
 module _ (n room : ℕ) (good : roomFault n room ≡ Good) where
-  -- the test of the room
-  abbrev roomTests : List (Bool × Refusal)
-  roomTests = (ltb room (slotPlace n), OutputShort) ∷ []
+  -- what is found of the room
+  abbrev roomFound : Checked
+  roomFound = firstFault (firstMet ((ltb room (slotPlace n), OutputShort) ∷ []) ∷ [])
 
   pub room-few : n ≤ mostSlots
-  room-few = ltb-false mostSlots n (firstMet-good-first (ltb mostSlots n, OutOfRange) roomTests good)
+  room-few =
+      ltb-false mostSlots n
+      (firstMet-good-first (ltb mostSlots n, OutOfRange) [] (andThen-good-first (countFault n) roomFound good))
 
   pub room-fits : slotPlace n ≤ room
   room-fits =
       ltb-false room (slotPlace n)
       (firstMet-good-first (ltb room (slotPlace n), OutputShort) []
-      (firstMet-good-rest (ltb mostSlots n, OutOfRange) roomTests good))
+      (andThen-good-first _ Good (andThen-good-second (countFault n) roomFound good)))
 
 module _ (n : ℕ) (answer out : List ℕ) (long : n ≤ mostSlots → length answer ≡ slotPlace n) where
   room-found : roomFault n (length out) ≡ firstFault (countFault n ∷ roomFor answer out ∷ [])
   room-found =
       elim (decLt mostSlots n) [
         | yes l ↦ rw (lt-ltb mostSlots n l)
-        | no l ↦ rw (le-ltb mostSlots n (omega arith), long (omega arith), andThen-last)
+        | no l ↦ rw (long (omega arith))
       ]
 
   pub room-refused : (refusal : Refusal) → roomFault n (length out) ≡ Refused refusal

@@ -6,8 +6,7 @@ use schedule::MOST_SLOTS;
 use words::bytes16;
 use words::bytes32;
 ghost use mathlib.Core.Path.{_≡_};
-ghost use Rattle.schedule_file.specs.ScheduleFile.{slotRecord};
-ghost use Rattle.schedule_file.specs.inner.Gathered.{headBytes, slotOf, roomFault};
+ghost use Rattle.schedule_file.specs.ScheduleFile.{headBytes, slotOf, slotRecord, roomFault};
 
 // The marks.
 const HEADER_MARK: [u8; 2] = [0x53, 0x43];

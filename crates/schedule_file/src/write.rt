@@ -11,15 +11,12 @@ use rules::Slot;
 use schedule::MOST_SLOTS;
 use words::overwrite;
 ghost use mathlib.Core.Path.{_≡_};
-ghost use mathlib.Core.List.{[], _∷_};
 ghost use Prim.Native.Nat.{_<_};
-ghost use lib.Dec.{ltb};
 ghost use lib.ListN.{length, getD, take};
-ghost use Rattle.refusals.specs.declared.Refusal.the-variants.{OutOfRange};
-ghost use Rattle.refusals.specs.FirstMet.{firstMet};
 ghost use Rattle.refusals.specs.Given.{Given};
-ghost use Rattle.rules.specs.Slots.{noSlot, mostSlots};
-ghost use Rattle.schedule_file.specs.inner.Gathered.{headed, withSlot, gatheredOf, slotPlace};
+ghost use Rattle.rules.specs.Slots.{noSlot};
+ghost use Rattle.schedule_file.specs.ScheduleFile.{slotPlace, countFault};
+ghost use Rattle.schedule_file.specs.inner.Gathered.{headed, withSlot, gatheredOf};
 ghost use Rattle.schedule_file.specs.Calls.{WriteSchedule};
 
 // How many bytes the longest file has.
@@ -65,8 +62,8 @@ fn with_slot(file: Gathered, row: u8, step: u8, start: u32) -> Gathered
 // Writes the file of n slots; refuses with 3 for more than 192, then 9. A refusal alters no byte,
 // and bytes past the file stay.
 pub fn flush(n: usize, file: Gathered, out: &mut [u8]) -> Checked
-    ensures { λ r. ⌜ Given (firstMet ((ltb mostSlots n, OutOfRange) ∷ []))
-        (take (slotPlace n) (file .bytes)) (now (out .entry)) r (now (out .exit)) ⌝ }
+    ensures { λ r. ⌜ Given (countFault n) (take (slotPlace n) (file .bytes)) (now (out .entry)) r
+        (now (out .exit)) ⌝ }
 {
     let found = check_room(n, out.len());
     if let Checked::Refused(refusal) = found {

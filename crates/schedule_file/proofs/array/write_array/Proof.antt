@@ -8,7 +8,7 @@ use lib.ListN.{length}
 use lib.Seq.{sets}
 use Rattle.refusals.specs.declared.Checked.the-variants.{Good}
 use Rattle.rules.specs.Slots.{slotPlaces, mostSlots}
-use Rattle.schedule_file.specs.inner.Gathered.{headerSize, roomFault}
+use Rattle.schedule_file.specs.ScheduleFile.{headerSize, roomFault}
 use Rattle.schedule_file.proofs.RoomLaws.{room-few, room-refused, room-written}
 use Rattle.schedule_file.proofs.ArrayLaws.{recordsOf, recordsOf-zero, records-next}
 use Rattle.schedule_file.proofs.ArrayLaws.{firsts-size, array-given, array-written}

@@ -7,7 +7,8 @@ use lib.Seq.{length-take-le}
 use borrow.Author.Needs.{needs}
 use Rattle.refusals.specs.declared.Checked.the-variants.{Good}
 use Rattle.rules.specs.Slots.{mostSlots}
-use Rattle.schedule_file.specs.inner.Gathered.{mostBytes, slotPlace, roomFault}
+use Rattle.schedule_file.specs.ScheduleFile.{slotPlace, roomFault}
+use Rattle.schedule_file.specs.inner.Gathered.{mostBytes}
 use Rattle.schedule_file.proofs.RoomLaws.{room-few, room-refused, room-written}
 use Rattle.schedule_file.proofs.write.flush.Statement.{statement}
 use Rattle.schedule_file.proofs.write.flush.Tie as tie

@@ -65,7 +65,8 @@ use Rattle.rules.proofs.Slot as T
 use Rattle.schedule.proofs.walks.FoldLaws.{fold-turn, fold-end}
 use Rattle.schedule.proofs.walks.SlotCalls.{slice, word, next-fits}
 use Rattle.schedule_file.specs.declared.write.Gathered.{Gathered}
-use Rattle.schedule_file.specs.inner.Gathered.{headed, gatheredOf, gathered, slotPlace}
+use Rattle.schedule_file.specs.ScheduleFile.{slotPlace}
+use Rattle.schedule_file.specs.inner.Gathered.{headed, gatheredOf, gathered}
 use Rattle.schedule_file.specs.Calls.{WriteSchedule}
 use Rattle.schedule_file.proofs.GatheredLaws.{gathered-given}
 use Rattle.schedule_file.proofs.LoopCalls.{byteRef, Head as Begin, Flush, to-head, goes-head, said-head}
