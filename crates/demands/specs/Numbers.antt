@@ -19,7 +19,7 @@ use Rattle.bound.specs.declared.Margined.{Margined}
 use Rattle.bound.specs.declared.Judged.{Judged}
 use Rattle.bound.specs.Calls.{AnswersOf, BoundOf, MarginsOf, VerdictOf}
 use Rattle.schedule.specs.Calls.{CheckSchedule, CheckArray}
-use Rattle.schedule_file.specs.Calls.{WriteSchedule, WriteArray}
+use Rattle.schedule_file.specs.Calls.{CheckRoom, WriteSchedule, WriteArray}
 use Rattle.bench.specs.declared.Bench.{Bench}
 use Rattle.bench.specs.declared.Moved.{Moved}
 use Rattle.bench.specs.declared.Ran.{Ran}
@@ -58,11 +58,13 @@ pub record Numbers : Type 0 where
       → OneOf ofLoad (numberGiven (r .answer))
   pub verdict-of : (load : Load) (r : Judged) → VerdictOf load r
       → OneOf ofLoad (numberGiven (r .answer))
-  -- a schedule that is checked, and one that is written
+  -- a schedule that is checked, and one that is written, its room by itself too
   pub check-schedule : (load : Load) (slots : List Slot) (r : Checked) → CheckSchedule load slots r
       → OneOf ofSchedule (numberGiven r)
   pub check-array : (load : Load) (slots : List Slot) (n : ℕ) (r : Checked)
       → CheckArray load slots n r → OneOf ofSchedule (numberGiven r)
+  pub check-room : (n room : ℕ) (r : Checked) → CheckRoom n room r
+      → OneOf ofSlotWriting (numberGiven r)
   pub write-schedule : (slots : List Slot) (out : List ℕ) (r : Checked) (after : List ℕ)
       → WriteSchedule slots out r after → OneOf ofSlotWriting (numberGiven r)
   pub write-array : (slots : List Slot) (n : ℕ) (out : List ℕ) (r : Checked) (after : List ℕ)

@@ -6,6 +6,7 @@ use Rattle.refusals.specs.declared.Checked.{Checked}
 use Rattle.load.specs.declared.Load.{Load}
 use Rattle.rules.specs.declared.Slot.{Slot}
 use Rattle.schedule.specs.Calls.{AtMostPlaces, CheckSchedule, CheckArray}
+use Rattle.schedule_file.specs.Calls.{CheckRoom, HeadRecord, SlotRecord}
 use Rattle.schedule_file.specs.Calls.{WriteSchedule, WriteArray}
 use Rattle.demands.specs.FileCalls.{Wrote, Writes}
 
@@ -17,6 +18,9 @@ pub record EveryScheduleCall {ℓ} (Claim : (A : Type 0) → (A → Type 0) → 
   pub check-array : (load : Load) (slots : List Slot) (n : ℕ)
       → Claim Checked (CheckArray load slots n)
   -- schedule_file
+  pub check-room : (n room : ℕ) → Claim Checked (CheckRoom n room)
+  pub head-record : (n : ℕ) → Claim (List ℕ) (HeadRecord n)
+  pub slot-record : (row step start : ℕ) → Claim (List ℕ) (SlotRecord row step start)
   pub write-schedule : (slots : List Slot) (out : List ℕ)
       → Claim (Wrote Checked) (Writes (WriteSchedule slots out))
   pub write-array : (slots : List Slot) (n : ℕ) (out : List ℕ)

@@ -9,6 +9,13 @@ pub worked-hold : WorkedCases
 unfolding joinIn littleEndian scheduleBytes
 worked-hold =
     record {
+      head = refl;
+      head-long = refl;
+      slot = refl;
+      room-short = refl;
+      room-exact = refl;
+      room-most = refl;
+      room-never = λ room. refl;
       none = refl;
       one = refl;
       two = refl;

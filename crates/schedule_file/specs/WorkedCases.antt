@@ -11,7 +11,7 @@ use Rattle.refusals.specs.declared.Checked.the-variants.{Good, Refused}
 use Rattle.rules.specs.declared.Slot.{Slot}
 use Rattle.schedule.specs.Calls.{firstSlots}
 use Rattle.schedule_file.specs.ScheduleFile.{slotsFault, scheduleBytes}
-use Rattle.schedule_file.specs.Calls.{WriteSchedule}
+use Rattle.schedule_file.specs.Calls.{CheckRoom, HeadRecord, SlotRecord, WriteSchedule}
 
 -- row 1, step 2, from the moment 01020304 on
 abbrev pub aSlot : Slot
@@ -40,6 +40,19 @@ roomOf n = replicate n 0xA5
 
 -- each case, and what is right of it
 pub record WorkedCases : Type 0 where
+  -- the head of a file of 6 slots
+  pub head : HeadRecord 6 (0x53 ∷ 0x43 ∷ 0x06 ∷ 0x00 ∷ [])
+  -- the lowest byte of the count first; what two bytes do not hold is left out
+  pub head-long : HeadRecord 0x010203 (0x53 ∷ 0x43 ∷ 0x03 ∷ 0x02 ∷ [])
+  -- the record of row 1, step 2, from the moment 12 on
+  pub slot : SlotRecord 1 2 12
+      (0x53 ∷ 0x4C ∷ 0x01 ∷ 0x02 ∷ 0x0C ∷ 0x00 ∷ 0x00 ∷ 0x00 ∷ [])
+  -- two slots take 20 bytes: one byte less is 9
+  pub room-short : CheckRoom 2 19 (Refused OutputShort)
+  pub room-exact : CheckRoom 2 20 Good
+  -- the room for 192 slots, and 3 for one more, whatever the room
+  pub room-most : CheckRoom 192 1540 Good
+  pub room-never : (room : ℕ) → CheckRoom 193 room (Refused OutOfRange)
   -- the file of no slot
   pub none : scheduleBytes [] ≡ 0x53 ∷ 0x43 ∷ 0x00 ∷ 0x00 ∷ []
   -- the file of one slot, byte for byte

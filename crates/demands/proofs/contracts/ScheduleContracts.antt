@@ -14,6 +14,12 @@ pub record ScheduleContracts (relation : EveryScheduleCall Relation) : Type 2 wh
   pub check-array : Says schedule.check_array.ended (λ M. schedule.check_array.spec)
       (λ κs a r s. relation .check-array (a .0) (a .1 .0) (a .1 .1 .0) .meets r)
   -- schedule_file
+  pub check-room : Says schedule_file.check_room.ended (λ M. schedule_file.check_room.spec)
+      (λ κs a r s. relation .check-room (a .0) (a .1 .0) .meets r)
+  pub head-record : Says schedule_file.head_record.ended (λ M. schedule_file.head_record.spec)
+      (λ κs a r s. relation .head-record (a .0) .meets r)
+  pub slot-record : Says schedule_file.slot_record.ended (λ M. schedule_file.slot_record.spec)
+      (λ κs a r s. relation .slot-record (a .0) (a .1 .0) (a .1 .1 .0) .meets r)
   pub write-schedule : Says schedule_file.write_schedule.ended (λ M. schedule_file.write_schedule.spec)
       (λ κs a r s. relation .write-schedule (a .0 .now) (a .1 .0 .now) .meets (wrote r (s .1 .0 .now)))
   pub write-array : Says schedule_file.write_array.ended (λ M. schedule_file.write_array.spec)

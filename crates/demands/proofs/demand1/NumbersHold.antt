@@ -19,7 +19,13 @@ use Rattle.demands.proofs.demand1.CallNumbers.{
   schedule-gives,
   move-gives,
 }
-use Rattle.demands.proofs.demand1.WritingCalls.{load-written-gives, slots-written-give, c-gives, out-gives}
+use Rattle.demands.proofs.demand1.WritingCalls.{
+  load-written-gives,
+  room-gives,
+  slots-written-give,
+  c-gives,
+  out-gives,
+}
 
 pub numbers : Numbers
 numbers =
@@ -37,6 +43,7 @@ numbers =
       verdict-of = λ load r e. rw e (load-gives load .number);
       check-schedule = λ load slots r e. rw e (schedule-gives load slots .number);
       check-array = λ load slots n r e. rw e (schedule-gives load (firstSlots slots n) .number);
+      check-room = λ n room r e. rw e (room-gives n room .number);
       write-schedule = slots-written-give;
       write-array = λ slots n out r after g. slots-written-give (firstSlots slots n) out r after g;
       next-move = λ load bench r e. rw e (move-gives load bench);

@@ -24,7 +24,7 @@ use Rattle.load_file.specs.Places.{loadIn}
 use Rattle.load_file.specs.Reading.{fileFault, readLoad}
 use Rattle.rules.specs.declared.Slot.{Slot}
 use Rattle.rules.specs.Slots.{mostSlots}
-use Rattle.schedule_file.specs.ScheduleFile.{slotsFault, scheduleBytes}
+use Rattle.schedule_file.specs.ScheduleFile.{slotPlace, scheduleBytes, countFault, slotsFault, roomFault}
 use Rattle.schedule_file.specs.Calls.{WriteSchedule}
 use Rattle.reading_bench.specs.Calls.{ForC}
 use Rattle.demands.specs.NumberLists.{OneOf, ofLoad, ofFile, ofOutput, ofC, ofWriting, ofSlotWriting}
@@ -55,12 +55,21 @@ load-written-gives load out r after g =
     given-gives ofWriting (checkLoad load) (loadBytes load) out r after refl
     (with-nine ofLoad (checkLoad load) refl (load-gives load)) g
 
+count-gives : (n : ℕ) → Gives ofSlotWriting (countFault n)
+unfolding anyIn
+count-gives n = tests-give ofSlotWriting ((ltb mostSlots n, OutOfRange) ∷ []) refl
+
+pub room-gives : (n room : ℕ) → Gives ofSlotWriting (roomFault n room)
+unfolding anyIn
+room-gives n room =
+    then-gives ofSlotWriting (countFault n) _ (count-gives n)
+    (last-gives ofSlotWriting _ (tests-give ofSlotWriting ((ltb room (slotPlace n), OutputShort) ∷ []) refl))
+
 pub slots-written-give : (slots : List Slot) (out : List ℕ) (r : Checked) (after : List ℕ)
     → WriteSchedule slots out r after → OneOf ofSlotWriting (numberGiven r)
 unfolding anyIn
 slots-written-give slots out r after g =
-    given-gives ofSlotWriting (slotsFault slots) (scheduleBytes slots) out r after refl
-    (tests-give ofSlotWriting ((ltb mostSlots (length slots), OutOfRange) ∷ []) refl) g
+    given-gives ofSlotWriting (slotsFault slots) (scheduleBytes slots) out r after refl (count-gives (length slots)) g
 
 pub c-gives : (answer : View → List ℕ) (bs out : List ℕ) (r : ℕ) (after : List ℕ) → ForC answer bs out r after
     → OneOf ofC r
