@@ -89,24 +89,25 @@ fn place_behind(at: usize, row: Row) -> usize
 }
 
 // Reads the rows behind the header, of which it announces at most 24, and then the end record:
-// gives the first refusal that is met and the all-zero load, or Good and the load.
+// gives the first refusal that is met and the all-zero load, or Good and the load. A refused
+// reading clears what it kept and leaves by the one exit: a second would cost the frame one load
+// more.
 fn read_rows(bytes: &[u8], rows: u8) -> Reading
     requires { ⌜ (rows ≡ rowsSaid (now bytes)) × (rows ≤ mostRows) ⌝ }
     ensures { λ r. ⌜ r ≡ readRows (now (bytes .entry)) ⌝ }
 {
     let mut identifiers = [Identifier(0); MOST_ROWS];
     let mut boxes = [BoxNumber(0); MOST_ROWS];
-    let zeros = load::zero_row();
-    let mut kept = [zeros; MOST_ROWS];
+    let mut kept = [load::zero_row(); MOST_ROWS];
     let mut at = HEADER_SIZE;
     let mut steps: u16 = 0;
     let count = rows as usize;
+    let mut answer = Checked::Good;
     for i in 0..count {
         let reading = read_row(bytes, at, identifiers, boxes, i);
-        let answer = reading.answer;
-        match answer {
-            Checked::Good => {}
-            Checked::Refused(refusal) => return no_load(refusal),
+        answer = reading.answer;
+        if let Checked::Refused(_) = answer {
+            break;
         }
         let row = reading.row;
         let identifier = row.identifier;
@@ -117,13 +118,19 @@ fn read_rows(bytes: &[u8], rows: u8) -> Reading
         steps += row.steps as u16;
         at = place_behind(at, row);
     }
-    match check_end(bytes, at, steps) {
-        Checked::Good => Reading {
-            answer: Checked::Good,
-            load: Load { rows, row: kept },
-        },
-        Checked::Refused(refusal) => no_load(refusal),
+    if let Checked::Good = answer {
+        answer = check_end(bytes, at, steps);
     }
+    let mut told = rows;
+    if let Checked::Refused(_) = answer {
+        told = 0;
+        kept = [load::zero_row(); MOST_ROWS];
+    }
+    let load = Load {
+        rows: told,
+        row: kept,
+    };
+    Reading { answer, load }
 }
 
 // Reads a load file: gives the first refusal that is met, 1 to 8, and the all-zero load, or Good

@@ -18,6 +18,7 @@ use Rattle.refusals.specs.FirstMet.{firstMet, andThen, firstFaultTo}
 use Rattle.refusals.proofs.FirstMetLaws.{
   andThen-good-first,
   andThen-both,
+  andThen-last,
   firstFaultTo-zero,
   firstFaultTo-next,
   firstFaultTo-refused,
@@ -93,13 +94,13 @@ module _ (bs : List ℕ) where
   unfolding rowsFault
   rowsFault-parts = refl
 
-  refused : {r : Refusal} → rowsFault bs ≡ Refused r → record { answer = Refused r; load = zeroLoad } ≡ readRows bs
-  unfolding readRows
-  refused h = rw h
-
-  good : rowsFault bs ≡ Good → record { answer = Good; load = loadIn bs } ≡ readRows bs
-  unfolding readRows
-  good h = rw h
+  -- a refused reading gives rows of zeros
+  pub reading-refused : {answer : Checked} {refusal : Refusal} (zeros : Row) → zeros ≡ zeroRow → answer ≡ rowsFault bs
+      → answer ≡ Refused refusal
+      → record { answer = answer; load = record { rows = 0; row = replicate mostRows zeros } } ≡ readRows bs
+  unfolding readRows zeroLoad
+  reading-refused {answer} {refusal} zeros e found h =
+      let z : rowsFault bs ≡ Refused refusal = sym found ∙ h in rw (z, h, e)
 
 module _ {bs : List ℕ} {i : ℕ} {identifiers : List Identifier} {boxes : List BoxNumber} {rows : List Row} {at steps : ℕ}
     (so-far : RowsRead bs i identifiers boxes rows at steps) where
@@ -112,13 +113,12 @@ module _ {bs : List ℕ} {i : ℕ} {identifiers : List Identifier} {boxes : List
     found : r .answer ≡ rowFaultIn bs i
     found = answer-is ∙ ap (rowFaultAt bs i) (so-far .place-is)
 
-    -- and refused
-    pub rows-refused : {refusal : Refusal} → r .answer ≡ Refused refusal
-        → record { answer = Refused refusal; load = zeroLoad } ≡ readRows bs
+    -- and refused: it decides
+    pub rows-refused : {refusal : Refusal} → r .answer ≡ Refused refusal → r .answer ≡ rowsFault bs
     rows-refused {refusal} h =
         let z : firstFaultTo (rowFaultIn bs) (rowsSaid bs) ≡ Refused refusal =
         firstFaultTo-refused (rowFaultIn bs) (rowsSaid bs) i refusal l (so-far .no-fault) (sym found ∙ h) in
-        refused bs (rowsFault-parts bs ∙ rw z)
+        h ∙ sym (rowsFault-parts bs ∙ rw z)
 
     -- and is Good
     module _ (h : r .answer ≡ Good) where
@@ -196,26 +196,21 @@ module _ {bs : List ℕ} {i : ℕ} {identifiers : List Identifier} {boxes : List
     end-place : at ≡ rowPlace bs (rowsSaid bs)
     end-place = so-far .place-is ∙ ap (rowPlace bs) last
 
-    -- and the end record is refused, or is Good
-    module _ {c : Checked} (found : c ≡ firstMet (endTests bs at)) where
-      end-found : firstMet (endTests bs (rowPlace bs (rowsSaid bs))) ≡ c
-      end-found = ap (λ at. firstMet (endTests bs at)) (sym end-place) ∙ sym found
+    -- the end record decides
+    pub end-decides : {c : Checked} → c ≡ firstMet (endTests bs at) → c ≡ rowsFault bs
+    end-decides found =
+        found ∙ ap (λ at. firstMet (endTests bs at)) end-place
+        ∙ sym (rowsFault-parts bs ∙ rw rows-good (andThen-last (firstMet (endTests bs (rowPlace bs (rowsSaid bs))))))
 
-      pub end-refused : {refusal : Refusal} → c ≡ Refused refusal
-          → record { answer = Refused refusal; load = zeroLoad } ≡ readRows bs
-      end-refused {refusal} h =
-          let z : firstMet (endTests bs (rowPlace bs (rowsSaid bs))) ≡ Refused refusal = end-found ∙ h in
-          refused bs (rowsFault-parts bs ∙ rw (rows-good, z))
-
-      pub end-good : (count : ℕ) → count ≡ rowsSaid bs → c ≡ Good
-          → record { answer = Good; load = record { rows = count; row = rows } } ≡ readRows bs
-      unfolding loadIn
-      end-good count e h =
-          let z : firstMet (endTests bs (rowPlace bs (rowsSaid bs))) ≡ Good = end-found ∙ h in
-          let filled-rows : rows ≡ filled (λ k. rowFrom bs (rowPlace bs k)) (rowsSaid bs) mostRows zeroRow =
-          so-far .rows-are ∙ ap (λ n. filled (λ k. rowFrom bs (rowPlace bs k)) n mostRows zeroRow) last in
-          ap₂ (λ rows row. record { answer = Good; load = record { rows = rows; row = row } }) e filled-rows
-          ∙ good bs (rowsFault-parts bs ∙ rw (rows-good, z))
+    -- and where it is Good, the rows are those of the file
+    pub reading-good : {answer : Checked} (count : ℕ) → count ≡ rowsSaid bs → answer ≡ rowsFault bs → answer ≡ Good
+        → record { answer = answer; load = record { rows = count; row = rows } } ≡ readRows bs
+    unfolding readRows loadIn
+    reading-good count e found h =
+        let z : rowsFault bs ≡ Good = sym found ∙ h in
+        let filled-rows : rows ≡ filled (λ k. rowFrom bs (rowPlace bs k)) (rowsSaid bs) mostRows zeroRow =
+        so-far .rows-are ∙ ap (λ n. filled (λ k. rowFrom bs (rowPlace bs k)) n mostRows zeroRow) last in
+        rw (z, h, e, filled-rows)
 
 -- the header, and what the reading of the file gives behind it
 module _ (bs : List ℕ) where
