@@ -3,15 +3,21 @@
 use Prim.Native.Nat.{ℕ}
 use mathlib.Core.List.{List}
 use mathlib.Core.Path.{_≡_}
+use Rattle.refusals.specs.declared.Checked.{Checked}
+use Rattle.refusals.specs.Given.{Given}
 use Rattle.load.specs.declared.Load.{Load}
+use Rattle.load.specs.View.{viewOf}
 use Rattle.load.specs.Check.{forBench}
+use Rattle.load_file.specs.Places.{loadIn}
 use Rattle.load_file.specs.Reading.{fileForBench}
 use Rattle.rules.specs.State.{fresh}
+use Rattle.rules.specs.Run.{schedule}
+use Rattle.schedule_file.specs.ScheduleFile.{scheduleBytes}
 use Rattle.bench.specs.declared.Bench.{Bench}
 use Rattle.bench.specs.declared.Moved.{Moved}
 use Rattle.bench.specs.declared.Ran.{Ran}
 use Rattle.bench.specs.Held.{benchOf, nextMove}
-use Rattle.bench.specs.Runs.{scheduleOr, scheduleInFile, ranWith}
+use Rattle.bench.specs.Runs.{scheduleOr, ranWith}
 
 -- fresh(): fresh is all zero
 abbrev pub Fresh : Bench → Type 0
@@ -25,6 +31,8 @@ NextMove load bench r = r ≡ nextMove load bench
 abbrev pub Runs : Load → Ran → Type 0
 Runs load r = r ≡ ranWith (forBench load) (scheduleOr load)
 
--- run_file(bytes): the file's number, 1 to 8, and no slot, or Good with the schedule
-abbrev pub RunsFile : List ℕ → Ran → Type 0
-RunsFile bs r = r ≡ ranWith (fileForBench bs) (scheduleInFile bs)
+-- write_run(bytes, out): the file's number, 1 to 8, then 9, or Good with the schedule file of the
+-- run in the output
+abbrev pub WriteRun : List ℕ → List ℕ → Checked → List ℕ → Type 0
+WriteRun bs out r after =
+    Given (fileForBench bs) (scheduleBytes (schedule (viewOf (loadIn bs)))) out r after

@@ -1,20 +1,67 @@
-// The run of a load file: its load is checked once, as it is read.
-use crate::Ran;
-use crate::runs::refused_run;
-use crate::runs::run_checked;
+// The run of a load file, written as a schedule file: slots go straight to the output as they are
+// made, and the load is checked once, as it is read.
+use crate::boards::start_row;
+use crate::boards::steps_of;
 use load_file::read_load;
+use plan::COUNT_PLACES;
+use plan::LENGTH_PLACES;
+use plan::MOMENT_PLACES;
+use plan::look_of;
+use plan::next_start;
+use plan::put_look;
 use refusals::Checked;
-ghost use Rattle.bench.specs.Calls.{RunsFile};
+use schedule_file::HEADER_SIZE;
+use schedule_file::SLOT_SIZE;
+use schedule_file::check_room;
+use schedule_file::head_record;
+use schedule_file::slot_record;
+use words::overwrite;
+ghost use Rattle.bench.specs.Calls.{WriteRun};
 
-// Reads a load file and runs its load from fresh to Done. A file that is out of order is refused
-// with its number, 1 to 8, and has no slot.
-pub fn run_file(bytes: &[u8]) -> Ran
-    ensures { λ r. ⌜ RunsFile (now (bytes .entry)) r ⌝ }
+// Reads a load file, runs its load from fresh to Done, and writes the schedule file of the run. A
+// file that is out of order is refused with its number, 1 to 8; then an output that is too short,
+// with 9. A refusal alters no byte, and bytes past the file stay. The load that was read stands in
+// this function alone, and so do both loops over its rows: handed on it would be copied, which
+// takes more of the stack than a host may have.
+pub fn write_run(bytes: &[u8], out: &mut [u8]) -> Checked
+    ensures { λ r. ⌜ WriteRun (now (bytes .entry)) (now (out .entry)) r (now (out .exit)) ⌝ }
 {
     let read = read_load(bytes);
     let found = read.answer;
-    match found {
-        Checked::Good => run_checked(read.load),
-        Checked::Refused(refusal) => refused_run(refusal),
+    if let Checked::Refused(refusal) = found {
+        return Checked::Refused(refusal);
     }
+    let load = read.load;
+    let rows = load.rows as usize;
+    let mut counts = [0; COUNT_PLACES];
+    let mut lengths = [0; LENGTH_PLACES];
+    let mut moments = [0; MOMENT_PLACES];
+    for i in 0..rows {
+        let row = load.row[i];
+        put_look(
+            &mut counts,
+            &mut lengths,
+            &mut moments,
+            i,
+            look_of(row, 0, 0, 0),
+        );
+    }
+    let steps = steps_of(&counts, rows);
+    let room = check_room(steps, out.len());
+    if let Checked::Refused(refusal) = room {
+        return Checked::Refused(refusal);
+    }
+    overwrite(out, 0, &head_record(steps));
+    let mut clock: u32 = 0;
+    for k in 0..steps {
+        let next = next_start(&counts, &lengths, &moments, clock, rows);
+        let i = next.row;
+        let row = load.row[i];
+        let started = start_row(row, i, next.moment, &mut counts, &mut lengths, &mut moments);
+        let slot = started.slot;
+        let record = slot_record(slot.row, slot.step, slot.start);
+        overwrite(out, HEADER_SIZE + SLOT_SIZE * k, &record);
+        clock = started.end;
+    }
+    Checked::Good
 }

@@ -1,6 +1,7 @@
 // The bench, by value: a fresh one, one move of it, and the run from fresh to Done. A move is
 // refused by the load's own numbers, by a state that does not have the load's shape (10), and with
-// the clock full (11); a run by the load's own numbers alone, and that of a file by the file's.
+// the clock full (11); a run by the load's own numbers alone, and one that is written by its file's
+// and by an output that is too short (9).
 mod boards;
 mod files;
 mod lamps;
@@ -9,7 +10,7 @@ mod runs;
 mod shape;
 mod state;
 
-pub use files::run_file;
+pub use files::write_run;
 use load::MOST_ROWS;
 pub use moves::next_move;
 use refusals::Checked;
@@ -42,4 +43,10 @@ pub struct Ran {
     pub answer: Checked,
     pub count: usize,
     pub slots: [Slot; SLOT_PLACES],
+}
+
+// What a start gives: its slot, and the moment at which the step ends.
+pub(crate) struct Started {
+    pub slot: Slot,
+    pub end: u32,
 }

@@ -2,39 +2,47 @@
 // are open after it.
 use crate::Bench;
 use crate::Moved;
-use crate::boards::board_of;
+use crate::boards::fill_board;
+use crate::boards::slot_of;
 use crate::lamps::lamp_word;
 use crate::shape::has_shape;
 use load::LAST_MOMENT;
 use load::Load;
-use load::MOST_ROWS;
 use load::check_load;
+use plan::COUNT_PLACES;
+use plan::FINISHED;
+use plan::LENGTH_PLACES;
+use plan::MOMENT_PLACES;
+use plan::OPENED;
+use plan::STEPS;
 use plan::chosen_row;
+use plan::look_at;
 use plan::opening_after;
 use refusals::Checked;
 use refusals::Refusal;
 use rules::Outcome;
-use rules::Slot;
 ghost use mathlib.Core.Path.{_≡_};
 ghost use mathlib.Core.Bool.{true};
-ghost use Prim.Native.Nat.{_≤_, _<_};
+ghost use Prim.Native.Nat.{_≤_};
 ghost use Rattle.refusals.specs.declared.Checked.the-variants.{Good};
-ghost use Rattle.load.specs.Load.{mostRows, mostSteps};
+ghost use Rattle.load.specs.Load.{mostRows};
 ghost use Rattle.load.specs.Check.{checkLoad};
 ghost use Rattle.load.specs.View.{viewOf};
 ghost use Rattle.rules.specs.State.{shaped};
 ghost use Rattle.rules.specs.Move.{move};
+ghost use Rattle.plan.specs.Boards.{numbersFrom, marksFrom};
 ghost use Rattle.bench.specs.Held.{stateOf, handedOn, refusedWith};
-ghost use Rattle.bench.specs.inner.Moves.{slotOf, finishedBy, handedWith};
+ghost use Rattle.bench.specs.inner.Moves.{finishedBy, handedWith};
 ghost use Rattle.bench.specs.Calls.{NextMove};
 
 // Says whether all steps are finished.
-fn all_finished<'a>(finished: &'a [u8; MOST_ROWS], steps: &'a [u8; MOST_ROWS], rows: usize) -> bool
+fn all_finished(counts: &[u8; COUNT_PLACES], rows: usize) -> bool
     requires { ⌜ rows ≤ mostRows ⌝ }
-    ensures { λ r. ⌜ r ≡ finishedBy (now (finished .entry)) (now (steps .entry)) rows ⌝ }
+    ensures { λ r. ⌜ r ≡ finishedBy (numbersFrom (now (counts .entry)) 0)
+        (numbersFrom (now (counts .entry)) 24) rows ⌝ }
 {
     for i in 0..rows {
-        if finished[i] < steps[i] {
+        if counts[FINISHED + i] < counts[STEPS + i] {
             return false;
         }
     }
@@ -54,11 +62,11 @@ fn refused(bench: Bench, refusal: Refusal) -> Moved
 }
 
 // Hands a bench back with the lamps of the rows that have an open window, and their count.
-fn handed(bench: Bench, outcome: Outcome, opened: [bool; MOST_ROWS], rows: usize) -> Moved
+fn handed(bench: Bench, outcome: Outcome, counts: &[u8; COUNT_PLACES], rows: usize) -> Moved
     requires { ⌜ rows ≤ mostRows ⌝ }
-    ensures { λ r. ⌜ r ≡ handedWith bench outcome opened rows ⌝ }
+    ensures { λ r. ⌜ r ≡ handedWith bench outcome (marksFrom (now (counts .entry)) 48) rows ⌝ }
 {
-    let lamps = lamp_word(opened, rows);
+    let lamps = lamp_word(counts, rows);
     Moved {
         bench,
         outcome,
@@ -67,69 +75,36 @@ fn handed(bench: Bench, outcome: Outcome, opened: [bool; MOST_ROWS], rows: usize
     }
 }
 
-// Done changes nothing.
-fn done(bench: Bench, opened: [bool; MOST_ROWS], rows: usize) -> Moved
-    requires { ⌜ rows ≤ mostRows ⌝ }
-    ensures { λ r. ⌜ r ≡ handedWith bench Outcome.Done opened rows ⌝ }
-{
-    handed(bench, Outcome::Done, opened, rows)
-}
-
-// Gives the next step of row i, which has finished so many, as a slot that starts at a moment: rows
-// and steps are shown counted from 1.
-pub fn slot_of(i: usize, finished: u8, moment: u32) -> Slot
-    requires { ⌜ (i < mostRows) × (finished < mostSteps) ⌝ }
-    ensures { λ r. ⌜ r ≡ slotOf i finished moment ⌝ }
-{
-    Slot {
-        row: i as u8 + 1,
-        step: finished + 1,
-        start: moment,
-    }
-}
-
 // Makes one move of a bench that has the shape of its load, which was checked: Done where all steps
-// are finished; a full clock with work left is refused (11); else the first candidate that passes
-// starts, or the clock moves one tick.
+// are finished, which changes nothing; a full clock with work left is refused (11); else the first
+// candidate that passes starts, or the clock moves one tick.
 fn move_shaped(load: Load, bench: Bench) -> Moved
     requires { ⌜ checkLoad load ≡ Good ⌝ }
     requires { ⌜ shaped (viewOf load) (stateOf bench) ≡ true ⌝ }
     ensures { λ r. ⌜ r ≡ handedOn bench (move (viewOf load) (stateOf bench)) ⌝ }
 {
-    let board = board_of(load, bench);
+    let mut counts = [0; COUNT_PLACES];
+    let mut lengths = [0; LENGTH_PLACES];
+    let mut moments = [0; MOMENT_PLACES];
+    fill_board(load, bench, &mut counts, &mut lengths, &mut moments);
     let rows = load.rows as usize;
     let clock = bench.clock;
-    let mut opened = board.opened;
-    if all_finished(&board.finished, &board.steps, rows) {
-        return done(bench, opened, rows);
+    if all_finished(&counts, rows) {
+        return handed(bench, Outcome::Done, &counts, rows);
     }
     if LAST_MOMENT <= clock {
         return refused(bench, Refusal::ClockFull);
     }
-    let i = chosen_row(
-        &board.finished,
-        &board.steps,
-        &board.opening,
-        &board.cost,
-        &board.release,
-        &board.opened,
-        &board.left,
-        &board.due,
-        &board.wait,
-        &board.stays,
-        &board.rest,
-        &board.limit,
-        clock,
-        rows,
-    );
+    let i = chosen_row(&counts, &lengths, &moments, clock, rows);
     if rows <= i {
-        return handed(bench.idle(), Outcome::Idle, opened, rows);
+        return handed(bench.idle(), Outcome::Idle, &counts, rows);
     }
-    let opening = opening_after(board.stays[i], board.opened[i], board.opening[i], clock);
-    opened[i] = board.stays[i];
-    let slot = slot_of(i, board.finished[i], clock);
-    let next = bench.start(i, board.cost[i], opening);
-    handed(next, Outcome::Start(slot), opened, rows)
+    let look = look_at(&counts, &lengths, &moments, i);
+    let opening = opening_after(look.stays, look.opened, look.opening, clock);
+    counts[OPENED + i] = look.stays as u8;
+    let slot = slot_of(i, look.finished, clock);
+    let next = bench.start(i, look.cost, opening);
+    handed(next, Outcome::Start(slot), &counts, rows)
 }
 
 // Makes one move of a bench with a load that was checked; a state that does not have the load's

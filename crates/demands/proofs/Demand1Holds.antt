@@ -16,7 +16,6 @@ use Rattle.demands.proofs.demand1.RefusedAlone.{
   refused-verdict,
   refused-answers,
   refused-slots,
-  refused-file-slots,
 }
 use Rattle.demands.proofs.demand1.WritingCalls.{c-keeps, out-keeps}
 use Rattle.demands.proofs.demand1.RefusedMoves.{bench-kept}
@@ -39,9 +38,9 @@ demand1 =
       no-verdict = refused-verdict;
       no-answers = refused-answers;
       no-slots = refused-slots;
-      no-slots-of-file = refused-file-slots;
       load-stays = λ load out refusal after g. g .output-is;
       schedule-stays = λ slots out refusal after g. g .output-is;
+      run-stays = λ bs out refusal after g. g .output-is;
       array-stays = λ slots n out refusal after g. g .output-is;
       bound-stays = c-keeps boundBytes;
       verdict-stays = c-keeps verdictBytes;

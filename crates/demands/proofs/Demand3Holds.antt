@@ -7,13 +7,14 @@ use mathlib.Core.Path.{_≡_, ap, sym, _∙_}
 use Rattle.counting.specs.Lists.{anyIn}
 use Rattle.counting.proofs.lists.ListLaws.{joinTo-ext}
 use Rattle.refusals.specs.declared.Checked.the-variants.{Good}
+use Rattle.refusals.specs.Given.{written}
 use Rattle.refusals.specs.Refusals.{numberGiven}
 use Rattle.load.specs.declared.Load.{Load}
 use Rattle.load.specs.View.{viewOf}
 use Rattle.load.specs.Check.{checkLoad}
 use Rattle.load.proofs.AcceptableLaws.{check-acceptable}
 use Rattle.load_file.specs.declared.Reading.{Reading}
-use Rattle.load_file.proofs.CallLaws.{ReadLoad-answer, ReadLoad-load}
+use Rattle.load_file.proofs.CallLaws.{ReadLoad-load}
 use Rattle.rules.specs.declared.Slot.{Slot}
 use Rattle.rules.specs.Outcomes.{toldBy}
 use Rattle.rules.specs.Margins.{verdict}
@@ -27,8 +28,8 @@ use Rattle.rules.proofs.run.RunLaws.{starts-joined}
 use Rattle.rules.proofs.Demand3.{accepted-demand3, accepted-passes}
 use Rattle.bound.specs.declared.Judged.{Judged}
 use Rattle.bound.specs.Calls.{VerdictOf}
+use Rattle.schedule_file.specs.ScheduleFile.{scheduleBytes}
 use Rattle.bench.proofs.running.RunsLaws.{Runs-schedule}
-use Rattle.bench.proofs.running.FileRuns.{RunsFile-schedule}
 use Rattle.demands.specs.NumberLists.{OneOf, ofLateRow}
 use Rattle.demands.specs.Demand3.{Run, startsOf, RunKept, Demand3}
 use Rattle.demands.proofs.Demand2Holds.{file-back, demand2}
@@ -86,8 +87,8 @@ demand3 =
       of-loads = λ load good run. run-kept load (sym good) run;
       of-files = λ bs b r e g run.
           run-kept (r .load) (rw e (file-back bs b (ap (λ (x : Reading). x .answer) (sym e) ∙ g) .good)) run;
-      runs-of-files = λ bs b r e g ran runs.
-          RunsFile-schedule bs (sym (ReadLoad-answer bs r e) ∙ g) ran runs
-          ∙ ap (λ load. schedule (viewOf load)) (sym (ReadLoad-load bs r e g));
+      runs-of-files = λ bs b r e g out after w.
+          w .output-is ∙ ap (λ load. written (scheduleBytes (schedule (viewOf load))) out) (sym
+          (ReadLoad-load bs r e g));
       runs = run-of;
     }

@@ -31,7 +31,7 @@ use Rattle.bench.specs.declared.Bench.{Bench}
 use Rattle.bench.specs.declared.Moved.{Moved}
 use Rattle.bench.specs.declared.Ran.{Ran}
 use Rattle.bench.specs.Held.{refusedWith}
-use Rattle.bench.specs.Calls.{NextMove, Runs, RunsFile}
+use Rattle.bench.specs.Calls.{NextMove, Runs, WriteRun}
 use Rattle.reading_bench.specs.Calls.{BenchBound, BenchVerdict, BenchMargins, BenchSchedule}
 use Rattle.lines.specs.Calls.{PrintLines}
 use Rattle.demands.specs.PublicCalls.{EveryCall}
@@ -86,13 +86,13 @@ pub record Demand1 : Type 0 where
       → r .answer ≡ Refused refusal → r ≡ nothingBut refusal
   pub no-slots : (load : Load) (r : Ran) (refusal : Refusal) → Runs load r
       → r .answer ≡ Refused refusal → r .count ≡ 0
-  pub no-slots-of-file : (bs : List ℕ) (r : Ran) (refusal : Refusal) → RunsFile bs r
-      → r .answer ≡ Refused refusal → r .count ≡ 0
   -- a refused call leaves the output as it was
   pub load-stays : (load : Load) (out : List ℕ) (refusal : Refusal) (after : List ℕ)
       → WriteLoad load out (Refused refusal) after → after ≡ out
   pub schedule-stays : (slots : List Slot) (out : List ℕ) (refusal : Refusal) (after : List ℕ)
       → WriteSchedule slots out (Refused refusal) after → after ≡ out
+  pub run-stays : (bs out : List ℕ) (refusal : Refusal) (after : List ℕ)
+      → WriteRun bs out (Refused refusal) after → after ≡ out
   pub array-stays : (slots : List Slot) (n : ℕ) (out : List ℕ) (refusal : Refusal) (after : List ℕ)
       → WriteArray slots n out (Refused refusal) after → after ≡ out
   pub bound-stays : Stays BenchBound

@@ -10,6 +10,7 @@ use lib.ListN.{length, take}
 use Rattle.counting.specs.Lists.{joinTo}
 use Rattle.words.specs.LittleEndian.{Bytes}
 use Rattle.refusals.specs.declared.Checked.{Checked}
+use Rattle.refusals.specs.Given.{written}
 use Rattle.refusals.specs.declared.Checked.the-variants.{Good}
 use Rattle.refusals.specs.Refusals.{numberGiven}
 use Rattle.load.specs.declared.Load.{Load}
@@ -30,10 +31,11 @@ use Rattle.bound.specs.declared.Bounded.{Bounded}
 use Rattle.bound.specs.declared.Judged.{Judged}
 use Rattle.bound.specs.Calls.{BoundOf, VerdictOf}
 use Rattle.schedule.specs.Calls.{CheckSchedule}
+use Rattle.schedule_file.specs.ScheduleFile.{scheduleBytes}
 use Rattle.bench.specs.declared.Bench.{Bench}
 use Rattle.bench.specs.declared.Moved.{Moved}
 use Rattle.bench.specs.declared.Ran.{Ran}
-use Rattle.bench.specs.Calls.{Fresh, NextMove, Runs, RunsFile}
+use Rattle.bench.specs.Calls.{Fresh, NextMove, Runs, WriteRun}
 use Rattle.demands.specs.NumberLists.{OneOf, ofLateRow}
 use Rattle.demands.specs.Demand2.{SameMove}
 
@@ -100,8 +102,9 @@ pub record Demand3 : Type 0 where
   -- any file that is not refused
   pub of-files : (bs : List ℕ) → Bytes bs → (r : Reading) → ReadLoad bs r → r .answer ≡ Good
       → (run : Run (r .load)) → RunKept (r .load) run
-  -- whose call hands the schedule back as well
+  -- whose call writes the schedule file as well
   pub runs-of-files : (bs : List ℕ) → Bytes bs → (r : Reading) → ReadLoad bs r → r .answer ≡ Good
-      → (ran : Ran) → RunsFile bs ran → take (ran .count) (ran .slots) ≡ schedule (viewOf (r .load))
+      → (out after : List ℕ) → WriteRun bs out Good after
+      → after ≡ written (scheduleBytes (schedule (viewOf (r .load)))) out
   -- and every load has a run
   pub runs : (load : Load) → Run load

@@ -23,7 +23,7 @@ use Rattle.schedule_file.specs.Calls.{CheckRoom, WriteSchedule, WriteArray}
 use Rattle.bench.specs.declared.Bench.{Bench}
 use Rattle.bench.specs.declared.Moved.{Moved}
 use Rattle.bench.specs.declared.Ran.{Ran}
-use Rattle.bench.specs.Calls.{NextMove, Runs, RunsFile}
+use Rattle.bench.specs.Calls.{NextMove, Runs, WriteRun}
 use Rattle.reading_bench.specs.Calls.{BenchBound, BenchVerdict, BenchMargins, BenchSchedule}
 use Rattle.lines.specs.Calls.{PrintLines}
 use Rattle.demands.specs.NumberLists.{OneOf, ofLoad, ofFile, ofRange, ofWindow, ofOutput}
@@ -73,7 +73,8 @@ pub record Numbers : Type 0 where
   pub next-move : (load : Load) (bench : Bench) (r : Moved) → NextMove load bench r
       → OneOf ofMove (toldBy (r .outcome) .number)
   pub run : (load : Load) (r : Ran) → Runs load r → OneOf ofLoad (numberGiven (r .answer))
-  pub run-file : (bs : List ℕ) (r : Ran) → RunsFile bs r → OneOf ofFile (numberGiven (r .answer))
+  pub write-run : (bs out : List ℕ) (r : Checked) (after : List ℕ) → WriteRun bs out r after
+      → OneOf ofC (numberGiven r)
   -- the calls for C, and printing
   pub bench-bound : NumbersForC BenchBound
   pub bench-verdict : NumbersForC BenchVerdict

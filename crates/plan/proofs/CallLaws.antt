@@ -1,18 +1,20 @@
 -- Any two results that meet a call's contract are equal; and the one contract that is no equation is met by a result.
 use Prim.Native.Nat.{ℕ, min}
 use mathlib.Core.Bool.{Bool}
+use mathlib.Core.List.{List}
 use mathlib.Core.Path.{_≡_, refl, ap, sym, _∙_}
 use Rattle.load.specs.declared.Row.{Row}
 use Rattle.load.specs.declared.Window.{Window}
 use Rattle.load.specs.Load.{mostRows}
 use Rattle.plan.specs.declared.Look.{Look}
-use Rattle.plan.specs.declared.Board.{Board}
+use Rattle.plan.specs.Boards.{Board}
 use Rattle.plan.specs.declared.Chosen.{Chosen}
 use Rattle.plan.specs.Choices.{chosenIn, nextMoment, rowOr}
 use Rattle.plan.specs.Calls.{
   OpenWindow,
   LookOf,
-  ZeroBoard,
+  LookAt,
+  PutLook,
   OpeningAfter,
   ChosenRow,
   NextStart,
@@ -26,8 +28,17 @@ pub LookOf-unique : (row : Row) (finished end opening : ℕ) (r s : Look) → Lo
     → LookOf row finished end opening s → r ≡ s
 LookOf-unique row finished end opening r s p q = p ∙ sym q
 
-pub ZeroBoard-unique : (r s : Board) → ZeroBoard r → ZeroBoard s → r ≡ s
-ZeroBoard-unique r s p q = p ∙ sym q
+pub LookAt-unique : (board : Board) (i : ℕ) (r s : Look) → LookAt board i r → LookAt board i s → r ≡ s
+LookAt-unique board i r s p q = p ∙ sym q
+
+pub PutLook-unique : (counts lengths moments : List ℕ) (i : ℕ) (look : Look) (c l m c′ l′ m′ : List ℕ)
+    → PutLook counts lengths moments i look c l m → PutLook counts lengths moments i look c′ l′ m′
+    → (c ≡ c′) × (l ≡ l′) × (m ≡ m′)
+PutLook-unique counts lengths moments i look c l m c′ l′ m′ p q = (
+  p .0 ∙ sym (q .0),
+  p .1 ∙ sym (q .1),
+  p .2 ∙ sym (q .2),
+)
 
 pub OpeningAfter-unique : (stays opened : Bool) (opening clock r s : ℕ) → OpeningAfter stays opened opening clock r
     → OpeningAfter stays opened opening clock s → r ≡ s

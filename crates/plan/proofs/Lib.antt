@@ -5,8 +5,9 @@ pub mod BoardLaws
 pub mod OrderLaws
 pub mod refused
 pub mod SearchLaws
+pub mod NumberLaws
+pub mod SweepLaws
+pub mod SweptLaws
 pub mod NextLaws
-pub mod MomentLaws
-pub mod TriedLaws
 pub mod CallLaws
 pub mod WorkedHold

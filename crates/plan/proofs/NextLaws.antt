@@ -1,22 +1,20 @@
 -- The moment at which a step starts next: nothing is chosen before it, and it is the only such moment.
 use Prim.Native.Nat.{ℕ, _+_, _-_, min, max, _≤_, _<_}
 use mathlib.Core.Bool.{Bool, true, false}
-use mathlib.Core.List.{List}
 use mathlib.Core.Path.{_≡_, refl, ap, sym, _∙_, subst}
 use native.Mathlib.Decide.{decLt}
 use native.Mathlib.Omega.{arith}
 use Rattle.counting.specs.Searches.{Found, at, none, isFound, firstTo}
 use Rattle.counting.proofs.tests.TestLaws.{true-false}
 use Rattle.counting.proofs.searches.FirstToLaws.{IsFirst, firstTo-first, firstTo-unique}
-use Rattle.load.specs.Load.{mostRows, lastMoment}
-use Rattle.plan.specs.declared.Board.{Board}
+use Rattle.load.specs.Load.{mostRows, mostSteps, lastMoment}
 use Rattle.plan.specs.declared.Chosen.{Chosen}
-use Rattle.plan.specs.declared.Pick.{Pick}
-use Rattle.plan.specs.Boards.{lookIn}
+use Rattle.plan.specs.Boards.{Board, lookIn}
 use Rattle.plan.specs.Choices.{chosenIn, nextMoment, rowOr}
 use Rattle.plan.specs.Calls.{ChosenRow, NextStart}
-use Rattle.plan.specs.inner.Searching.{Searched}
+use Rattle.plan.specs.inner.Searching.{SweptTo, StartsBefore}
 use Rattle.plan.proofs.SearchLaws.{candidate-ends, none-chosen}
+use Rattle.plan.proofs.SweepLaws.{passed-every, passed-none, chosen-is}
 
 -- nothing is chosen from the clock on and before a moment, 1,000,000 at the latest
 pub record QuietBefore (board : Board) (clock rows m : ℕ) : Type 0 where
@@ -88,23 +86,7 @@ next-start board clock rows last r e q c h =
       chosen-most board (r .moment) rows last (r .row) e c,
     )
 
--- how far the moments have been gone through: up to a moment before which nothing is chosen, or to a row that is
-pub record GoneTo (board : Board) (clock rows row moment next : ℕ) : Type 0 where
-  pub from : clock ≤ next
-  pub none-before : rows ≤ row → (t : ℕ) → clock ≤ t → t < next → chosenIn board t rows ≡ none
-  pub quiet : row < rows → QuietBefore board clock rows moment
-  pub chosen : row < rows → ChosenRow board moment rows row
-
 module _ (board : Board) (clock last : ℕ) where
-  pub gone-first : GoneTo board clock last last clock clock
-  gone-first =
-      record {
-        from = omega arith;
-        none-before = λ h t a b. absurd (omega arith);
-        quiet = λ h. absurd (omega arith);
-        chosen = λ h. absurd (omega arith);
-      }
-
   -- nothing is chosen past 1,000,000
   none-past : (t : ℕ) → lastMoment < t → chosenIn board t last ≡ none
   none-past t l = none-chosen board t last (λ k b c. absurd (omega (arith, candidate-ends (lookIn board k) t _ c)))
@@ -125,37 +107,51 @@ module _ (board : Board) (clock last : ℕ) where
       (chosen-past (omega (arith, e)) l)
       (λ h. absurd (omega arith))
 
-  module _ (row moment next : ℕ) (gone : GoneTo board clock last row moment next) where
-    -- the search at the next moment
-    pub gone-on : (numbers : List Bool) (from : List ℕ) (r : Pick) → last ≤ row → next ≤ lastMoment
-        → Searched board next last numbers from r → GoneTo board clock last (r .row) next (r .next)
-    gone-on numbers from r past l s =
-        record {
-          from = omega (arith, gone .from, s .later);
-          none-before = λ h t a b. elim (decLt t next) [
-            | yes q ↦ gone .none-before past t a q
-            | no q ↦ s .quiet h t (omega arith) b
-          ];
-          quiet = λ h. record { from = gone .from; most = omega arith; none-before = gone .none-before past };
-          chosen = λ h. s .chosen;
-        }
+  -- a row is chosen at the clock
+  pub next-now : (rows row : ℕ) → last ≡ min rows mostRows → clock ≤ lastMoment → ChosenRow board clock last row
+      → row < last → NextStart board clock rows (record { row = row; moment = clock })
+  next-now rows row e early c l =
+      next-start board clock rows last (record { row = row; moment = clock }) e
+      (record { from = omega arith; most = omega arith; none-before = λ t a b. absurd (omega arith) }) c (λ h. l)
 
-    -- a row is chosen
-    pub gone-found : (rows : ℕ) → last ≡ min rows mostRows → row < last
-        → NextStart board clock rows (record { row = row; moment = moment })
-    gone-found rows e l =
-        next-start board clock rows last (record { row = row; moment = moment }) e (gone .quiet l) (gone .chosen l)
-        (λ h. l)
+  -- the rows were swept up to a moment before which one starts, or past 1,000,000
+  module _ (before row soonest : ℕ) (starts : StartsBefore board clock last before)
+      (swept : SweptTo board clock before last mostSteps 0 row soonest) where
+    quiet : (t : ℕ) → clock ≤ t → t < soonest → chosenIn board t last ≡ none
+    quiet t a b = passed-none board t last mostSteps 0 (omega arith) (swept .quiet t a b)
 
-    -- none is
-    pub gone-past : (rows : ℕ) → last ≡ min rows mostRows → last ≤ row → clock ≤ lastMoment → lastMoment < next
-        → NextStart board clock rows (record { row = last; moment = lastMoment })
-    gone-past rows e past early l =
-        next-start board clock rows last (record { row = last; moment = lastMoment }) e
-        (record {
-          from = early;
-          most = omega arith;
-          none-before = λ t a b. gone .none-before past t a (omega arith);
-        })
-        (chosen-none lastMoment (omega (arith, e)) (gone .none-before past lastMoment early l))
-        (λ h. absurd (omega arith))
+    pub next-swept : (rows moment : ℕ) → last ≡ min rows mostRows → clock ≤ lastMoment
+        → moment ≡ min soonest lastMoment → NextStart board clock rows (record { row = row; moment = moment })
+    next-swept rows moment e early m =
+        elim (decLt row last) [
+          | yes l ↦
+              let in-time : soonest ≤ lastMoment = omega (arith, swept .earlier l, starts .most) in
+              let same : moment ≡ soonest = omega (arith, m) in
+              subst (λ t. NextStart board clock rows (record { row = row; moment = t })) (sym same)
+              (next-start board clock rows last (record { row = row; moment = soonest }) e
+              (record { from = swept .from l; most = omega arith; none-before = quiet })
+              (chosen-is board soonest last (omega (arith, e)) (at row) (swept .found l))
+              (λ h. l))
+          | no l ↦
+              let all : soonest ≡ before = swept .none-yet (omega arith) in
+              elim (decLt lastMoment before) [
+                | yes past ↦
+                    let same : moment ≡ lastMoment = omega (arith, m, all) in
+                    let none-left : row ≡ last = omega (arith, swept .row-most) in
+                    subst (λ r. NextStart board clock rows r)
+                    (λ n. record { row = sym none-left n; moment = sym same n })
+                    (next-start board clock rows last (record { row = last; moment = lastMoment }) e
+                    (record {
+                      from = early;
+                      most = omega arith;
+                      none-before = λ t a b. quiet t a (omega (arith, all));
+                    })
+                    (chosen-none lastMoment (omega (arith, e)) (quiet lastMoment early (omega (arith, all))))
+                    (λ h. absurd (omega arith)))
+                | no past ↦
+                    absurd
+                    (starts .starts (omega arith)
+                    (λ t i a b l. passed-every board t last mostSteps 0 (omega arith)
+                    (swept .quiet t a (omega (arith, all))) i l))
+              ]
+        ]

@@ -17,8 +17,7 @@ use Rattle.counting.proofs.lists.EveryLaws.{every-numbersWhere, found-at}
 use Rattle.counting.proofs.searches.SelectionLaws.{found-least, found-nothing}
 use Rattle.load.specs.Load.{mostRows, mostSteps, lastMoment}
 use Rattle.plan.specs.declared.Look.{Look}
-use Rattle.plan.specs.declared.Board.{Board}
-use Rattle.plan.specs.Boards.{lookIn}
+use Rattle.plan.specs.Boards.{Board, lookIn}
 use Rattle.plan.specs.Choices.{belowIn, candidateBy, candidateIn, openingBy, passesIn, chosenIn, rowOr}
 use Rattle.plan.specs.Calls.{ChosenRow}
 
@@ -114,19 +113,27 @@ module _ (board : Board) (clock rows : ℕ) where
   PassedRows step i = (k : ℕ) → k < i → lookIn board k .finished ≡ step → PassedRow k
 
   -- below the lowest unfinished step no row has a step left
-  pub passed-lowest : (lowest : ℕ) → ((j : ℕ) → j ≤ mostSteps → allTo (belowIn board j) rows ≡ leb j lowest)
-      → PassedSteps lowest
-  passed-lowest lowest known k l h c =
-      let look = lookIn board k in
-      let more : look .finished < min (look .steps) mostSteps = candidate-more look clock _ c in
-      let low : allTo (belowIn board (look .finished + 1)) rows ≡ true =
-      known (look .finished + 1) (omega arith) ∙ le-leb (look .finished + 1) lowest (omega arith) in
-      absurd
-      (omega (
-        arith,
-        leb-true (min (look .finished + 1) (look .steps)) (look .finished)
-            (allTo-true (belowIn board (look .finished + 1)) rows low k l),
-      ))
+  module _ (lowest : ℕ) (known : (j : ℕ) → j ≤ mostSteps → allTo (belowIn board j) rows ≡ leb j lowest) (k : ℕ)
+      (l : k < rows) where
+    pub unfinished-from : lookIn board k .finished < min (lookIn board k .steps) mostSteps
+        → lowest ≤ lookIn board k .finished
+    unfinished-from more =
+        elim (decLt (lookIn board k .finished) lowest) [
+          | yes h ↦
+              let look = lookIn board k in
+              let low : allTo (belowIn board (look .finished + 1)) rows ≡ true =
+              known (look .finished + 1) (omega arith) ∙ le-leb (look .finished + 1) lowest (omega arith) in
+              absurd
+              (omega (
+                arith,
+                leb-true (min (look .finished + 1) (look .steps)) (look .finished)
+                    (allTo-true (belowIn board (look .finished + 1)) rows low k l),
+              ))
+          | no h ↦ omega arith
+        ]
+
+    pub candidate-from : candidateIn board clock rows k ≡ true → lowest ≤ lookIn board k .finished
+    candidate-from c = unfinished-from (candidate-more (lookIn board k) clock _ c)
 
   -- the first that is not passed over is chosen
   pub first-chosen : (step i : ℕ) → i < rows → PassedSteps step → PassedRows step i
@@ -145,10 +152,6 @@ module _ (board : Board) (clock rows : ℕ) where
           | no q ↦ omega arith
         ];
       })
-
-  -- no row is left once every step number is passed over
-  pub passed-all : PassedSteps mostSteps → (k : ℕ) → k < rows → PassedRow k
-  passed-all h k l c = h k l (omega (arith, candidate-more (lookIn board k) clock _ c)) c
 
   -- nothing is chosen where every row is passed over
   pub none-chosen : ((k : ℕ) → k < rows → PassedRow k) → chosenIn board clock rows ≡ none

@@ -3,7 +3,7 @@ use mathlib.Core.Path.{refl}
 use Rattle.rules.proofs.worked.WorkedComputing.{computing}
 use Rattle.counting.specs.Searches.{firstTo}
 use Rattle.plan.specs.Looks.{lookOf}
-use Rattle.plan.specs.Boards.{boardWith, zeroBoard}
+use Rattle.plan.specs.Boards.{numbersFrom, marksFrom, partsWith, countsWith, lengthsWith, momentsWith}
 use Rattle.plan.specs.Choices.{passesIn, chosenIn}
 use Rattle.plan.specs.WorkedLooks.{WorkedLooks}
 use Rattle.plan.specs.WorkedChoices.{WorkedChoices}
@@ -27,7 +27,7 @@ looks-hold =
     }
 
 pub choices-hold : WorkedChoices
-unfolding computing boardWith zeroBoard passesIn chosenIn
+unfolding computing numbersFrom marksFrom partsWith countsWith lengthsWith momentsWith passesIn chosenIn
 choices-hold =
     record {
       lower-step-first = refl;
@@ -43,7 +43,7 @@ choices-hold =
     }
 
 pub starts-hold : WorkedStarts
-unfolding computing boardWith zeroBoard passesIn chosenIn firstTo
+unfolding computing numbersFrom marksFrom partsWith countsWith lengthsWith momentsWith passesIn chosenIn firstTo
 starts-hold =
     record {
       now = (refl, refl);

@@ -2,17 +2,18 @@
 -- Numbers may be any: a number of rows past 24 is 24, `look_of` takes steps and moments past the
 -- last as the last, and all else is taken as it is. To be read after Choices. Rests on D79.
 use Prim.Native.Nat.{ℕ, min}
-use mathlib.Core.Bool.{Bool}
+use mathlib.Core.Bool.{Bool, cond}
+use mathlib.Core.List.{List}
 use mathlib.Core.Path.{_≡_}
+use lib.Dec.{ltb}
 use Rattle.load.specs.declared.Row.{Row}
 use Rattle.load.specs.declared.Window.{Window}
 use Rattle.load.specs.Load.{mostRows, mostSteps, lastMoment}
 use Rattle.load.specs.View.{openAt}
 use Rattle.plan.specs.declared.Look.{Look}
-use Rattle.plan.specs.declared.Board.{Board}
 use Rattle.plan.specs.declared.Chosen.{Chosen}
 use Rattle.plan.specs.Looks.{viewAlike, lookBy}
-use Rattle.plan.specs.Boards.{zeroBoard}
+use Rattle.plan.specs.Boards.{Board, lookIn, countsWith, lengthsWith, momentsWith}
 use Rattle.plan.specs.Choices.{openingBy, chosenIn, nextMoment, rowOr}
 
 -- open_window(row, finished): the window that is open once so many steps are finished, and a window
@@ -25,9 +26,17 @@ abbrev pub LookOf : Row → ℕ → ℕ → ℕ → Look → Type 0
 LookOf row finished end opening r =
     r ≡ lookBy row (min finished mostSteps) (min end lastMoment) (min opening lastMoment)
 
--- zero_board(): the board of zeros
-abbrev pub ZeroBoard : Board → Type 0
-ZeroBoard r = r ≡ zeroBoard
+-- look_at(board, i): what the board has of row i, and zeros past the last row
+abbrev pub LookAt : Board → ℕ → Look → Type 0
+LookAt board i r = r ≡ lookIn board i
+
+-- put_look(counts, lengths, moments, i, look): the board's arrays afterwards have that look of row
+-- i, and are as they were past the last row
+abbrev pub PutLook : List ℕ → List ℕ → List ℕ → ℕ → Look → List ℕ → List ℕ → List ℕ → Type 0
+PutLook counts lengths moments i look counts′ lengths′ moments′ =
+    (counts′ ≡ cond (ltb i mostRows) (countsWith counts i look) counts)
+    × (lengths′ ≡ cond (ltb i mostRows) (lengthsWith lengths i look) lengths)
+    × (moments′ ≡ cond (ltb i mostRows) (momentsWith moments i look) moments)
 
 -- opening_after(stays, opened, opening, clock): a row's opening once its next step is over
 abbrev pub OpeningAfter : Bool → Bool → ℕ → ℕ → ℕ → Type 0

@@ -13,8 +13,7 @@ use Rattle.counting.specs.Sorting.{sorted, byKey}
 use Rattle.load.specs.Load.{mostSteps, lastMoment}
 use Rattle.rules.specs.Plan.{Jobs, planBy}
 use Rattle.plan.specs.declared.Look.{Look}
-use Rattle.plan.specs.declared.Board.{Board}
-use Rattle.plan.specs.Boards.{lookIn}
+use Rattle.plan.specs.Boards.{Board, lookIn}
 
 -- row k has finished all its steps below place j
 abbrev pub belowIn : Board → ℕ → ℕ → Bool

@@ -3,9 +3,10 @@
 -- Calls. Rests on D79.
 use Prim.Native.Nat.{ℕ}
 use mathlib.Core.Bool.{true, false}
+use lib.ListN.{replicate}
 use Rattle.plan.specs.declared.Look.{Look}
-use Rattle.plan.specs.declared.Board.{Board}
-use Rattle.plan.specs.Boards.{boardWith, zeroBoard}
+use Rattle.plan.specs.Boards.{Board, boardIn, countPlaces, lengthPlaces, momentPlaces}
+use Rattle.plan.specs.Boards.{countsWith, lengthsWith, momentsWith}
 use Rattle.plan.specs.Calls.{ChosenRow}
 
 -- a look of a row with no window ahead: steps finished and in all, cost and release
@@ -44,9 +45,17 @@ inside due =
       limit = 0;
     }
 
--- a board of two rows
+-- a board of zeros
+abbrev pub noRows : Board
+noRows = boardIn (replicate countPlaces 0) (replicate lengthPlaces 0) (replicate momentPlaces 0)
+
+-- a board of two rows, each look in its places
 abbrev pub twoRows : Look → Look → Board
-twoRows first second = boardWith (boardWith zeroBoard 0 first) 1 second
+twoRows first second =
+    boardIn
+    (countsWith (countsWith (replicate countPlaces 0) 0 first) 1 second)
+    (lengthsWith (lengthsWith (replicate lengthPlaces 0) 0 first) 1 second)
+    (momentsWith (momentsWith (replicate momentPlaces 0) 0 first) 1 second)
 
 -- a board, and which row is chosen
 pub record WorkedChoices : Type 0 where
@@ -64,7 +73,7 @@ pub record WorkedChoices : Type 0 where
   pub ends-in-time : ChosenRow (twoRows (free 0 1 3 5) (free 1 1 0 0)) 999997 2 0
   pub ends-too-late : ChosenRow (twoRows (free 0 1 3 5) (free 1 1 0 0)) 999998 2 2
   -- where no row is chosen it is the number of rows, at most 24
-  pub none-there : ChosenRow zeroBoard 0 2 2
-  pub rows-past : ChosenRow zeroBoard 0 25 24
+  pub none-there : ChosenRow noRows 0 2 2
+  pub rows-past : ChosenRow noRows 0 25 24
   -- a row past its eighth step has no next one, whatever number of steps it tells
   pub steps-past : ChosenRow (twoRows (free 8 9 1 0) (free 1 1 0 0)) 0 2 2

@@ -1,5 +1,4 @@
 -- What the parts of the code give, for private functions alone: nothing here needs to be believed.
-pub mod Widths
 pub mod Orders
 pub mod Passing
 pub mod Searching

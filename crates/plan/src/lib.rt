@@ -3,22 +3,30 @@
 mod boards;
 mod choices;
 mod lookups;
-mod moments;
+mod numbers;
 mod orders;
+mod parts;
 mod passing;
 mod ranges;
 mod searching;
 mod staying;
+mod sweeping;
 mod walking;
 
-pub use boards::zero_board;
+pub use boards::look_at;
+pub use boards::put_look;
 pub use choices::chosen_row;
 pub use choices::next_start;
 pub use choices::opening_after;
 use load::MOST_ROWS;
-use load::MOST_STEPS;
 pub use lookups::look_of;
 pub use lookups::open_window;
+pub use parts::COUNT_PLACES;
+pub use parts::FINISHED;
+pub use parts::LENGTH_PLACES;
+pub use parts::MOMENT_PLACES;
+pub use parts::OPENED;
+pub use parts::STEPS;
 
 // What is looked up of a row: steps finished and steps in all, the opening, its next step's cost
 // and the moment from which that may start; whether a window is open, what is left of it, and when
@@ -39,42 +47,10 @@ pub struct Look {
     pub limit: u16,
 }
 
-// What is looked up of every row, one array a number. Places for rows that the load does not have
-// are 0.
-pub struct Board {
-    pub finished: [u8; MOST_ROWS],
-    pub steps: [u8; MOST_ROWS],
-    pub opening: [u32; MOST_ROWS],
-    pub cost: [u16; MOST_ROWS],
-    pub release: [u32; MOST_ROWS],
-    pub opened: [bool; MOST_ROWS],
-    pub left: [u32; MOST_ROWS],
-    pub due: [u32; MOST_ROWS],
-    pub wait: [u16; MOST_ROWS],
-    pub stays: [bool; MOST_ROWS],
-    pub rest: [u32; MOST_ROWS],
-    pub limit: [u16; MOST_ROWS],
-}
-
 // The row whose next step starts, and the moment at which it does.
 pub struct Chosen {
     pub row: usize,
     pub moment: u32,
-}
-
-// The moment from which each row is tried, and which step numbers those rows have that are tried at
-// some moment.
-pub(crate) struct Tried {
-    pub from: [u32; MOST_ROWS],
-    pub numbers: [bool; MOST_STEPS],
-}
-
-// How far the search has come: a row, or the number of rows where it is past all of them; the step
-// number it is at; and the first moment at which a row before that place is tried.
-pub(crate) struct Pick {
-    pub row: usize,
-    pub step: u8,
-    pub next: u32,
 }
 
 // The rows with an open window, in the order of the stack: the first `count` places count.

@@ -1,10 +1,11 @@
-// What counts as the most: rows past 24, steps past 8, windows past 4 and moments past 1,000,000.
+// What counts as the most: rows past 24, steps past 8, windows past 4 and moments past 1,000,000;
+// and the later of two moments.
 use load::LAST_MOMENT;
 use load::MOST_ROWS;
 use load::MOST_STEPS;
 use load::MOST_WINDOWS;
 ghost use mathlib.Core.Path.{_≡_};
-ghost use Prim.Native.Nat.{min};
+ghost use Prim.Native.Nat.{min, max};
 ghost use Rattle.load.specs.Load.{mostRows, mostSteps, mostWindows, lastMoment};
 
 // Gives n, or 24 where that is less.
@@ -43,4 +44,11 @@ pub fn at_most_moment(moment: u32) -> u32
     } else {
         LAST_MOMENT
     }
+}
+
+// Gives the later of two moments.
+pub fn later_of(a: u32, b: u32) -> u32
+    ensures { λ r. ⌜ r ≡ max a b ⌝ }
+{
+    if a < b { b } else { a }
 }

@@ -2,7 +2,9 @@
 // stands before it, or its own window, would be late; or, until it would stand behind the first row
 // behind it, while one of those would.
 use crate::Plan;
-use crate::moments::NEVER;
+use crate::parts::DUE;
+use crate::parts::MOMENT_PLACES;
+use crate::parts::moment_at;
 use crate::walking::are_in_time;
 use crate::walking::rows_before;
 use load::MOST_ROWS;
@@ -11,10 +13,12 @@ ghost use mathlib.Core.Bool.{cond, _||_};
 ghost use Prim.Native.Nat.{_+_, _≤_};
 ghost use lib.Dec.{ltb};
 ghost use Rattle.load.specs.Load.{lastMoment};
-ghost use Rattle.plan.specs.Choices.{jobsIn};
 ghost use Rattle.plan.specs.inner.Walks.{RowsIn, rowsFrom};
-ghost use Rattle.plan.specs.inner.Passing.{never};
+ghost use Rattle.plan.specs.inner.Passing.{never, jobsOf};
 ghost use Rattle.plan.specs.inner.Staying.{momentBefore, dueBehind, staysUntil, stayOf};
+
+// A moment that no clock reaches.
+pub const NEVER: u32 = 4294967295;
 
 // Gives the moment that is so long before another, at most that past all others.
 fn moment_before(end: u64, long: u16) -> u32
@@ -62,10 +66,8 @@ fn behind_moment(opened: bool, i: usize, b: usize, due: u32, limit: u16) -> u32
 
 // Gives the clock where row i's next step passes the plan there, else a moment before which the
 // plan refuses it; its window is due at own.
-pub fn staying_moment<'a>(
-    release: &'a [u32; MOST_ROWS],
-    left: &'a [u32; MOST_ROWS],
-    due: &'a [u32; MOST_ROWS],
+pub fn staying_moment(
+    moments: &[u32; MOMENT_PLACES],
     order: &[u8; MOST_ROWS],
     count: usize,
     i: usize,
@@ -79,12 +81,12 @@ pub fn staying_moment<'a>(
 ) -> u32
     requires { ⌜ RowsIn (now order) count × (clock + cost ≤ lastMoment) ⌝ }
     ensures { λ r. ⌜ r ≡ staysUntil
-        (jobsIn (now (release .entry)) (now (left .entry)) (now (due .entry)))
+        (jobsOf (now (moments .entry)))
         (rowsFrom (now (order .entry)) count 0) i
         (stayOf opened clock cost wait rest limit own) ⌝ }
 {
     let begin = clock + cost as u32;
-    let walked = rows_before(release, left, due, order, count, i, own, begin);
+    let walked = rows_before(moments, order, count, i, own, begin);
     if walked.late {
         return NEVER;
     }
@@ -94,9 +96,9 @@ pub fn staying_moment<'a>(
     if (own as u64) < end {
         return own_moment(opened, cost, rest, walked.work, limit, end);
     }
-    if are_in_time(release, left, due, order, count, i, place, end as u32) {
+    if are_in_time(moments, order, count, i, place, end as u32) {
         return clock;
     }
     let behind = order[place] as usize;
-    behind_moment(opened, i, behind, due[behind], limit)
+    behind_moment(opened, i, behind, moment_at(moments, DUE, behind), limit)
 }

@@ -3,12 +3,17 @@
 use crate::Plan;
 use crate::Walked;
 use crate::orders::stands_before;
+use crate::parts::DUE;
+use crate::parts::LEFT;
+use crate::parts::MOMENT_PLACES;
+use crate::parts::RELEASE;
+use crate::parts::moment_at;
 use load::MOST_ROWS;
 ghost use mathlib.Core.Path.{_≡_};
 ghost use Prim.Native.Nat.{_+_, max, _≤_};
 ghost use lib.Dec.{ltb};
 ghost use Rattle.rules.specs.Plan.{inTimeBy};
-ghost use Rattle.plan.specs.Choices.{jobsIn};
+ghost use Rattle.plan.specs.inner.Passing.{jobsOf};
 ghost use Rattle.plan.specs.inner.Walks.{
   RowsIn,
   WalkFits,
@@ -51,10 +56,8 @@ fn is_late(due: u32, time: u64) -> bool
 
 // Says whether the rows of the order from a place on, but row i, are each in time, the first begun
 // at a moment.
-pub fn are_in_time<'a>(
-    release: &'a [u32; MOST_ROWS],
-    left: &'a [u32; MOST_ROWS],
-    due: &'a [u32; MOST_ROWS],
+pub fn are_in_time(
+    moments: &[u32; MOMENT_PLACES],
     order: &[u8; MOST_ROWS],
     count: usize,
     i: usize,
@@ -63,15 +66,16 @@ pub fn are_in_time<'a>(
 ) -> bool
     requires { ⌜ RowsIn (now order) count × (from ≤ count) ⌝ }
     ensures { λ r. ⌜ r ≡ inTimeBy
-        (jobsIn (now (release .entry)) (now (left .entry)) (now (due .entry))) begin
+        (jobsOf (now (moments .entry))) begin
         (othersIn i (rowsFrom (now (order .entry)) count from)) ⌝ }
 {
     let mut plan = Plan { time: begin as u64 };
     for place in from..count {
         let row = order[place] as usize;
         if row != i {
-            plan = plan.finish(release[row], left[row]);
-            if is_late(due[row], plan.time) {
+            let left = moment_at(moments, LEFT, row);
+            plan = plan.finish(moment_at(moments, RELEASE, row), left);
+            if is_late(moment_at(moments, DUE, row), plan.time) {
                 return false;
             }
         }
@@ -94,10 +98,8 @@ fn walked_to(place: usize, plan: Plan, work: u64, late: bool) -> Walked
 // Goes over the rows of the order, but row i, that stand before row i where its window is due at
 // own, the first begun at a moment: gives the place behind them, the moment at which they are
 // finished and the sum of what was left of them; or says that one was late, and goes no further.
-pub fn rows_before<'a>(
-    release: &'a [u32; MOST_ROWS],
-    left: &'a [u32; MOST_ROWS],
-    due: &'a [u32; MOST_ROWS],
+pub fn rows_before(
+    moments: &[u32; MOMENT_PLACES],
     order: &[u8; MOST_ROWS],
     count: usize,
     i: usize,
@@ -106,7 +108,7 @@ pub fn rows_before<'a>(
 ) -> Walked
     requires { ⌜ RowsIn (now order) count ⌝ }
     ensures { λ r. ⌜ r ≡ walkIn
-        (jobsIn (now (release .entry)) (now (left .entry)) (now (due .entry))) i own
+        (jobsOf (now (moments .entry))) i own
         (rowsFrom (now (order .entry)) count 0) 0 begin 0 ⌝ }
     ensures { λ r. ⌜ WalkFits count r ⌝ }
 {
@@ -115,12 +117,14 @@ pub fn rows_before<'a>(
     for place in 0..count {
         let row = order[place] as usize;
         if row != i {
-            if stands_before(own, i, due[row], row) {
+            let due = moment_at(moments, DUE, row);
+            if stands_before(own, i, due, row) {
                 return walked_to(place, plan, work, false);
             }
-            plan = plan.finish(release[row], left[row]);
-            work = with_work(work, left[row]);
-            if is_late(due[row], plan.time) {
+            let left = moment_at(moments, LEFT, row);
+            plan = plan.finish(moment_at(moments, RELEASE, row), left);
+            work = with_work(work, left);
+            if is_late(due, plan.time) {
                 return walked_to(place + 1, plan, work, true);
             }
         }

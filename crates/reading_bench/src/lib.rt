@@ -1,7 +1,7 @@
 // The calls for C. Each is lent the bytes of a load file and an output, and gives one number: what
 // is wrong with the file, 1 to 8; then 9, where the output is shorter than the answer; else 0. A
 // refusal alters no byte, and bytes past the answer stay. A refused file is looked at no further.
-use bench::run_file;
+use bench::write_run;
 use bound::bound_of;
 use bound::margin_bytes;
 use bound::margins_of;
@@ -11,7 +11,6 @@ use refusals::Checked;
 use refusals::Refusal;
 use refusals::number_given;
 use refusals::number_of;
-use schedule_file::write_array;
 use words::bytes32;
 use words::overwrite;
 ghost use Rattle.reading_bench.specs.Calls.{Numbered, BenchBound, BenchVerdict};
@@ -84,13 +83,5 @@ pub extern "C" fn bench_margins(load: &[u8], out: &mut [u8]) -> u32
 pub extern "C" fn bench_schedule(load: &[u8], out: &mut [u8]) -> u32
     ensures { λ r. ⌜ BenchSchedule (now (load .entry)) (now (out .entry)) r (now (out .exit)) ⌝ }
 {
-    let ran = run_file(load);
-    let found = ran.answer;
-    match found {
-        Checked::Good => {
-            let slots = ran.slots;
-            number_given(write_array(slots, ran.count, out))
-        }
-        Checked::Refused(refusal) => number_of(refusal),
-    }
+    number_given(write_run(load, out))
 }

@@ -33,12 +33,10 @@ use Rattle.rules.proofs.plan.StackLaws.{
   due-same,
 }
 use Rattle.bench.specs.declared.Bench.{Bench}
-use Rattle.plan.specs.declared.Board.{Board}
 use Rattle.bench.specs.Held.{stateOf}
 use Rattle.plan.specs.Looks.{further}
-use Rattle.plan.specs.Boards.{lookIn}
-use Rattle.plan.specs.inner.Widths.{Wide}
-use Rattle.bench.specs.inner.Boards.{Shows}
+use Rattle.plan.specs.Boards.{Board, lookIn}
+use Rattle.bench.specs.inner.Boards.{Wide, Shows}
 use Rattle.plan.specs.Choices.{belowIn, candidateIn, openingIn, openAfter, jobsIn, passesIn, chosenIn}
 use Rattle.plan.proofs.StoreLaws.{stored}
 use Rattle.bench.proofs.choice.JoinLaws.{

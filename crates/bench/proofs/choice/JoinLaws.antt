@@ -13,10 +13,9 @@ use Rattle.rules.specs.Plan.{planBy, due, windowLeft, jobs, planPasses}
 use Rattle.rules.proofs.plan.StackLaws.{planBy-ext}
 use Rattle.bench.specs.declared.Bench.{Bench}
 use Rattle.plan.specs.declared.Look.{Look}
-use Rattle.plan.specs.declared.Board.{Board}
 use Rattle.bench.specs.Held.{stateOf}
 use Rattle.plan.specs.Looks.{further, lookOf}
-use Rattle.plan.specs.Boards.{lookIn}
+use Rattle.plan.specs.Boards.{Board, lookIn}
 use Rattle.plan.specs.Choices.{jobsIn}
 use Rattle.bench.specs.inner.Boards.{Shows}
 

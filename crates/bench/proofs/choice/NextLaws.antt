@@ -7,6 +7,7 @@ use mathlib.Core.Path.{_≡_, ap, ap₂, sym, _∙_}
 use native.Mathlib.Decide.{decLt}
 use native.Mathlib.Omega.{arith}
 use lib.Dec.{leb}
+use lib.ListN.{length, set}
 use Rattle.counting.specs.Sums.{allTo, bit, countTo}
 use Rattle.counting.specs.Lists.{memberAt, isMarked}
 use Rattle.counting.specs.Searches.{at, none}
@@ -20,6 +21,7 @@ use Rattle.load.specs.declared.Load.{Load}
 use Rattle.load.specs.Load.{lastMoment}
 use Rattle.load.specs.Check.{checkLoad}
 use Rattle.load.specs.View.{View, viewOf}
+use Rattle.rules.specs.declared.Slot.{Slot}
 use Rattle.rules.specs.declared.Outcome.{Outcome}
 use Rattle.rules.specs.declared.Outcome.the-variants.{Start, Idle, Done}
 use Rattle.rules.specs.State.{State, isOpen, shaped}
@@ -27,14 +29,15 @@ use Rattle.rules.specs.Lamps.{lampWord, lampCount}
 use Rattle.rules.specs.Move.{startedFull, ticked, allFinished, chosen, nextSlot, startOrIdleBy, move}
 use Rattle.rules.proofs.moves.MoveLaws.{move-unshaped, move-done, move-full, move-goes}
 use Rattle.bench.specs.declared.Bench.{Bench}
-use Rattle.plan.specs.declared.Board.{Board}
 use Rattle.bench.specs.declared.Moved.{Moved}
 use Rattle.bench.specs.Held.{stateOf, benchOf, HeldBench, benchAt, handedOn, refusedWith, nextMove}
-use Rattle.plan.specs.Boards.{lookIn}
+use Rattle.plan.specs.declared.Look.{Look}
+use Rattle.plan.specs.Boards.{Board, countPlaces, marksFrom, boardIn, lookIn}
 use Rattle.bench.specs.inner.Boards.{Shows}
-use Rattle.plan.specs.Choices.{openingIn, openAfter, chosenIn}
+use Rattle.plan.specs.Choices.{openingBy, openingIn, openAfter, chosenIn}
 use Rattle.plan.specs.Calls.{ChosenRow}
 use Rattle.bench.specs.inner.Moves.{benchStarted, slotOf, finishedIn, handedWith, startedIn, Stepped}
+use Rattle.plan.proofs.BoardLaws.{marksFrom-set}
 use Rattle.plan.proofs.SearchLaws.{candidate-more, chosen-there, search-row, search-none}
 use Rattle.bench.proofs.shown.HeldLaws.{benchOf-stateOf, ticked-is, benchStarted-is}
 use Rattle.bench.proofs.choice.JoinLaws.{rows-are, finished-same, steps-same, cost-same, opened-same}
@@ -180,3 +183,24 @@ module _ (load : Load) (bench : Bench) (board : Board) (shows : Shows load bench
       where
         same : chosenIn board (bench .clock) (load .rows) ≡ chosen L s
         same = chosen-same load bench board shows most
+
+-- what is handed back of a start, by what was looked up of its row
+pub handed-start : (bench next : Bench) (counts lengths moments lit : List ℕ) (rows i opening : ℕ) (look : Look)
+    (slot : Slot) (moved : Moved) → i < 24 → length counts ≡ countPlaces
+    → look ≡ lookIn (boardIn counts lengths moments) i
+    → opening ≡ openingBy (look .stays) (look .opened) (look .opening) (bench .clock)
+    → lit ≡ set counts (48 + i) (bit (look .stays)) → slot ≡ slotOf i (look .finished) (bench .clock)
+    → next ≡ benchStarted bench i (look .cost) opening → moved ≡ handedWith next (Start slot) (marksFrom lit 48) rows
+    → moved ≡ startedIn bench (boardIn counts lengths moments) rows i
+unfolding startedIn
+handed-start bench next counts lengths moments lit rows i opening look slot moved inside long looked opens lights slots
+    begins e =
+    e
+    ∙ rw (
+      begins,
+      slots,
+      lights,
+      opens,
+      looked,
+      marksFrom-set counts 48 i (lookIn (boardIn counts lengths moments) i .stays) inside (omega (arith, long)),
+    )

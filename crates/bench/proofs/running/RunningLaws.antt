@@ -1,19 +1,18 @@
 -- What holds at every turn of the run: the board shows a state of the run, the slots so far are the first of the
 -- schedule, and the starts of the moves that are left are its other slots. It holds at first, and at the next start,
--- before which nothing is chosen; once there are as many slots as the schedule has, they are the schedule.
+-- before which nothing is chosen.
 use Prim.Native.Nat.{ℕ, _+_, _-_, min, _≤_, _<_}
 use mathlib.Core.Bool.{Bool, true, false}
 use mathlib.Core.List.{List, [], _++_, append-nil}
 use mathlib.Core.Path.{_≡_, refl, ap, ap₂, sym, _∙_, subst}
 use native.Mathlib.Decide.{decLt}
 use native.Mathlib.Omega.{arith}
-use lib.ListN.{length, length-append, replicate}
+use lib.ListN.{length}
 use Rattle.counting.specs.Sums.{sumTo}
 use Rattle.counting.specs.Lists.{memberAt, filled}
 use Rattle.counting.specs.Searches.{none, isFound}
 use Rattle.counting.proofs.sums.SumLaws.{sumTo-ext}
 use Rattle.counting.proofs.tests.TestLaws.{true-false}
-use Rattle.counting.proofs.lists.ListLaws.{filled-none}
 use Rattle.counting.proofs.searches.FirstToLaws.{firstTo-first}
 use Rattle.refusals.specs.declared.Checked.the-variants.{Good}
 use Rattle.load.specs.declared.Load.{Load}
@@ -34,7 +33,7 @@ use Rattle.rules.proofs.invariant.FullSetting.{fullSetting}
 use Rattle.rules.proofs.invariant.MoveKeeps.{Accounted, fresh-accounted, accounted-time, accounted-shaped}
 use Rattle.rules.proofs.run.StretchLaws.{Quiet, starts-done, quiet-accounted, quiet-starts}
 use Rattle.bench.specs.declared.Bench.{Bench}
-use Rattle.plan.specs.declared.Board.{Board}
+use Rattle.plan.specs.Boards.{Board}
 use Rattle.bench.specs.Held.{stateOf, benchOf, HeldBench, benchAt}
 use Rattle.bench.specs.inner.Boards.{Shows}
 use Rattle.plan.specs.declared.Chosen.{Chosen}
@@ -52,7 +51,7 @@ use Rattle.bench.proofs.shown.LaterBoards.{shows-at}
 use Rattle.bench.proofs.running.RunsLaws.{schedule-counted}
 
 -- the run at a turn: its bench is in no place of memory
-pub record Running (load : Load) (board : Board) (clock count : ℕ) (slots : List Slot) : Type 0 where
+pub record Running (load : Load) (board : Board) (clock count : ℕ) : Type 0 where
   pub bench : Bench
   pub held : HeldBench bench
   pub clock-is : bench .clock ≡ clock
@@ -65,7 +64,6 @@ pub record Running (load : Load) (board : Board) (clock count : ℕ) (slots : Li
   pub before : List Slot
   pub count-is : length before ≡ count
   pub schedule-is : schedule (viewOf load) ≡ before ++ starts (viewOf load) moves (stateOf bench)
-  pub slots-are : slots ≡ filled (slotAt (schedule (viewOf load))) count slotPlaces noSlot
 
 module _ (load : Load) (accepted : checkLoad load ≡ Good) (most : load .rows ≤ 24) where
   abbrev L : View
@@ -89,25 +87,32 @@ module _ (load : Load) (accepted : checkLoad load ≡ Good) (most : load .rows �
       ∙ sym (schedule-counted load accepted)
 
   -- before the first move
-  pub running-fresh : (board : Board) → Shows load (benchOf fresh) board
-      → Running load board 0 0 (replicate slotPlaces noSlot)
+  pub running-fresh : (bench : Bench) (board : Board) → bench ≡ benchOf fresh → Shows load bench board
+      → Running load board 0 0
   unfolding scheduleBy fresh benchOf
-  running-fresh board shows =
+  running-fresh bench board begun shows =
       record {
         bench = benchOf fresh;
         held = benchOf-held fresh;
         clock-is = refl;
-        shows = shows;
+        shows = subst (λ (b : Bench). Shows load b board) begun shows;
         kept = subst (Accounted minima workedSince L) (sym fresh-state) fresh-kept;
         moves = enoughMoves;
         moves-most = omega arith;
         before = [];
         count-is = refl;
         schedule-is = ap (starts L enoughMoves) (sym fresh-state);
-        slots-are = sym (filled-none (slotAt (schedule L)) slotPlaces noSlot);
       }
 
-  module _ (board : Board) (clock count : ℕ) (slots : List Slot) (r : Running load board clock count slots) where
+  -- after the last
+  pub running-done : (steps k : ℕ) (slots : List Slot) → k ≡ steps → steps ≡ length (schedule L)
+      → slots ≡ filled (slotAt (schedule L)) k slotPlaces noSlot
+      → record { answer = Good; count = steps; slots = slots } ≡ ranWith Good (schedule L)
+  running-done steps k slots e counted made =
+      ap₂ (λ n l. record { answer = Good; count = n; slots = l }) counted
+      (made ∙ ap (λ n. filled (slotAt (schedule L)) n slotPlaces noSlot) (e ∙ counted))
+
+  module _ (board : Board) (clock count : ℕ) (r : Running load board clock count) where
     abbrev s : State
     s = stateOf (r .bench)
 
@@ -131,23 +136,9 @@ module _ (load : Load) (accepted : checkLoad load ≡ Good) (most : load .rows �
             ∙ append-nil (r .before)) in
             absurd (omega (arith, ap length whole, r .count-is))
 
-    -- after the last
-    pub running-done : length (schedule L) ≤ count
-        → record { answer = Good; count = count; slots = slots } ≡ ranWith Good (schedule L)
-    running-done h =
-        let counted : count ≡ length (schedule L) =
-        omega (
-          arith,
-          ap length (r .schedule-is),
-          length-append (r .before) (starts L (r .moves) s),
-          r .count-is,
-        ) in
-        ap₂ (λ n l. record { answer = Good; count = n; slots = l }) counted
-        (r .slots-are ∙ ap (λ n. filled (slotAt (schedule L)) n slotPlaces noSlot) counted)
-
     -- a stretch of ticks at which nothing is chosen
     pub running-idle : finishedIn board (load .rows) ≡ false → (k : ℕ) → k ≤ lastMoment - clock → Quiet L s k
-        → Running load board (clock + k) count slots
+        → Running load board (clock + k) count
     running-idle nd k h q =
         let left : r .moves ≡ r .moves - k + k = omega (arith, r .moves-most) in
         let pause : allFinished L s ≡ false = sym asked ∙ nd in
@@ -165,7 +156,6 @@ module _ (load : Load) (accepted : checkLoad load ≡ Good) (most : load .rows �
               r .schedule-is
               ∙ ap (λ l. r .before ++ l)
               (ap (λ n. starts L n s) left ∙ quiet-starts L full s (r .kept) pause k (r .moves - k) q);
-          slots-are = r .slots-are;
         }
 
     -- to the next start
@@ -180,9 +170,9 @@ module _ (load : Load) (accepted : checkLoad load ≡ Good) (most : load .rows �
       before-next =
           subst (QuietBefore board clock (load .rows)) (sym moment-is) (nextMoment-quiet board clock (load .rows))
 
-      pub running-on : Running load board (next .moment) count slots
+      pub running-on : Running load board (next .moment) count
       running-on =
-          subst (λ m. Running load board m count slots) on
+          subst (λ m. Running load board m count) on
           (running-idle nd (next .moment - clock) (omega (arith, before-next .most, running-early nd)) quiet)
         where
           on : clock + (next .moment - clock) ≡ next .moment
@@ -198,16 +188,16 @@ module _ (load : Load) (accepted : checkLoad load ≡ Good) (most : load .rows �
 
 -- with work left there is a next start: else the clock would go on to the last moment
 module _ (load : Load) (accepted : checkLoad load ≡ Good) (most : load .rows ≤ 24) (board : Board) (clock count : ℕ)
-    (slots : List Slot) (r : Running load board clock count slots) (nd : finishedIn board (load .rows) ≡ false)
+    (r : Running load board clock count) (nd : finishedIn board (load .rows) ≡ false)
     (next : Chosen) (n : NextStart board clock (load .rows) next) where
   early : next .moment < lastMoment
   early =
-      running-early load accepted most board (next .moment) count slots
-      (running-on load accepted most board clock count slots r nd next n) nd
+      running-early load accepted most board (next .moment) count
+      (running-on load accepted most board clock count r nd next n) nd
 
   starts-then : isFound (chosenIn board (next .moment) (load .rows)) ≡ true
   starts-then =
-      let e = moment-is load accepted most board clock count slots r nd next n in
+      let e = moment-is load accepted most board clock count r nd next n in
       let first = firstTo-first (λ d. isFound (chosenIn board (clock + d) (load .rows))) (lastMoment - clock) in
       subst (λ m. isFound (chosenIn board m (load .rows)) ≡ true) (sym e) (first .has (omega (arith, early, e)))
 

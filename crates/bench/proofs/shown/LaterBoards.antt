@@ -13,18 +13,16 @@ use Rattle.load.specs.View.{viewOf}
 use Rattle.rules.specs.Move.{startedFull}
 use Rattle.bench.specs.declared.Bench.{Bench}
 use Rattle.plan.specs.declared.Look.{Look}
-use Rattle.plan.specs.declared.Board.{Board}
 use Rattle.bench.specs.Held.{stateOf, HeldBench, benchAt}
 use Rattle.plan.specs.Looks.{lookOf, lookBy}
-use Rattle.plan.specs.Boards.{lookIn, boardWith}
-use Rattle.bench.specs.inner.Boards.{Shows}
+use Rattle.plan.specs.Boards.{Board, lookIn}
+use Rattle.bench.specs.inner.Boards.{Shows, Renewed}
 use Rattle.plan.specs.Choices.{openingIn}
 use Rattle.bench.specs.inner.Moves.{benchStarted}
 use Rattle.bench.specs.inner.Running.{lookAfter}
 use Rattle.bench.proofs.shown.HeldLaws.{benchStarted-state}
 use Rattle.bench.proofs.shown.LookLaws.{look-of-row}
 use Rattle.plan.proofs.SearchLaws.{openingBy-le}
-use Rattle.plan.proofs.BoardLaws.{boardWith-same, boardWith-other, boardWith-wide}
 use Rattle.bench.proofs.choice.JoinLaws.{finished-same, steps-same, cost-same}
 use Rattle.bench.proofs.choice.ChoiceLaws.{opening-after}
 
@@ -77,31 +75,30 @@ module _ (load : Load) (bench : Bench) (board : Board) (shows : Shows load bench
         (getD-set-other (bench .end) i k _ 0 q) (getD-set-other (bench .opening) i k _ 0 q)
 
     -- the row is looked up anew, and the others are as they were
-    pub shows-started : (look : Look) → look ≡ lookAfter (rowAt load i) board (bench .clock) i
-        → bench .clock ≤ lastMoment → Shows load after (boardWith board i look)
+    pub shows-started : (next : Board) → load .rows ≤ 24
+        → Renewed board i (lookAfter (rowAt load i) board (bench .clock) i) next → bench .clock ≤ lastMoment
+        → Shows load after next
     unfolding lookOf viewOf
-    shows-started look e early =
-        let here : lookIn (boardWith board i look) i ≡ look = boardWith-same board i look (shows .wide) inside in
+    shows-started next most renewal early =
         let was = lookIn board i in
         record {
-          wide = boardWith-wide board i look (shows .wide);
+          wide = renewal .wide;
           looks = λ k lk. elim (ℕ-discrete k i) [
-            | yes q ↦ rw q (here ∙ e ∙ renewed)
-            | no q ↦ boardWith-other board i look k q ∙ shows .looks k lk ∙ other k q
+            | yes q ↦ rw q (renewal .same ∙ renewed)
+            | no q ↦ renewal .others k (omega arith) q ∙ shows .looks k lk ∙ other k q
           ];
           steps-most = λ k lk. elim (ℕ-discrete k i) [
             | yes q ↦
-                subst (λ (look : Look). look .steps ≤ 8) (sym (ap (lookIn (boardWith board i look)) q ∙ here ∙ e))
+                subst (λ (look : Look). look .steps ≤ 8) (sym (ap (lookIn next) q ∙ renewal .same))
                 (omega (arith, shows .steps-most i l, steps-same load bench board shows i l))
-            | no q ↦ subst (λ (look : Look). look .steps ≤ 8) (sym (boardWith-other board i look k q))
+            | no q ↦ subst (λ (look : Look). look .steps ≤ 8) (sym (renewal .others k (omega arith) q))
                 (shows .steps-most k lk)
           ];
           opening-most = λ k lk. elim (ℕ-discrete k i) [
             | yes q ↦
-                subst (λ (look : Look). look .opening ≤ lastMoment)
-                (sym (ap (lookIn (boardWith board i look)) q ∙ here ∙ e))
+                subst (λ (look : Look). look .opening ≤ lastMoment) (sym (ap (lookIn next) q ∙ renewal .same))
                 (openingBy-le (was .stays) (was .opened) (was .opening) (bench .clock) early)
-            | no q ↦ subst (λ (look : Look). look .opening ≤ lastMoment) (sym (boardWith-other board i look k q))
+            | no q ↦ subst (λ (look : Look). look .opening ≤ lastMoment) (sym (renewal .others k (omega arith) q))
                 (shows .opening-most k lk)
           ];
         }

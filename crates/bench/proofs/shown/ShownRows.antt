@@ -8,14 +8,14 @@ use Rattle.counting.specs.Lists.{memberAt}
 use Rattle.load.specs.declared.Load.{Load}
 use Rattle.load.specs.Load.{mostSteps, lastMoment, rowAt}
 use Rattle.load.specs.View.{viewOf}
+use Rattle.rules.specs.State.{State, fresh}
 use Rattle.plan.specs.declared.Look.{Look}
-use Rattle.plan.specs.declared.Board.{Board}
 use Rattle.plan.specs.Looks.{lookOf, lookBy}
-use Rattle.plan.specs.Boards.{lookIn, boardWith}
-use Rattle.plan.specs.inner.Widths.{Wide}
-use Rattle.plan.proofs.BoardLaws.{boardWith-same, boardWith-other}
+use Rattle.plan.specs.Boards.{Board, lookIn}
 use Rattle.bench.specs.declared.Bench.{Bench}
-use Rattle.bench.specs.Held.{stateOf}
+use Rattle.bench.specs.Held.{stateOf, benchOf}
+use Rattle.bench.specs.inner.Boards.{Wide, Shows, Renewed}
+use Rattle.bench.proofs.shown.HeldLaws.{fresh-state}
 use Rattle.bench.proofs.shown.CheckedLaws.{InShape}
 use Rattle.bench.proofs.shown.LookLaws.{look-of-row}
 
@@ -55,6 +55,28 @@ module _ (load : Load) (bench : Bench) (i : ℕ) (steps : rowAt load i .steps �
   unfolding lookOf
   row-opening = omega (arith, shape .opening-le)
 
+-- a row of the load, looked up for the fresh bench
+module _ (load : Load) (i : ℕ) (steps : rowAt load i .steps ≤ mostSteps) where
+  abbrev begun : Bench
+  begun = benchOf fresh
+
+  pub fresh-looked : lookBy (rowAt load i) 0 0 0 ≡ lookOf (viewOf load) (stateOf begun) i
+  unfolding fresh
+  fresh-looked =
+      sym
+      (ap₂ (λ a b. lookBy (rowAt load i) a b (memberAt (begun .opening) i))
+      (ap (λ (s : State). s .finished i) fresh-state) (ap (λ (s : State). s .end i) fresh-state)
+      ∙ ap (lookBy (rowAt load i) 0 0) (ap (λ (s : State). s .opening i) fresh-state))
+      ∙ look-of-row load begun i
+
+  pub fresh-steps : lookOf (viewOf load) (stateOf begun) i .steps ≤ mostSteps
+  unfolding lookOf viewOf
+  fresh-steps = steps
+
+  pub fresh-opening : lookOf (viewOf load) (stateOf begun) i .opening ≤ lastMoment
+  unfolding lookOf fresh
+  fresh-opening = omega (arith, ap (λ (s : State). s .opening i) fresh-state)
+
 -- the same look has the same numbers
 few : {a b : Look} → a ≡ b → b .steps ≤ mostSteps → a .steps ≤ mostSteps
 few e h = subst (λ (look : Look). look .steps ≤ mostSteps) (sym e) h
@@ -63,24 +85,35 @@ soon : {a b : Look} → a ≡ b → b .opening ≤ lastMoment → a .opening ≤
 soon e h = subst (λ (look : Look). look .opening ≤ lastMoment) (sym e) h
 
 -- one row more is shown, once its look is stored
-module _ (load : Load) (bench : Bench) (board : Board) (i : ℕ) (look : Look) (wide : Wide board) (l : i < 24)
-    (shown : (k : ℕ) → k < i → Shown load bench board k)
+module _ (load : Load) (bench : Bench) (board after : Board) (i : ℕ) (look : Look) (l : i < 24)
+    (renewed : Renewed board i look after) (shown : (k : ℕ) → k < i → Shown load bench board k)
     (same : look ≡ lookOf (viewOf load) (stateOf bench) i)
     (steps : lookOf (viewOf load) (stateOf bench) i .steps ≤ mostSteps)
     (opening : lookOf (viewOf load) (stateOf bench) i .opening ≤ lastMoment) where
-  pub shown-next : (k : ℕ) → k < i + 1 → Shown load bench (boardWith board i look) k
+  pub shown-next : (k : ℕ) → k < i + 1 → Shown load bench after k
   shown-next k b =
       elim (ℕ-discrete k i) [
         | yes q ↦
-            (let here = boardWith-same board i look wide l ∙ same in
+            (let here = renewed .same ∙ same in
             rw q
             (record { look-is = here; steps-le = few here steps; opening-le = soon here opening }))
         | no q ↦
             (let was = shown k (omega arith) in
-            let kept = boardWith-other board i look k q in
+            let kept = renewed .others k (omega arith) q in
             record {
               look-is = kept ∙ was .look-is;
               steps-le = few kept (was .steps-le);
               opening-le = soon kept (was .opening-le);
             })
       ]
+
+-- so that in the end all are
+pub shows-all : (load : Load) (bench : Bench) (board : Board) → Wide board
+    → ((k : ℕ) → k < load .rows → Shown load bench board k) → Shows load bench board
+shows-all load bench board wide shown =
+    record {
+      wide = wide;
+      looks = λ i l. shown i l .look-is;
+      steps-most = λ i l. shown i l .steps-le;
+      opening-most = λ i l. shown i l .opening-le;
+    }

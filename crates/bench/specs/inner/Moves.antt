@@ -14,10 +14,9 @@ use Rattle.rules.specs.declared.Outcome.{Outcome}
 use Rattle.rules.specs.declared.Outcome.the-variants.{Start, Idle}
 use Rattle.rules.specs.declared.Slot.{Slot}
 use Rattle.bench.specs.declared.Bench.{Bench}
-use Rattle.plan.specs.declared.Board.{Board}
 use Rattle.bench.specs.declared.Moved.{Moved}
 use Rattle.bench.specs.Held.{benchAt}
-use Rattle.plan.specs.Boards.{lookIn}
+use Rattle.plan.specs.Boards.{Board, lookIn}
 use Rattle.plan.specs.Choices.{openingIn, openAfter}
 use Rattle.plan.specs.Calls.{ChosenRow}
 

@@ -1,37 +1,47 @@
 -- The calls on plan and bench: each contract is its relation in BenchCalls, which a result meets, and one only.
 use mathlib.Core.Path.{refl}
-use Rattle.plan.specs.Boards.{boardOf}
+use mathlib.Core.Bool.{cond}
+use lib.Dec.{ltb}
+use Rattle.load.specs.Load.{mostRows}
+use Rattle.load.specs.View.{viewOf}
+use Rattle.load_file.specs.Places.{loadIn}
+use Rattle.load_file.specs.Reading.{fileForBench}
+use Rattle.rules.specs.Run.{schedule}
+use Rattle.plan.specs.Boards.{boardIn, countsWith, lengthsWith, momentsWith}
 use Rattle.plan.proofs.CallLaws.{
   OpenWindow-unique,
   LookOf-unique,
-  ZeroBoard-unique,
+  LookAt-unique,
+  PutLook-unique,
   OpeningAfter-unique,
   ChosenRow-unique,
   NextStart-unique,
   nextStart,
   NextStart-met,
 }
-use Rattle.bench.proofs.CallLaws.{Fresh-unique, NextMove-unique, Runs-unique, RunsFile-unique}
+use Rattle.bench.proofs.CallLaws.{Fresh-unique, NextMove-unique, Runs-unique, WriteRun-unique}
+use Rattle.schedule_file.specs.ScheduleFile.{scheduleBytes}
 use Rattle.demands.specs.BenchCalls.{EveryBenchCall}
 use Rattle.demands.specs.Sameness.{OneResult}
 use Rattle.demands.specs.JoinedContract.{Relation}
 use Rattle.demands.specs.Demand1.{Answer}
 use Rattle.demands.proofs.contracts.BenchContracts.{BenchContracts}
-use Rattle.demands.proofs.calls.CallAnswers.{listed, is}
+use Rattle.demands.proofs.calls.CallAnswers.{listed, both, is, given}
 
 abbrev pub bench-relations : EveryBenchCall Relation
 bench-relations =
     record {
       open-window = λ row finished. listed;
       look-of = λ row finished end opening. listed;
-      zero-board = listed;
+      look-at = λ counts lengths moments i. listed;
+      put-look = λ counts lengths moments i look. listed;
       opening-after = λ stays opened opening clock. listed;
-      chosen-row = λ finished steps opening cost release opened left due wait stays rest limit clock rows. listed;
-      next-start = λ finished steps opening cost release opened left due wait stays rest limit clock rows. listed;
+      chosen-row = λ counts lengths moments clock rows. listed;
+      next-start = λ counts lengths moments clock rows. listed;
       fresh = listed;
       next-move = λ load bench. listed;
       run = λ load. listed;
-      run-file = λ bs. listed;
+      write-run = λ bs out. listed;
     }
 
 pub bench-contracts : BenchContracts bench-relations
@@ -39,14 +49,15 @@ bench-contracts =
     record {
       open-window = refl;
       look-of = refl;
-      zero-board = refl;
+      look-at = refl;
+      put-look = refl;
       opening-after = refl;
       chosen-row = refl;
       next-start = refl;
       fresh = refl;
       next-move = refl;
       run = refl;
-      run-file = refl;
+      write-run = refl;
     }
 
 pub bench-same : EveryBenchCall OneResult
@@ -54,16 +65,17 @@ bench-same =
     record {
       open-window = OpenWindow-unique;
       look-of = LookOf-unique;
-      zero-board = ZeroBoard-unique;
+      look-at = λ counts lengths moments. LookAt-unique (boardIn counts lengths moments);
+      put-look = λ counts lengths moments i look r s p q.
+          let same = PutLook-unique counts lengths moments i look _ _ _ _ _ _ p q in
+          λ n. record { counts = same .0 n; lengths = same .1 n; moments = same .2 n };
       opening-after = OpeningAfter-unique;
-      chosen-row = λ finished steps opening cost release opened left due wait stays rest limit.
-          ChosenRow-unique (boardOf finished steps opening cost release opened left due wait stays rest limit);
-      next-start = λ finished steps opening cost release opened left due wait stays rest limit.
-          NextStart-unique (boardOf finished steps opening cost release opened left due wait stays rest limit);
+      chosen-row = λ counts lengths moments. ChosenRow-unique (boardIn counts lengths moments);
+      next-start = λ counts lengths moments. NextStart-unique (boardIn counts lengths moments);
       fresh = Fresh-unique;
       next-move = NextMove-unique;
       run = Runs-unique;
-      run-file = RunsFile-unique;
+      write-run = λ bs out. both _ (WriteRun-unique bs out);
     }
 
 pub bench-answers : EveryBenchCall Answer
@@ -71,14 +83,22 @@ bench-answers =
     record {
       open-window = λ row finished. is _;
       look-of = λ row finished end opening. is _;
-      zero-board = is _;
+      look-at = λ counts lengths moments i. is _;
+      put-look = λ counts lengths moments i look. record {
+        result = record {
+          counts = cond (ltb i mostRows) (countsWith counts i look) counts;
+          lengths = cond (ltb i mostRows) (lengthsWith lengths i look) lengths;
+          moments = cond (ltb i mostRows) (momentsWith moments i look) moments;
+        };
+        met = (refl, refl, refl);
+      };
       opening-after = λ stays opened opening clock. is _;
-      chosen-row = λ finished steps opening cost release opened left due wait stays rest limit clock rows. is _;
-      next-start = λ finished steps opening cost release opened left due wait stays rest limit clock rows.
-          let board = boardOf finished steps opening cost release opened left due wait stays rest limit in
+      chosen-row = λ counts lengths moments clock rows. is _;
+      next-start = λ counts lengths moments clock rows.
+          let board = boardIn counts lengths moments in
           record { result = nextStart board clock rows; met = NextStart-met board clock rows };
       fresh = is _;
       next-move = λ load bench. is _;
       run = λ load. is _;
-      run-file = λ bs. is _;
+      write-run = λ bs out. given (fileForBench bs) (scheduleBytes (schedule (viewOf (loadIn bs)))) out;
     }

@@ -1,13 +1,9 @@
 -- Every call refuses with no other numbers than those named: each relation is an equation or a finding, and those were
 -- looked through test by test.
-use mathlib.Core.Path.{refl}
 use Rattle.rules.specs.Margins.{marginBytes}
 use Rattle.schedule.specs.Calls.{firstSlots}
 use Rattle.reading_bench.specs.Calls.{boundBytes, verdictBytes, scheduleFile}
 use Rattle.lines.specs.Lines.{printed}
-use Rattle.load_file.specs.Reading.{readLoad}
-use Rattle.load_file.proofs.CallLaws.{ReadLoad-answer}
-use Rattle.bench.proofs.running.FileRuns.{RunsFile-answer}
 use Rattle.demands.specs.Numbers.{Numbers}
 use Rattle.demands.proofs.demand1.CallNumbers.{
   load-gives,
@@ -20,6 +16,7 @@ use Rattle.demands.proofs.demand1.CallNumbers.{
   move-gives,
 }
 use Rattle.demands.proofs.demand1.WritingCalls.{
+  run-gives,
   load-written-gives,
   room-gives,
   slots-written-give,
@@ -48,7 +45,7 @@ numbers =
       write-array = λ slots n out r after g. slots-written-give (firstSlots slots n) out r after g;
       next-move = λ load bench r e. rw e (move-gives load bench);
       run = λ load r e. rw e (load-gives load .number);
-      run-file = λ bs r e. rw (RunsFile-answer bs r e, ← ReadLoad-answer bs (readLoad bs) refl) (file-gives bs .number);
+      write-run = run-gives;
       bench-bound = c-gives boundBytes;
       bench-verdict = c-gives verdictBytes;
       bench-margins = c-gives marginBytes;

@@ -21,9 +21,8 @@ use Rattle.bound.specs.declared.Margined.{Margined}
 use Rattle.bound.specs.declared.Judged.{Judged}
 use Rattle.bound.specs.Calls.{AnswersOf, BoundOf, MarginsOf, VerdictOf}
 use Rattle.bench.specs.declared.Ran.{Ran}
-use Rattle.bench.specs.Calls.{Runs, RunsFile}
+use Rattle.bench.specs.Calls.{Runs}
 use Rattle.bench.proofs.running.RunsLaws.{scheduleOr-refused}
-use Rattle.bench.proofs.running.FileRuns.{scheduleInFile-refused}
 use Rattle.demands.specs.Demand1.{nothingBut}
 
 pub refused-load : (bs : List ℕ) (r : Reading) (refusal : Refusal) → ReadLoad bs r → r .answer ≡ Refused refusal
@@ -61,9 +60,3 @@ module _ (load : Load) where
   refused-slots r refusal e h =
       ap (λ (x : Ran). x .count) e
       ∙ ap length (scheduleOr-refused load refusal (ap (λ (x : Ran). x .answer) (sym e) ∙ h))
-
-pub refused-file-slots : (bs : List ℕ) (r : Ran) (refusal : Refusal) → RunsFile bs r → r .answer ≡ Refused refusal
-    → r .count ≡ 0
-refused-file-slots bs r refusal e h =
-    ap (λ (x : Ran). x .count) e
-    ∙ ap length (scheduleInFile-refused bs refusal (ap (λ (x : Ran). x .answer) (sym e) ∙ h))

@@ -26,7 +26,8 @@ use Rattle.rules.specs.declared.Slot.{Slot}
 use Rattle.rules.specs.Slots.{mostSlots}
 use Rattle.schedule_file.specs.ScheduleFile.{slotPlace, scheduleBytes, countFault, slotsFault, roomFault}
 use Rattle.schedule_file.specs.Calls.{WriteSchedule}
-use Rattle.reading_bench.specs.Calls.{ForC}
+use Rattle.bench.specs.Calls.{WriteRun}
+use Rattle.reading_bench.specs.Calls.{ForC, scheduleFile}
 use Rattle.demands.specs.NumberLists.{OneOf, ofLoad, ofFile, ofOutput, ofC, ofWriting, ofSlotWriting}
 use Rattle.demands.proofs.demand1.NumberLaws.{Gives, tests-give, then-gives, last-gives, eachAmong, OneOf-more}
 use Rattle.demands.proofs.demand1.CallNumbers.{load-gives, file-gives}
@@ -78,6 +79,12 @@ c-gives answer bs out r after c =
     rw (c .number-is)
     (given-gives ofC (fileFault bs) (answer (viewOf (loadIn bs))) out (c .found) after refl
     (with-nine ofFile (fileFault bs) refl (file-gives bs)) (c .given))
+
+-- so does the writing of a file's run
+pub run-gives : (bs out : List ℕ) (r : Checked) (after : List ℕ) → WriteRun bs out r after
+    → OneOf ofC (numberGiven r)
+run-gives bs out r after g =
+    c-gives scheduleFile bs out (numberGiven r) after (record { found = r; given = g; number-is = refl })
 
 -- a call that refuses nothing but a short output gives 9 alone
 pub out-gives : (answer out : List ℕ) (r : Written) (after : List ℕ) → WritesOut Good answer out r after

@@ -19,8 +19,7 @@ use Rattle.rules.specs.Plan.{Jobs, inTimeBy, stackBy}
 use Rattle.rules.proofs.plan.PlanLaws.{SameJob, EasierJob, inTimeBy-ext}
 use Rattle.rules.proofs.plan.StackOrder.{stackBy-rows, stackBy-without, stackBy-with}
 use Rattle.rules.proofs.plan.RefusedLaws.{Opens, refused-still}
-use Rattle.plan.specs.declared.Board.{Board}
-use Rattle.plan.specs.Boards.{lookIn}
+use Rattle.plan.specs.Boards.{Board, lookIn}
 use Rattle.plan.specs.Choices.{openingIn, openAfter, jobsIn, jobsAfter, passesIn}
 use Rattle.plan.specs.inner.Passing.{never, StackIn, PassesFrom}
 use Rattle.plan.specs.inner.Walks.{RowsIn, othersIn, rowsFrom}

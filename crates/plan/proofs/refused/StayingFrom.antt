@@ -18,9 +18,8 @@ use Rattle.rules.specs.Plan.{Jobs, inTimeBy}
 use Rattle.rules.proofs.plan.PlanLaws.{inTimeBy-none}
 use Rattle.rules.proofs.plan.EndLaws.{windowEnd}
 use Rattle.rules.proofs.plan.RefusedLaws.{FirstBehind}
-use Rattle.plan.specs.declared.Board.{Board}
 use Rattle.plan.specs.declared.Walked.{Walked}
-use Rattle.plan.specs.Boards.{lookIn}
+use Rattle.plan.specs.Boards.{Board, lookIn}
 use Rattle.plan.specs.Choices.{openingBy}
 use Rattle.plan.specs.inner.Passing.{never, PassesFrom}
 use Rattle.plan.specs.inner.Walks.{othersIn, rowsFrom, walkIn}
@@ -195,7 +194,7 @@ module _ (board : Board) (rows i : ℕ) (below : i < rows) (long : PlaceIn board
           ]
 
   -- the same, of an array that holds the stack
-  pub staying-given : (order : List ℕ) (count own r : ℕ) → take count order ≡ stackOf board rows
+  staying-given : (order : List ℕ) (count own r : ℕ) → take count order ≡ stackOf board rows
       → own ≡ openingBy true (lookIn board i .opened) (lookIn board i .opening) clock + lookIn board i .limit
       → r
       ≡ staysUntil (askedIn board) (rowsFrom order count 0) i
@@ -216,3 +215,15 @@ module _ (board : Board) (rows i : ℕ) (below : i < rows) (long : PlaceIn board
       (stayOf (lookIn board i .opened) clock (lookIn board i .cost) (lookIn board i .wait) (lookIn board i .rest)
       (lookIn board i .limit) n)) then))
       staying-from
+
+  -- the same, of what was read of the row
+  pub staying-read : (order : List ℕ) (count own r : ℕ) (opened : Bool) (opening cost wait rest limit : ℕ)
+      → take count order ≡ stackOf board rows → opened ≡ lookIn board i .opened → opening ≡ lookIn board i .opening
+      → cost ≡ lookIn board i .cost → wait ≡ lookIn board i .wait → rest ≡ lookIn board i .rest
+      → limit ≡ lookIn board i .limit → own ≡ openingBy true opened opening clock + limit
+      → r ≡ staysUntil (askedIn board) (rowsFrom order count 0) i (stayOf opened clock cost wait rest limit own)
+      → PassesFrom board clock rows i r
+  staying-read order count own r opened opening cost wait rest limit stack is-opened is-opening is-cost is-wait is-rest
+      is-limit own-is e =
+      staying-given order count own r stack (own-is ∙ rw (is-opened, is-opening, is-limit))
+      (e ∙ rw (is-opened, is-cost, is-wait, is-rest, is-limit))

@@ -27,8 +27,7 @@ use Rattle.rules.proofs.plan.RefusedLaws.{
   refused-own,
   refused-behind,
 }
-use Rattle.plan.specs.declared.Board.{Board}
-use Rattle.plan.specs.Boards.{lookIn}
+use Rattle.plan.specs.Boards.{Board, lookIn}
 use Rattle.plan.specs.Choices.{jobsAfter, passesIn}
 use Rattle.plan.specs.inner.Passing.{never, PassesFrom}
 use Rattle.plan.specs.inner.Walks.{othersIn}

@@ -1,6 +1,6 @@
 -- The walk over the open rows, a row at a time: the row that is tried is passed over, and each other row is finished in
 -- time or is the last that is looked at.
-use Prim.Native.Nat.{ℕ, suc, _+_, _*_, _≤_, _<_}
+use Prim.Native.Nat.{ℕ, suc, _+_, _*_, max, _≤_, _<_}
 use mathlib.Core.Bool.{Bool, true, false, _&&_}
 use mathlib.Core.List.{List, [], _∷_}
 use mathlib.Core.Logic.{_≢_}
@@ -15,6 +15,8 @@ use Rattle.load.specs.Load.{mostRows}
 use Rattle.rules.specs.Plan.{Jobs, finish, inTimeBy}
 use Rattle.rules.proofs.plan.PlanLaws.{inTimeBy-next, inTimeBy-none}
 use Rattle.plan.specs.declared.Walked.{Walked}
+use Rattle.plan.specs.Boards.{numbersFrom}
+use Rattle.plan.specs.inner.Passing.{jobsOf}
 use Rattle.plan.specs.inner.Walks.{othersIn, rowsFrom, standsBefore, walkedTo, walkIn, WalkFits}
 
 module _ (order : List ℕ) (count : ℕ) (most : count ≤ length order) where
@@ -153,3 +155,14 @@ walked-whole count place t work late given whole e f most hp ht hw = (
   e ∙ sym f,
   subst (WalkFits count) (sym e) record { place-most = hp; time-most = ht; work-most = omega arith },
 )
+
+-- a row of a board is finished as the plan has it
+pub finished : (moments : List ℕ) (time row release left : ℕ) (end : ℕ) → left ≡ memberAt (numbersFrom moments 48) row
+    → release ≡ memberAt (numbersFrom moments 24) row → end ≡ max time release + left
+    → end ≡ finish (jobsOf moments) time row
+finished moments time row release left end e f h = h ∙ rw (e, f)
+
+-- what is asked of a row is what the plan asks
+pub stood : (moments : List ℕ) (own i other row : ℕ) (b r : Bool) → other ≡ memberAt (numbersFrom moments 72) row
+    → r ≡ standsBefore own i other row → r ≡ b → standsBefore own i (jobsOf moments .due row) row ≡ b
+stood moments own i other row b r e h g = rw (sym e) (sym h ∙ g)

@@ -1,22 +1,19 @@
--- The search for the next start: the lowest unfinished step, the moment from which each row is
--- tried, and how far the rows have been looked through. To be read after Passing.
+-- The search for the next start: the lowest unfinished step, the step numbers that are tried, until
+-- when each row is known to be refused, and how far the rows have been gone through. To be read
+-- after Passing.
 use Prim.Native.Nat.{ℕ, _+_, min, _≤_, _<_}
-use mathlib.Core.Bool.{Bool, true, false, cond, _&&_, _||_}
+use mathlib.Core.Bool.{Bool, true, false, _&&_, _||_}
 use mathlib.Core.List.{List}
 use mathlib.Core.Path.{_≡_}
-use lib.Dec.{leb, ltb}
+use lib.Dec.{eqb, leb, ltb}
 use lib.ListN.{length}
 use Rattle.counting.specs.Sums.{allTo}
 use Rattle.counting.specs.Lists.{memberAt, isMarked}
-use Rattle.counting.specs.Searches.{none}
+use Rattle.counting.specs.Searches.{at}
 use Rattle.load.specs.Load.{mostRows, mostSteps, lastMoment}
-use Rattle.plan.specs.declared.Board.{Board}
-use Rattle.plan.specs.declared.Tried.{Tried}
-use Rattle.plan.specs.declared.Pick.{Pick}
-use Rattle.plan.specs.Boards.{lookIn}
+use Rattle.plan.specs.Boards.{Board, lookIn}
 use Rattle.plan.specs.Choices.{candidateIn, passesIn, chosenIn}
-use Rattle.plan.specs.Calls.{ChosenRow}
-use Rattle.plan.specs.inner.Passing.{never, StackIn}
+use Rattle.plan.specs.inner.Passing.{StackIn}
 
 -- row k has finished all its steps below place j
 abbrev pub belowBy : List ℕ → List ℕ → ℕ → ℕ → Bool
@@ -28,37 +25,37 @@ pub record LowestStep (finished steps : List ℕ) (rows r : ℕ) : Type 0 where
   pub most : r ≤ mostSteps
   pub below : (j : ℕ) → j ≤ mostSteps → allTo (belowBy finished steps j) rows ≡ leb j r
 
--- the moment before which a row's next step is no candidate: its release, where the step is there,
--- one of at most eight, and allowed
-abbrev pub firstMoment : ℕ → ℕ → ℕ → Bool → ℕ → ℕ
-firstMoment finished steps release opened lowest =
-    cond (ltb finished (min steps mostSteps) && (opened || leb finished lowest)) release never
+-- a row's next step has that number, is there, and is allowed: the lowest unfinished step, or
+-- embedded
+abbrev pub triedBy : ℕ → ℕ → Bool → ℕ → ℕ → Bool
+triedBy finished steps opened number lowest =
+    eqb finished number && ltb number steps && (eqb number lowest || opened)
 
--- the step number of each row that is tried at some moment is marked
-abbrev pub Numbered : List ℕ → ℕ → List Bool → List ℕ → Type 0
-Numbered finished rows numbers from =
-    (i : ℕ) → i < rows → memberAt from i < never → isMarked numbers (memberAt finished i) ≡ true
+-- the same of row i
+abbrev pub triedIn : Board → ℕ → ℕ → ℕ → Bool
+triedIn board number lowest i =
+    triedBy (lookIn board i .finished) (lookIn board i .steps) (lookIn board i .opened) number
+    lowest
 
--- r holds these moments of the rows, and the step numbers
-pub record FirstMoments (finished steps release : List ℕ) (opened : List Bool) (lowest rows : ℕ)
-    (r : Tried) : Type 0 where
-  pub places : length (r .from) ≡ mostRows
-  pub moment : (i : ℕ) → i < rows
-      → memberAt (r .from) i
-      ≡ firstMoment (memberAt finished i) (memberAt steps i) (memberAt release i)
-      (isMarked opened i) lowest
-  pub number : Numbered finished rows (r .numbers) (r .from)
+-- the same with the number that its next step has, which is one of the first eight
+pub record TriedRow (finished steps : List ℕ) (opened : List Bool) (lowest i : ℕ) : Type 0 where
+  pub number : memberAt finished i < mostSteps
+  pub tried : triedBy (memberAt finished i) (memberAt steps i) (isMarked opened i)
+      (memberAt finished i) lowest ≡ true
 
--- the moments from which the rows are tried, as known at the clock: before its moment a row is no
--- candidate or does not pass, and from it on it is a candidate that may
-pub record TriedFrom (board : Board) (clock rows : ℕ) (numbers : List Bool) (from : List ℕ)
-    : Type 0 where
-  pub places : length from ≡ mostRows
-  pub number : Numbered (board .finished) rows numbers from
-  pub refused : (i : ℕ) → i < rows → (t : ℕ) → clock ≤ t → t < memberAt from i
+-- every number of the first eight that a row is tried with is marked
+pub record NumbersIn (finished : List ℕ) (opened : List Bool) (lowest rows : ℕ)
+    (numbers : List Bool) : Type 0 where
+  pub long : length numbers ≡ mostSteps
+  pub of-lowest : lowest < mostSteps → isMarked numbers lowest ≡ true
+  pub of-open : (i : ℕ) → i < rows → isMarked opened i ≡ true → memberAt finished i < mostSteps
+      → isMarked numbers (memberAt finished i) ≡ true
+
+-- from the clock on, each row is known to be refused until its moment
+pub record RefusedTo (board : Board) (clock rows : ℕ) (until : List ℕ) : Type 0 where
+  pub long : length until ≡ mostRows
+  pub refused : (i : ℕ) → i < rows → (t : ℕ) → clock ≤ t → t < memberAt until i
       → candidateIn board t rows i ≡ true → passesIn board t rows i ≡ false
-  pub candidate : (i : ℕ) → i < rows → (t : ℕ) → memberAt from i ≤ t
-      → t + lookIn board i .cost ≤ lastMoment → candidateIn board t rows i ≡ true
 
 -- r is the clock where row i's next step would end by 1,000,000 and passes there, else a later
 -- moment; before it the plan refuses the step, or it would end too late
@@ -69,38 +66,50 @@ pub record TriedUntil (board : Board) (clock rows i r : ℕ) : Type 0 where
   pub refused : (t : ℕ) → clock ≤ t → t < r → t + lookIn board i .cost ≤ lastMoment
       → passesIn board t rows i ≡ false
 
--- the rows that come before a place, by step number from the lowest on, then by row, are not tried
--- before a moment after the clock
-pub record PassedTo (finished from : List ℕ) (lowest clock rows : ℕ) (place : Pick) : Type 0 where
-  pub later : clock < place .next
-  pub most : place .next ≤ never
-  pub steps : (k : ℕ) → k < rows → lowest ≤ memberAt finished k
-      → memberAt finished k < place .step → place .next ≤ memberAt from k
-  pub row : (k : ℕ) → k < rows → k < place .row → memberAt finished k < mostSteps
-      → memberAt finished k ≡ place .step → place .next ≤ memberAt from k
+-- r is the first moment from one on and before another at which row i's next step would end by
+-- 1,000,000 and passes, and the other where there is none
+pub record PassesFirst (board : Board) (from before rows i r : ℕ) : Type 0 where
+  pub most : r ≤ before
+  pub starts : r < before → from ≤ r
+  pub ends : r < before → r + lookIn board i .cost ≤ lastMoment
+  pub passes : r < before → passesIn board r rows i ≡ true
+  pub refused : (t : ℕ) → from ≤ t → t < r → t + lookIn board i .cost ≤ lastMoment
+      → passesIn board t rows i ≡ false
 
--- a place that is a row's, which is tried at the clock; or past all rows
-pub record PickedAt (finished from : List ℕ) (clock rows : ℕ) (place : Pick) : Type 0 where
-  pub most : place .row ≤ rows
-  pub number : place .row < rows → memberAt finished (place .row) ≡ place .step
-  pub tried : place .row < rows → memberAt from (place .row) ≤ clock
-  pub past : rows ≤ place .row → mostSteps ≤ place .step
-
--- what the search at a moment counts on: at most 24 rows, a moment by 1,000,000, the lowest
--- unfinished step, the stack's order, and the moments from which the rows are tried
+-- what the search counts on: at most 24 rows, a moment by 1,000,000, the lowest unfinished step,
+-- the stack's order, and what is known of refused rows
 pub record SearchFits (board : Board) (order : List ℕ) (count lowest clock rows : ℕ)
-    (numbers : List Bool) (from : List ℕ) : Type 0 where
+    (until : List ℕ) : Type 0 where
   pub rows-most : rows ≤ mostRows
   pub clock-most : clock ≤ lastMoment
   pub lowest-is : LowestStep (board .finished) (board .steps) rows lowest
   pub stack : StackIn (board .opened) (board .due) rows order count
-  pub tried : TriedFrom board clock rows numbers from
+  pub known : RefusedTo board clock rows until
 
--- what it gives: the row that is chosen; where none is, a later moment before which none is; and
--- the moments from which the rows are tried, as far as is known then
-pub record Searched (board : Board) (clock rows : ℕ) (numbers : List Bool) (from : List ℕ)
-    (r : Pick) : Type 0 where
-  pub chosen : ChosenRow board clock rows (r .row)
-  pub later : clock < r .next
-  pub quiet : rows ≤ r .row → (t : ℕ) → clock ≤ t → t < r .next → chosenIn board t rows ≡ none
-  pub tried : TriedFrom board clock rows numbers from
+-- at a moment the rows that come before a place, by step number and then by row, are passed over
+pub record PassedTo (board : Board) (moment rows number i : ℕ) : Type 0 where
+  pub steps : (k : ℕ) → k < rows → lookIn board k .finished < number
+      → candidateIn board moment rows k ≡ true → passesIn board moment rows k ≡ false
+  pub row : (k : ℕ) → k < i → lookIn board k .finished ≡ number
+      → candidateIn board moment rows k ≡ true → passesIn board moment rows k ≡ false
+
+-- of the rows before a place none starts from the clock on and before the soonest moment, at which
+-- the row is chosen that was found; where none was, that is the moment before which it was looked
+-- for
+pub record SweptTo (board : Board) (clock before rows number i row soonest : ℕ) : Type 0 where
+  pub most : soonest ≤ before
+  pub quiet : (t : ℕ) → clock ≤ t → t < soonest → PassedTo board t rows number i
+  pub from : row < rows → clock ≤ soonest
+  pub found : row < rows → chosenIn board soonest rows ≡ at row
+  pub earlier : row < rows → soonest < before
+  pub none-yet : rows ≤ row → soonest ≡ before
+  pub row-most : row ≤ rows
+
+-- a moment by that past 1,000,000, before which a row starts, or which is that one: not every row
+-- is passed over at every moment from the clock on and before it
+pub record StartsBefore (board : Board) (clock rows r : ℕ) : Type 0 where
+  pub most : r ≤ lastMoment + 1
+  pub starts : r ≤ lastMoment
+      → ((t i : ℕ) → clock ≤ t → t < r → i < rows
+      → candidateIn board t rows i ≡ true → passesIn board t rows i ≡ false)
+      → ⊥

@@ -2,7 +2,7 @@
 use native.Mathlib.Omega.{arith}
 use borrow.Author.Needs.{needs}
 use Rattle.plan.proofs.NextLaws.{chosen-most, chosen-past}
-use Rattle.plan.proofs.MomentLaws.{tried-first}
+use Rattle.plan.proofs.SweepLaws.{refused-none}
 use Rattle.plan.proofs.choices.chosen_row.Statement.{statement}
 use Rattle.plan.proofs.choices.chosen_row.Tie as tie
 
@@ -14,22 +14,24 @@ returns c =
 
 search-requires : tie.Need-search-requires
 search-requires c κs =
-    let first = c .before .before .before .before .before .before in
-    let stack = first .before in
-    let lowest = stack .before in
-    let asked = lowest .before .before in
-    record {
-      rows-most = omega (arith, asked .at-most-rows .ensures);
-      clock-most = lowest .before .if1 .left;
-      lowest-is = lowest .lowest-step .ensures;
-      stack = stack .stack-of .ensures .0;
-      tried = tried-first _ _ _ _ (lowest .lowest-step .ensures) _ (first .first-moments .ensures);
-    }
+    let stack = c .before .before .before .before in
+    let numbers = stack .before in
+    let lowest = numbers .before in
+    let most = lowest .before .before .at-most-rows .ensures in (
+      record {
+        rows-most = omega (arith, most);
+        clock-most = lowest .before .if1 .left;
+        lowest-is = lowest .lowest-step .ensures;
+        stack = stack .stack-of .ensures .0;
+        known = refused-none _ _ _ (omega (arith, most));
+      },
+      numbers .numbers-of .ensures,
+    )
 
 returns-2 : tie.Need-returns-2
 returns-2 c =
-    let first = c .before .before .before .before .before .before .before in
-    chosen-most _ _ _ _ _ (first .before .before .before .before .at-most-rows .ensures) (c .search .ensures .chosen)
+    let lowest = c .before .before .before .before .before .before .before in
+    chosen-most _ _ _ _ _ (lowest .before .before .at-most-rows .ensures) (c .search .ensures .0)
 
 pub chosen-row-spec : {M : Type 1} → statement M
 chosen-row-spec =

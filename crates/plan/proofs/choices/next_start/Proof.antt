@@ -1,91 +1,99 @@
--- `next_start` searches at one moment after the other, and goes on to the first at which a row may be chosen.
-use Prim.Native.Nat.{_+_, _-_}
+-- `next_start` searches at the clock, and where nothing starts there, sweeps the rows for the soonest moment.
+use Prim.Native.Nat.{ℕ}
+use mathlib.Core.List.{List}
 use native.Mathlib.Omega.{arith}
 use borrow.Author.Needs.{needs}
-use Rattle.load.specs.Load.{lastMoment}
-use Rattle.plan.specs.Boards.{boardOf}
-use Rattle.plan.specs.inner.Searching.{TriedFrom}
-use Rattle.plan.proofs.NextLaws.{GoneTo, gone-first, gone-on, gone-found, gone-past, next-past}
-use Rattle.plan.proofs.MomentLaws.{tried-first}
-use Rattle.plan.proofs.TriedLaws.{tried-later}
+use Rattle.plan.specs.Boards.{Board, boardIn}
+use Rattle.plan.specs.inner.Searching.{RefusedTo, SearchFits}
+use Rattle.plan.proofs.NextLaws.{next-past, next-now, next-swept}
+use Rattle.plan.proofs.SweepLaws.{refused-none}
 use Rattle.plan.proofs.choices.next_start.Statement.{statement}
 use Rattle.plan.proofs.choices.next_start.Tie as tie
 
-abbrev Inv-loop : tie.InvT-loop
-Inv-loop finished steps opening cost release opened left due wait stays rest limit clock rows last lowest order count
-    moments from₀ row₀ moment₀ next₀ from row moment next =
-    TriedFrom (boardOf finished steps opening cost release opened left due wait stays rest limit) next last
-    (moments .numbers) from
-    × GoneTo (boardOf finished steps opening cost release opened left due wait stays rest limit) clock last row moment
-    next
-
-abbrev μ-loop : tie.MeasureT-loop
-μ-loop finished steps opening cost release opened left due wait stays rest limit clock rows last lowest order count
-    moments from₀ row₀ moment₀ next₀ from row moment next =
-    lastMoment + 1 - next
-
-returns : tie.Need-returns Inv-loop μ-loop
+returns : tie.Need-returns
 returns c = next-past _ _ _ _ (c .before .at-most-rows .ensures) (c .if1 .taken)
 
-loop-holds : tie.Need-loop-holds Inv-loop μ-loop
-loop-holds c = (
-  tried-first _ _ _ _ (c .before .before .before .lowest-step .ensures) _ (c .before .first-moments .ensures),
-  gone-first _ _ _,
-)
-
-returns-2 : tie.Need-returns-2 Inv-loop μ-loop
-returns-2 c =
-    let turn = c .before in
-    let early = turn .before .before .before .before .before .before in
-    gone-past _ _ _ _ _ _ (turn .before .loop .inv .1) _ (early .before .at-most-rows .ensures) (turn .loop-test .taken)
-    (early .if1 .left) (c .if2 .taken)
-
-search-requires : tie.Need-search-requires Inv-loop μ-loop
+search-requires : tie.Need-search-requires
 search-requires c κs =
-    let left = c .before .before .before .before .before in
-    let loop = left .before .before in
-    let stack = loop .before .before .before in
-    let lowest = stack .before in
-    record {
-      rows-most = omega (arith, lowest .before .before .at-most-rows .ensures);
-      clock-most = left .if2 .left;
-      lowest-is = lowest .lowest-step .ensures;
-      stack = stack .stack-of .ensures .0;
-      tried = loop .loop .inv .0;
-    }
-
-loop-less : tie.Need-loop-less Inv-loop μ-loop
-loop-less c =
-    omega (arith, c .before .before .before .before .before .before .if2 .left, c .search .ensures .later)
-
-loop-again : tie.Need-loop-again Inv-loop μ-loop
-loop-again c =
-    let left = c .before .before .before .before .before .before in
-    let turn = left .before in
-    let searched = c .search .ensures in (
-      tried-later _ _ _ _ _ (searched .tried) _ (omega (arith, searched .later)),
-      gone-on _ _ _ _ _ _ (turn .before .loop .inv .1) _ _ _ (turn .loop-test .taken) (left .if2 .left) searched,
+    let stack = c .before .before .before .before in
+    let numbers = stack .before in
+    let lowest = numbers .before in
+    let most = lowest .before .before .at-most-rows .ensures in (
+      record {
+        rows-most = omega (arith, most);
+        clock-most = lowest .before .if1 .left;
+        lowest-is = lowest .lowest-step .ensures;
+        stack = stack .stack-of .ensures .0;
+        known = refused-none _ _ _ (omega (arith, most));
+      },
+      numbers .numbers-of .ensures,
     )
 
-returns-3 : tie.Need-returns-3 Inv-loop μ-loop
+returns-2 : tie.Need-returns-2
+returns-2 c =
+    let lowest = c .before .before .before .before .before .before .before .before in
+    next-now _ _ _ _ _ (lowest .before .before .at-most-rows .ensures) (lowest .before .if1 .left)
+    (c .before .search .ensures .0) (c .if2 .taken)
+
+-- what is known once the clock was searched
+module _ (c : tie.After-search) where
+  abbrev stack : tie.After-stack-of
+  stack = c .before .before .before .before .before
+
+  abbrev lowest : tie.After-lowest-step
+  lowest = stack .before .before
+
+  abbrev board : Board
+  board =
+      boardIn (lowest .before .before .before .args .counts .now) (lowest .before .before .before .args .lengths .now)
+      (lowest .before .before .before .args .moments .now)
+
+  fits : (until : List ℕ)
+      → RefusedTo board (lowest .before .before .before .args .clock) (lowest .before .before .at-most-rows .result)
+      until
+      → SearchFits board (stack .stack-of .result .row) (stack .stack-of .result .count) (lowest .lowest-step .result)
+      (lowest .before .before .before .args .clock) (lowest .before .before .at-most-rows .result) until
+  fits until known =
+      record {
+        rows-most = omega (arith, lowest .before .before .at-most-rows .ensures);
+        clock-most = lowest .before .if1 .left;
+        lowest-is = lowest .lowest-step .ensures;
+        stack = stack .stack-of .ensures .0;
+        known = known;
+      }
+
+sweep-requires : tie.Need-sweep-requires
+sweep-requires c κs =
+    let bound = c .before .before .before .before in
+    let searched = bound .before .before .before .before .before in (
+      fits searched _ (searched .search .ensures .1),
+      (
+        stack searched .before .numbers-of .ensures,
+        bound .start-bound .ensures .most,
+      ),
+    )
+
+returns-3 : tie.Need-returns-3
 returns-3 c =
-    gone-found _ _ _ _ _ _ (c .before .loop .inv .1) _
-    (c .before .before .before .before .before .before .before .at-most-rows .ensures) (c .loop-test .left)
+    let swept = c .before in
+    let bound = swept .before .before .before .before .before in
+    let searched = bound .before .before .before .before .before in
+    next-swept _ _ _ _ _ _ (bound .start-bound .ensures) (swept .sweep .ensures) _ _
+    (lowest searched .before .before .at-most-rows .ensures) (lowest searched .before .if1 .left)
+    (c .at-most-moment .ensures)
 
 pub next-start-spec : {M : Type 1} → statement M
 next-start-spec =
     tie.close
     (tie.spec
-    Inv-loop
-    μ-loop
     (λ c κs. search needs)
     returns
     (λ c κs. search needs)
     (λ c κs. search needs)
     (λ c κs. search needs)
-    loop-holds
-    returns-2
     search-requires
-    loop-less
-    loop-again
+    returns-2
+    (λ c κs. let searched = c .before .before .before .before in fits searched _ (searched .search .ensures .1))
+    sweep-requires
+    (λ c κs. search needs)
     returns-3)

@@ -1,115 +1,109 @@
 -- `passing_moment` asks the other open rows where its row has no open window after the step, and else goes over them.
--- That the arrays have a place for the row is known where they are made slices.
-use Prim.Native.Nat.{ℕ, _≤_}
-use mathlib.Core.Bool.{true, false}
-use mathlib.Core.List.{List}
-use mathlib.Core.Path.{_≡_, sym, _∙_}
+use Prim.Native.Nat.{_+_, _≤_}
+use mathlib.Core.Bool.{Bool, true, false, cond}
+use mathlib.Core.Path.{_≡_, ap, sym, _∙_}
 use native.Mathlib.Omega.{arith}
 use borrow.Author.Needs.{needs}
 use borrow.Author.Tests.{not-true, not-false}
 use lib.ListN.{length}
-use Rattle.counting.specs.Lists.{isMarked}
 use Rattle.load.specs.Load.{lastMoment}
-use Rattle.plan.specs.declared.Board.{Board}
-use Rattle.plan.specs.Boards.{boardOf}
-use Rattle.plan.specs.inner.Walks.{RowsIn}
+use Rattle.rules.specs.Plan.{inTimeBy}
+use Rattle.plan.specs.Boards.{Board, boardIn}
+use Rattle.plan.specs.inner.Passing.{never, jobsOf, PassesFrom}
+use Rattle.plan.specs.inner.Walks.{RowsIn, othersIn, rowsFrom}
+use Rattle.plan.proofs.BoardLaws.{numbersFrom-length, marksFrom-length}
 use Rattle.plan.proofs.refused.PassingLaws.{PlaceIn, stack-rows, closed-given}
-use Rattle.plan.proofs.refused.StayingFrom.{staying-given}
+use Rattle.plan.proofs.refused.StayingFrom.{staying-read}
 use Rattle.plan.proofs.passing.passing_moment.Statement.{statement}
 use Rattle.plan.proofs.passing.passing_moment.Tie as tie
 
 -- what is asked of the arrays
 module _ (c : tie.After-placed) where
   abbrev start : tie.Start
-  start = c .before .before .before .before .before
+  start = c .before
 
   long : RowsIn (start .args .order .now) (start .args .count)
   long =
       let e : length (start .args .order .now) ≡ 24 = search needs in
-      stack-rows (start .args .opened .now) (start .args .due .now) (start .args .rows) (start .args .order .now)
-      (start .args .count) (start .pre .0 .0) e (start .pre .1)
+      stack-rows _ _ (start .args .rows) (start .args .order .now) (start .args .count) (start .pre .0 .0) e
+      (start .pre .1)
 
-  -- the board that the arrays make
-  abbrev board : List ℕ → List ℕ → Board
-  board finished steps =
-      boardOf finished steps (start .args .opening .now) (start .args .cost .now) (start .args .release .now)
-      (start .args .opened .now) (start .args .left .now) (start .args .due .now) (start .args .wait .now)
-      (start .args .stays .now) (start .args .rest .now) (start .args .limit .now)
+  abbrev board : Board
+  board = boardIn (start .args .counts .now) (start .args .lengths .now) (start .args .moments .now)
 
-  placed : (finished steps : List ℕ) → PlaceIn (board finished steps) (start .args .i)
-  placed finished steps =
+  placed : PlaceIn board (start .args .i)
+  placed =
       let few = start .pre .0 in
-      let a : length (start .args .opened .now) ≡ 24 = search needs in
-      let b : length (start .args .release .now) ≡ 24 = search needs in
-      let d : length (start .args .left .now) ≡ 24 = search needs in
-      let e : length (start .args .due .now) ≡ 24 = search needs in
       record {
-        in-opened = omega (arith, few);
-        in-release = omega (arith, few);
-        in-left = omega (arith, few);
-        in-due = omega (arith, few);
+        in-opened = omega (arith, few, marksFrom-length (start .args .counts .now) 48);
+        in-release = omega (arith, few, numbersFrom-length (start .args .moments .now) 24);
+        in-left = omega (arith, few, numbersFrom-length (start .args .moments .now) 48);
+        in-due = omega (arith, few, numbersFrom-length (start .args .moments .now) 72);
       }
 
   most : start .args .clock ≤ lastMoment
   most = omega (arith, start .pre .0 .2)
 
-returns : tie.Need-returns
-returns c finished steps =
-    let made = c .before .before .before .before .before in
-    let shut = c .before .before .before in
+-- where the row has no open window after the step, the others tell
+closed : (c : tie.After-are-in-time) (b : Bool) → c .are-in-time .result ≡ b
+    → PassesFrom (board (c .before .before .before .before)) (start (c .before .before .before .before) .args .clock)
+    (start (c .before .before .before .before) .args .rows) (start (c .before .before .before .before) .args .i)
+    (cond b (start (c .before .before .before .before) .args .clock) never)
+closed c b e =
+    let shut = c .before in
+    let cost = shut .before .before in
+    let made = cost .before in
     let args = start made .args in
-    closed-given (board made finished steps) (args .rows) (args .i) (start made .pre .0 .1) (placed made finished steps)
-    (args .clock) (most made) (args .order .now) (args .count) true (start made .pre .1 .stack)
-    (sym (c .if2 .taken) ∙ c .before .are-in-time .ensures)
-    (not-true (isMarked (args .stays .now) (args .i)) (shut .if1 .taken))
+    closed-given (board made) (args .rows) (args .i) (start made .pre .0 .1) (placed made) (args .clock) (most made)
+    (args .order .now) (args .count) b (start made .pre .1 .stack)
+    (sym e ∙ c .are-in-time .ensures
+    ∙ ap
+    (λ n. inTimeBy (jobsOf (args .moments .now)) (args .clock + n)
+    (othersIn (args .i) (rowsFrom (args .order .now) (args .count) 0)))
+    (cost .length-at .ensures))
+    (sym (shut .before .is-marked .ensures) ∙ not-true (shut .before .is-marked .result) (shut .if1 .taken))
+
+returns : tie.Need-returns
+returns c = closed (c .before) true (c .if2 .taken)
 
 returns-2 : tie.Need-returns-2
-returns-2 c finished steps =
-    let made = c .before .before .before .before .before in
-    let shut = c .before .before .before in
-    let args = start made .args in
-    closed-given (board made finished steps) (args .rows) (args .i) (start made .pre .0 .1) (placed made finished steps)
-    (args .clock) (most made) (args .order .now) (args .count) false (start made .pre .1 .stack)
-    (sym (c .if2 .left) ∙ c .before .are-in-time .ensures)
-    (not-true (isMarked (args .stays .now) (args .i)) (shut .if1 .taken))
+returns-2 c = closed (c .before) false (c .if2 .left)
 
 returns-3 : tie.Need-returns-3
-returns-3 c finished steps =
-    let due = c .before .before .before .before .before in
-    let stays = due .before .before .before .before in
-    let made = stays .before .before in
+returns-3 c =
+    let rest = c .before in
+    let wait = rest .before in
+    let due = wait .before in
+    let opening = due .before in
+    let limit = opening .before in
+    let opened = limit .before in
+    let stays = opened .before in
+    let cost = stays .before .before in
+    let made = cost .before in
     let args = start made .args in
-    staying-given (board made finished steps) (args .rows) (args .i) (start made .pre .0 .1)
-    (placed made finished steps) (args .clock) (most made)
-    (not-false (isMarked (args .stays .now) (args .i)) (stays .if1 .left)) (args .order .now) (args .count)
-    (due .due-after .result) (c .staying-moment .result) (start made .pre .1 .stack) (due .due-after .ensures)
+    staying-read (board made) (args .rows) (args .i) (start made .pre .0 .1) (placed made) (args .clock) (most made)
+    (sym (stays .before .is-marked .ensures) ∙ not-false (stays .before .is-marked .result) (stays .if1 .left))
+    (args .order .now) (args .count) (due .due-after .result) (c .staying-moment .result) _ _ _ _ _ _
+    (start made .pre .1 .stack) (opened .is-marked2 .ensures) (opening .moment-at .ensures) (cost .length-at .ensures)
+    (wait .length-at3 .ensures) (rest .moment-at2 .ensures) (limit .length-at2 .ensures) (due .due-after .ensures)
     (c .staying-moment .ensures)
 
 pub passing-moment-spec : {M : Type 1} → statement M
 passing-moment-spec =
     tie.close
     (tie.spec
-    (λ c. search needs)
-    (λ c. search needs)
-    (λ c. search needs)
+    (λ c κs. search needs)
+    (λ c κs. search needs)
     (λ c. search needs)
     (λ c. search needs)
     (λ c κs. (long (c .before .before .before), search needs))
     returns
     returns-2
-    (λ c. search needs)
-    (λ c. search needs)
-    (λ c. search needs)
-    (λ c. search needs)
-    (λ c. search needs)
     (λ c κs. search needs)
-    (λ c. search needs)
-    (λ c. search needs)
-    (λ c. search needs)
-    (λ c. search needs)
-    (λ c. search needs)
-    (λ c. search needs)
-    (λ c. search needs)
-    (λ c. search needs)
-    (λ c κs. (long (c .before .before .before .before .before .before .before .before .before .before), search needs))
+    (λ c κs. search needs)
+    (λ c κs. search needs)
+    (λ c κs. most (c .before .before .before .before .before .before))
+    (λ c κs. search needs)
+    (λ c κs. search needs)
+    (λ c κs. (long (c .before .before .before .before .before .before .before .before .before), search needs))
     returns-3)

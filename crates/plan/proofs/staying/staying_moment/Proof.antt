@@ -10,9 +10,8 @@ use lib.Seq.{getD-take}
 use Rattle.counting.specs.Lists.{memberAt}
 use Rattle.counting.proofs.tests.TestLaws.{true-false}
 use Rattle.rules.specs.Plan.{Jobs}
-use Rattle.plan.specs.Choices.{jobsIn}
 use Rattle.plan.specs.inner.Walks.{rowsFrom}
-use Rattle.plan.specs.inner.Passing.{never}
+use Rattle.plan.specs.inner.Passing.{never, jobsOf}
 use Rattle.plan.specs.inner.Staying.{momentBefore, Stay, stayOf, behindUntil}
 use Rattle.plan.proofs.refused.WalkLaws.{inTimeFrom-none}
 use Rattle.plan.proofs.refused.StayingLaws.{
@@ -26,7 +25,7 @@ use Rattle.plan.proofs.staying.staying_moment.Tie as tie
 
 -- what the plan asks of the rows
 abbrev asked : tie.Start → Jobs
-asked c = jobsIn (c .args .release .now) (c .args .left .now) (c .args .due .now)
+asked c = jobsOf (c .args .moments .now)
 
 -- the step
 abbrev stay : tie.Start → Stay
@@ -106,6 +105,7 @@ returns-4 c =
     let there =
     getD-take (start .args .count) (start .args .order .now) (asks .rows-before .result .place) 0 (placed last) in
     c .behind-moment .ensures
+    ∙ ap (behindUntil (start .args .i) (stay start) _) (c .before .moment-at .ensures)
     ∙ sym
     (staysUntil-behind (asked start) (rowsFrom (start .args .order .now) (start .args .count) 0) (start .args .i)
     (stay start) (asks .rows-before .result) (asks .rows-before .ensures .0) (finished .before .if1 .left)
@@ -133,7 +133,6 @@ staying-moment-spec =
     returns-3
     (λ c. omega (arith, placed c, c .before .before .before .before .before .before .pre .0 .most))
     (λ c. let b = below (c .before) in search needs)
-    (λ c. let b = below (c .before) in search needs)
-    (λ c. below (c .before))
+    (λ c κs. (search needs, below (c .before)))
     (λ c κs. search needs)
     returns-4)
