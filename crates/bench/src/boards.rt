@@ -23,7 +23,9 @@ ghost use Rattle.load.specs.Load.{mostRows, mostSteps};
 ghost use Rattle.load.specs.Check.{checkLoad};
 ghost use Rattle.load.specs.View.{viewOf};
 ghost use Rattle.rules.specs.State.{shaped};
+ghost use Rattle.plan.specs.Looks.{lookBy};
 ghost use Rattle.plan.specs.Boards.{numbersFrom, boardIn};
+ghost use Rattle.plan.specs.Calls.{PutLook};
 ghost use Rattle.bench.specs.Held.{stateOf};
 ghost use Rattle.bench.specs.inner.Boards.{Placed, Shows};
 ghost use Rattle.bench.specs.inner.Moves.{slotOf};
@@ -51,6 +53,22 @@ pub fn fill_board(
         let look = look_of(row, bench.finished[i], bench.end[i], bench.opening[i]);
         put_look(counts, lengths, moments, i, look);
     }
+}
+
+// Looks up row i before its first step, and puts the look in the row's places.
+pub fn fresh_row(
+    row: Row,
+    i: usize,
+    counts: &mut [u8; COUNT_PLACES],
+    lengths: &mut [u16; LENGTH_PLACES],
+    moments: &mut [u32; MOMENT_PLACES],
+)
+    ensures { λ r. ⌜ PutLook
+        (now (counts .entry)) (now (lengths .entry)) (now (moments .entry)) i (lookBy row 0 0 0)
+        (now (counts .exit)) (now (lengths .exit)) (now (moments .exit)) ⌝ }
+{
+    let look = look_of(row, 0, 0, 0);
+    put_look(counts, lengths, moments, i, look);
 }
 
 // Gives the steps of the first rows together.

@@ -1,14 +1,13 @@
 // The run of a load file, written as a schedule file: slots go straight to the output as they are
 // made, and the load is checked once, as it is read.
+use crate::boards::fresh_row;
 use crate::boards::start_row;
 use crate::boards::steps_of;
 use load_file::read_load;
 use plan::COUNT_PLACES;
 use plan::LENGTH_PLACES;
 use plan::MOMENT_PLACES;
-use plan::look_of;
 use plan::next_start;
-use plan::put_look;
 use refusals::Checked;
 use schedule_file::HEADER_SIZE;
 use schedule_file::SLOT_SIZE;
@@ -38,13 +37,7 @@ pub fn write_run(bytes: &[u8], out: &mut [u8]) -> Checked
     let mut moments = [0; MOMENT_PLACES];
     for i in 0..rows {
         let row = load.row[i];
-        put_look(
-            &mut counts,
-            &mut lengths,
-            &mut moments,
-            i,
-            look_of(row, 0, 0, 0),
-        );
+        fresh_row(row, i, &mut counts, &mut lengths, &mut moments);
     }
     let steps = steps_of(&counts, rows);
     let room = check_room(steps, out.len());

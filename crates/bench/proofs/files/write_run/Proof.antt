@@ -54,7 +54,7 @@ write-run-spec =
     (tie.spec
     Inv-loop μ-loop Inv-loop2 μ-loop2 (λ c κs. search needs) (λ c. search needs) returns (λ c. search needs)
     (λ c. search needs) loop-holds (λ c. omega (arith, place c)) (λ c. place c) (λ c κs. search needs)
-    (λ c κs. search needs) (λ c. search needs) (λ c. search needs) loop-again steps-of-requires
+    (λ c. search needs) (λ c. search needs) loop-again steps-of-requires
     (λ c κs. search needs) (λ c. search needs) returns-2 (λ c. search needs) (λ c κs. search needs)
     (λ c. search needs) (λ c κs. search needs) loop2-holds (λ c κs. search needs) (λ c. omega (arith, row-place c))
     (λ c. row-place c)

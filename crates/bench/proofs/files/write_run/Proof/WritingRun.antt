@@ -1,6 +1,5 @@
 -- What is known while the run of a file is written: the file was read, and its load passes its check; the rows looked
--- up
--- so far are shown as they are; and with fewer slots than the schedule has, there is a next start.
+-- up so far are shown as they are; and with fewer slots than the schedule has, there is a next start.
 use Prim.Native.Nat.{ℕ, _-_, _≤_, _<_}
 use mathlib.Core.Path.{_≡_, refl, sym, _∙_}
 use native.Mathlib.Omega.{arith}
@@ -9,11 +8,13 @@ use lib.ListN.{length}
 use lib.Seq.{sets}
 use Rattle.refusals.specs.declared.Checked.the-variants.{Good}
 use Rattle.load.specs.declared.Load.{Load}
+use Rattle.load.specs.Load.{rowAt}
 use Rattle.load.specs.Check.{checkLoad}
 use Rattle.load.specs.View.{viewOf}
 use Rattle.load_file.proofs.CallLaws.{ReadLoad-accepted}
 use Rattle.rules.specs.Run.{schedule}
 use Rattle.rules.specs.State.{fresh}
+use Rattle.plan.specs.Looks.{lookBy}
 use Rattle.plan.specs.Boards.{Board, boardIn}
 use Rattle.schedule_file.specs.ScheduleFile.{headerSize}
 use Rattle.schedule_file.proofs.ArrayLaws.{recordsOf, recordsOf-zero}
@@ -85,20 +86,18 @@ module _ (c : tie.In-loop Inv-loop μ-loop Inv-loop2 μ-loop2) where
 
 pub loop-again : tie.Need-loop-again Inv-loop μ-loop Inv-loop2 μ-loop2
 loop-again c =
-    let looked = c .before in
-    let turn = looked .before .before .before .before .before in
+    let turn = c .before .before .before .before .before in
     let file = load (told turn) in
     let inv = turn .before .loop .inv in
     let i = turn .before .loop .i in
     let steps = checked-steps file (accepted (told turn)) i (turn .loop-test .taken) in
-    let put = c .put-look .ensures in
-    let look = looked .look-of .result in (
+    let put = c .fresh-row .ensures in
+    let look = lookBy (rowAt file i) 0 0 0 in (
       omega (arith, turn .loop-test .taken),
       put-placed _ _ _ i look _ _ _ put (place turn) (inv .1),
       shown-next file (benchOf fresh) _ _ i look (place turn)
           (put-renewed _ _ _ i look _ _ _ put (place turn) (inv .1) look refl) (inv .2)
-          (looked .look-of .ensures ∙ fresh-looked file i steps) (fresh-steps file i steps) (fresh-opening file i
-          steps),
+          (fresh-looked file i steps) (fresh-steps file i steps) (fresh-opening file i steps),
     )
 
 -- every row was looked up
