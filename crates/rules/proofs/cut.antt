@@ -3,6 +3,7 @@
 pub mod CutLaws
 pub mod CutCosts
 pub mod CutBound
+pub mod CutBlame
 pub mod CutWindows
 pub mod CutRunnable
 pub mod CutPlan

@@ -37,10 +37,14 @@ waitLeft gives L j i = cond (freeWait L i j) (L .wait i j - gives L j i) 0
 unfoldable pub largestW : (View → ℕ → ℕ → ℕ) → View → ℕ → ℕ
 largestW gives L j = maxTo (waitLeft gives L j) (L .rows)
 
+-- a place lies between two steps, so there are seven
+abbrev pub mostPlaces : ℕ
+mostPlaces = mostSteps - 1
+
 -- the four terms, over what the others give at place j to row i
 unfoldable pub boundBy : (View → ℕ → ℕ → ℕ) → View → ℕ
 boundBy gives L =
-    allCosts L + largestPhase L + allEmbeddedWaits L + sumTo (largestW gives L) (mostSteps - 1)
+    allCosts L + largestPhase L + allEmbeddedWaits L + sumTo (largestW gives L) mostPlaces
 
 -- another row k whose steps j and j + 1 both exist and are free
 abbrev pub isPartner : View → ℕ → ℕ → ℕ → Bool

@@ -4,6 +4,7 @@ pub mod SameLoads
 pub mod Cut
 pub mod Bound
 pub mod Margins
+pub mod Blame
 pub mod State
 pub mod Shape
 pub mod Ready
@@ -18,6 +19,7 @@ pub mod ScheduleRules
 pub mod FirstBroken
 pub mod Demand3
 pub mod WorkedBound
+pub mod WorkedBlame
 pub mod WorkedStates
 pub mod WorkedReady
 pub mod WorkedPlan

@@ -1,5 +1,5 @@
--- Two loads that differ only in identifiers and box numbers have the same view, and so the same bound, margins and
--- verdict, and whatever else is defined over the view.
+-- Two loads that differ only in identifiers and box numbers have the same view, and so the same bound, margins,
+-- verdict and blame, and whatever else is defined over the view.
 use mathlib.Core.Path.{_≡_, ap}
 use lib.ListN.{getD, take}
 use Rattle.load.specs.declared.Load.{Load}
@@ -8,6 +8,7 @@ use Rattle.load.specs.View.{viewOf}
 use Rattle.rules.specs.SameLoads.{SameLoad}
 use Rattle.rules.specs.Bound.{bound}
 use Rattle.rules.specs.Margins.{margins, verdict}
+use Rattle.rules.specs.Blame.{placeWaits, blames}
 
 pub viewOf-same : (a b : Load) → SameLoad a b → viewOf a ≡ viewOf b
 unfolding viewOf
@@ -31,3 +32,9 @@ margins-same a b same = ap margins (viewOf-same a b same)
 
 pub verdict-same : (a b : Load) → SameLoad a b → verdict (viewOf a) ≡ verdict (viewOf b)
 verdict-same a b same = ap verdict (viewOf-same a b same)
+
+pub placeWaits-same : (a b : Load) → SameLoad a b → placeWaits (viewOf a) ≡ placeWaits (viewOf b)
+placeWaits-same a b same = ap placeWaits (viewOf-same a b same)
+
+pub blames-same : (a b : Load) → SameLoad a b → blames (viewOf a) ≡ blames (viewOf b)
+blames-same a b same = ap blames (viewOf-same a b same)

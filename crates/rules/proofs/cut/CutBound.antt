@@ -65,7 +65,7 @@ module _ (L : View) (m : ℕ) (within : (i : ℕ) → i < L .rows → Within L i
 
   -- the others give what they give in the load
   module _ (gives : View → ℕ → ℕ → ℕ) (same : (j i : ℕ) → suc j < m → gives (cut L m) j i ≡ gives L j i) where
-    waitLeft-of-cut : (j i : ℕ) → suc j < m → i < L .rows → waitLeft gives (cut L m) j i ≡ waitLeft gives L j i
+    pub waitLeft-of-cut : (j i : ℕ) → suc j < m → i < L .rows → waitLeft gives (cut L m) j i ≡ waitLeft gives L j i
     waitLeft-of-cut j i h l =
         ap (λ b. cond b (cut L m .wait i j - gives (cut L m) j i) 0) (isFree-of-cut L m i (suc j) (within i l) h)
         ∙ go (freeWait L i j) refl
