@@ -2,7 +2,9 @@
 pub mod FlagLaws
 pub mod MarkLaws
 pub mod AcceptedLaws
+pub mod LargestLaws
 pub mod PlaceLaws
+pub mod PlacesRead
 pub mod KeptLaws
 pub mod SignLaws
 pub mod MarginsRead

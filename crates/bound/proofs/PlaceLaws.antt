@@ -7,10 +7,8 @@ use mathlib.Core.Path.{_≡_, sym, ap, ap₂, _∙_}
 use borrow.Author.Tests.{ltb-true}
 use lib.Dec.{eqb, ltb}
 use lib.ListN.{getD}
-use Rattle.counting.specs.Sums.{anyTo, maxTo}
+use Rattle.counting.specs.Sums.{anyTo}
 use Rattle.counting.specs.Lists.{filled, memberAt, isMarked}
-use Rattle.counting.proofs.sums.SumLaws.{maxTo-ext}
-use Rattle.counting.proofs.sums.MaxLaws.{maxTo-none}
 use Rattle.counting.proofs.tests.TestLaws.{and-left, anyTo-false}
 use Rattle.counting.proofs.lists.ListLaws.{getD-filled}
 use Rattle.counting.proofs.sorting.PairLaws.{pairsSmallest, pairsSmallest-is, pairsSmallest-ext}
@@ -18,7 +16,9 @@ use Rattle.load.specs.Load.{mostRows}
 use Rattle.load.specs.View.{View, isFree, embedded}
 use Rattle.load.specs.Acceptable.{Acceptable}
 use Rattle.rules.specs.Bound.{waitLeft, largestW, isPartner, partners, pairCosts, smallestCosts}
-use Rattle.bound.specs.inner.Marks.{isOther, Costed}
+use Rattle.rules.specs.Blame.{noneLeft, largestAt}
+use Rattle.bound.specs.inner.Marks.{isOther, Costed, leftIn, largestTo}
+use Rattle.bound.proofs.LargestLaws.{largestTo-ext, largestTo-none}
 
 pub smallestCosts-is : (L : View) (j i : ℕ)
     → smallestCosts L j i ≡ pairsSmallest (λ k. L .cost k j) (λ k. L .cost k (suc j)) (isPartner L j i) (L .rows)
@@ -62,31 +62,28 @@ module _ (L : View) (j : ℕ) (here next : List ℕ) (pairs : List Bool) (waits 
       ∙ sym (and-assoc (not (eqb k i)) (isFree L k j) (isFree L k (suc j))))
       ∙ sym (smallestCosts-is L j i)
 
-  pub largestW-read : (n : ℕ) → n ≡ L .rows
-      → maxTo
-      (λ i. cond (isMarked frees i)
-      (memberAt waits i - pairsSmallest (memberAt here) (memberAt next) (isOther pairs i) n) 0)
-      n
-      ≡ largestW smallestCosts L j
-  unfolding largestW
-  largestW-read n e =
-      rw e
-      (maxTo-ext
-      (λ i. cond (isMarked frees i)
-      (memberAt waits i - pairsSmallest (memberAt here) (memberAt next) (isOther pairs i) (L .rows)) 0)
-      (waitLeft smallestCosts L j) (L .rows)
-      (λ i l.
-      ap₂ (λ b w. cond b w 0) (read _ _ mostRows false frees (h .frees-is) i l)
-      (ap₂ _-_ (read _ _ mostRows 0 waits (h .waits-is) i l) (smallest-read i))))
+  -- what is left at the place, out of its arrays
+  abbrev left : ℕ → ℕ → ℕ
+  left n = leftIn (λ i. pairsSmallest (memberAt here) (memberAt next) (isOther pairs i) n) waits frees
 
--- where no row's wait is free, there is no W
-pub largestW-none : (L : View) (j : ℕ) (frees : List Bool)
+  left-read : (n : ℕ) → n ≡ L .rows → (i : ℕ) → i < L .rows → left n i ≡ waitLeft smallestCosts L j i
+  left-read n e i l =
+      rw e
+      (ap₂ (λ b w. cond b w 0) (read _ _ mostRows false frees (h .frees-is) i l)
+      (ap₂ _-_ (read _ _ mostRows 0 waits (h .waits-is) i l) (smallest-read i)))
+
+  pub largestAt-read : (n : ℕ) → n ≡ L .rows → largestTo (left n) n ≡ largestAt smallestCosts L j
+  unfolding largestW
+  largestAt-read n e =
+      ap (largestTo (left n)) e ∙ largestTo-ext (left n) (waitLeft smallestCosts L j) (L .rows) (left-read n e)
+
+-- where no row's wait is free, there is no W, and no row
+pub largestAt-none : (L : View) (j : ℕ) (frees : List Bool)
     → frees ≡ filled (λ i. isFree L i (suc j)) (L .rows) mostRows false → anyTo (isMarked frees) (L .rows) ≡ false
-    → 0 ≡ largestW smallestCosts L j
+    → noneLeft ≡ largestAt smallestCosts L j
 unfolding largestW
-largestW-none L j frees e none =
-    sym
-    (maxTo-none (waitLeft smallestCosts L j) (L .rows)
+largestAt-none L j frees e none =
+    largestTo-none (waitLeft smallestCosts L j) (L .rows)
     (λ i l.
     ap (λ b. cond b (L .wait i j - smallestCosts L j i) 0)
-    (sym (read _ _ mostRows false frees e i l) ∙ anyTo-false (isMarked frees) (L .rows) none i l)))
+    (sym (read _ _ mostRows false frees e i l) ∙ anyTo-false (isMarked frees) (L .rows) none i l))

@@ -1,3 +1,3 @@
--- The code of bound, margins and verdict: what its calls promise, and what its parts give.
+-- The code of bound, margins, verdict and blame: what its calls promise, and what its parts give.
 pub mod Calls
 pub mod inner

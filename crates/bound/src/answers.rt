@@ -1,23 +1,28 @@
-// Bound, margins and verdict of a load together, from one check and one look at its places.
+// Bound, margins, verdict and blames of a load together, from one check and one look at its places.
 use crate::Answered;
+use crate::blames::blames_by;
+use crate::blames::cut_blames;
 use crate::bounds::cut_bounds;
 use crate::bounds::waits_below;
 use crate::margins::margins_by;
 use crate::margins::none_negative;
+use crate::waits::place_waits;
 use load::Load;
 use load::MOST_ROWS;
 use load::MOST_STEPS;
 use load::check_load;
 use refusals::Checked;
+use rules::Blame;
 ghost use mathlib.Core.Path.{_≡_};
 ghost use Rattle.load.specs.View.{viewOf};
 ghost use Rattle.load.specs.Acceptable.{Acceptable};
 ghost use Rattle.rules.specs.Bound.{bound};
 ghost use Rattle.rules.specs.Margins.{margins, verdict};
+ghost use Rattle.rules.specs.Blame.{blames};
 ghost use Rattle.bound.specs.Calls.{AnswersOf};
 
-// Gives bound, margins and verdict of an accepted load. The number of rows is handed down, and only
-// functions that index the load read it there: each that does holds a copy.
+// Gives bound, margins, verdict and blames of an accepted load. The number of rows is handed down,
+// and only functions that index the load read it there: each that does holds a copy.
 pub fn load_answers(load: Load) -> Answered
     requires { ⌜ Acceptable (viewOf load) ⌝ }
     ensures { λ r. ⌜ r ≡ record {
@@ -25,22 +30,26 @@ pub fn load_answers(load: Load) -> Answered
       bound = bound (viewOf load);
       margins = margins (viewOf load);
       verdict = verdict (viewOf load);
+      blames = blames (viewOf load);
     } ⌝ }
 {
     let rows = load.rows as usize;
-    let waits = waits_below(load, rows);
+    let places = place_waits(load, rows);
+    let waits = waits_below(places);
     let bounds = cut_bounds(load, &waits);
     let margins = margins_by(load, &bounds);
+    let blames = blames_by(load, cut_blames(places));
     Answered {
         answer: Checked::Good,
         bound: bounds[MOST_STEPS - 1],
         margins,
         verdict: none_negative(margins, rows),
+        blames,
     }
 }
 
-// Gives bound, margins and verdict of a load, or the first of 3 to 7 with 0, margins that are all 0
-// and no.
+// Gives bound, margins, verdict and blames of a load, or the first of 3 to 7 with 0, margins that
+// are all 0, no, and blames that are all 0 and 0.
 pub fn answers_of(load: Load) -> Answered
     ensures { λ r. ⌜ AnswersOf load r ⌝ }
 {
@@ -52,6 +61,7 @@ pub fn answers_of(load: Load) -> Answered
             bound: 0,
             margins: [0; MOST_ROWS],
             verdict: false,
+            blames: [Blame { place: 0, row: 0 }; MOST_ROWS],
         },
     }
 }

@@ -1,7 +1,9 @@
-// The bound of a load, its margins and its verdict. Each call takes a load in memory and checks it
-// once; a refusal comes with bound 0, margins that are all 0, and the verdict no. One look at an
-// accepted load gives all three.
+// The bound of a load, its margins, its verdict, whom its rows blame, and the largest W of each
+// place. Each call takes a load in memory and checks it once; a refusal comes with bound 0, margins
+// that are all 0, the verdict no, and blames and W's that are all 0 and 0. One look at an accepted
+// load gives all of them.
 mod answers;
+mod blames;
 mod bounds;
 mod bytes;
 mod cut;
@@ -17,7 +19,17 @@ use load::Load;
 use load::MOST_ROWS;
 use load::check_load;
 use refusals::Checked;
-ghost use Rattle.bound.specs.Calls.{BoundOf, MarginsOf, VerdictOf};
+use rules::Blame;
+use rules::LargestW;
+use rules::MOST_PLACES;
+use waits::place_waits;
+ghost use Rattle.bound.specs.Calls.{PlaceWaitsOf, BoundOf, MarginsOf, VerdictOf, BlamesOf};
+
+// What the check of a load finds, and the largest W of each place; all 0 and 0 with a refusal.
+pub struct PlaceWaits {
+    pub answer: Checked,
+    pub places: [LargestW; MOST_PLACES],
+}
 
 // What the check of a load finds, and the load's bound; 0 with a refusal.
 pub struct Bounded {
@@ -37,12 +49,21 @@ pub struct Judged {
     pub verdict: bool,
 }
 
-// What the check of a load finds, and bound, margins and verdict; 0, all 0 and no with a refusal.
+// What the check of a load finds, the margins, and whom each row blames; all 0 with a refusal.
+pub struct Blamed {
+    pub answer: Checked,
+    pub margins: [i32; MOST_ROWS],
+    pub blames: [Blame; MOST_ROWS],
+}
+
+// What the check of a load finds, and bound, margins, verdict and blames; 0, all 0, no and all 0
+// with a refusal.
 pub struct Answered {
     pub answer: Checked,
     pub bound: u32,
     pub margins: [i32; MOST_ROWS],
     pub verdict: bool,
+    pub blames: [Blame; MOST_ROWS],
 }
 
 // Gives the bound of a load, or the first of 3 to 7 with bound 0.
@@ -103,6 +124,41 @@ pub fn verdict_of(load: Load) -> Judged
         Checked::Refused(refusal) => Judged {
             answer: Checked::Refused(refusal),
             verdict: false,
+        },
+    }
+}
+
+// Gives whom each row of a load blames, the place and row with the largest W of its cut load, and
+// the margins beside them, those of rows not there 0; or the first of 3 to 7 with zeros everywhere.
+// No call for C asks for it, so it need not spare the stack as the calls above do.
+pub fn blames_of(load: Load) -> Blamed
+    ensures { λ r. ⌜ BlamesOf load r ⌝ }
+{
+    let told = answers_of(load);
+    let answer = told.answer;
+    let margins = told.margins;
+    let blames = told.blames;
+    Blamed {
+        answer,
+        margins,
+        blames,
+    }
+}
+
+// Gives the largest W of each place of a load, nothing cut, with the lowest row that has it, and 0
+// and 0 where every W is 0; or the first of 3 to 7 with 0 and 0 everywhere.
+pub fn place_waits_of(load: Load) -> PlaceWaits
+    ensures { λ r. ⌜ PlaceWaitsOf load r ⌝ }
+{
+    let found = check_load(load);
+    match found {
+        Checked::Good => PlaceWaits {
+            answer: Checked::Good,
+            places: place_waits(load, load.rows as usize),
+        },
+        Checked::Refused(refusal) => PlaceWaits {
+            answer: Checked::Refused(refusal),
+            places: [LargestW { left: 0, row: 0 }; MOST_PLACES],
         },
     }
 }

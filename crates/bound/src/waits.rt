@@ -1,5 +1,5 @@
 // W: what is left of a free wait once the r smallest of the other rows' 2r costs are taken off, and
-// the largest of it at a place.
+// the largest of it at a place, with its row.
 use crate::places::costs_at;
 use crate::places::frees_at;
 use crate::places::pairs_at;
@@ -7,23 +7,31 @@ use crate::places::waits_at;
 use crate::smallest::smallest_sum;
 use load::Load;
 use load::MOST_ROWS;
+use rules::LargestW;
+use rules::MOST_PLACES;
 ghost use mathlib.Core.Bool.{cond};
 ghost use mathlib.Core.Path.{_≡_};
-ghost use Prim.Native.Nat.{_+_, _-_, _≤_, _<_, max};
-ghost use Rattle.counting.specs.Sums.{anyTo, maxTo};
+ghost use Prim.Native.Nat.{_-_, _≤_, _<_};
+ghost use lib.Dec.{ltb};
+ghost use Rattle.counting.specs.Sums.{anyTo};
 ghost use Rattle.counting.specs.Lists.{memberAt, isMarked};
 ghost use Rattle.counting.proofs.sorting.PairLaws.{pairsSmallest};
-ghost use Rattle.load.specs.Load.{mostRows, mostSteps};
+ghost use Rattle.load.specs.Load.{mostRows};
 ghost use Rattle.load.specs.View.{viewOf};
 ghost use Rattle.load.specs.Acceptable.{Acceptable};
-ghost use Rattle.rules.specs.Bound.{smallestCosts, largestW};
-ghost use Rattle.bound.specs.inner.Marks.{isOther, Costed, freesAt};
+ghost use Rattle.rules.specs.Blame.{placeWaits};
+ghost use Rattle.bound.specs.inner.Marks.{isOther, Costed, leftIn, largestTo};
 
-// Gives the larger of two numbers.
-fn larger(a: u16, b: u16) -> u16
-    ensures { λ r. ⌜ r ≡ max a b ⌝ }
+// Gives the larger of a W found before and one more, with its row: the one before where they are
+// equal.
+fn larger(most: LargestW, left: u16, row: u8) -> LargestW
+    ensures { λ r. ⌜ r ≡ cond (ltb (most .left) left) (record { left = left; row = row }) most ⌝ }
 {
-    if a < b { b } else { a }
+    if most.left < left {
+        LargestW { left, row }
+    } else {
+        most
+    }
 }
 
 // Gives what is left of row i's wait: the wait less the r smallest of the 2r costs of the other
@@ -50,7 +58,8 @@ fn wait_left(
     }
 }
 
-// Gives the largest of what is left of the free waits of the first n rows; 0 where none is free.
+// Gives the largest of what is left of the free waits of the first n rows, with its row; 0 and 0
+// where nothing is left.
 fn largest_left(
     n: usize,
     here: &[u16; MOST_ROWS],
@@ -58,16 +67,18 @@ fn largest_left(
     pairs: [bool; MOST_ROWS],
     waits: &[u16; MOST_ROWS],
     frees: &[bool; MOST_ROWS],
-) -> u16
+) -> LargestW
     requires { ⌜ Costed n (now here) pairs ⌝ }
-    ensures { λ r. ⌜ r ≡ maxTo (λ i. cond (isMarked (now (frees .entry)) i)
-        (memberAt (now (waits .entry)) i - pairsSmallest
-        (memberAt (now (here .entry))) (memberAt (now (next .entry))) (isOther pairs i) n) 0) n ⌝ }
+    ensures { λ r. ⌜ r ≡ largestTo (leftIn
+        (λ i. pairsSmallest
+        (memberAt (now (here .entry))) (memberAt (now (next .entry))) (isOther pairs i) n)
+        (now (waits .entry)) (now (frees .entry))) n ⌝ }
 {
-    let mut most: u16 = 0;
+    let mut most = LargestW { left: 0, row: 0 };
     for i in 0..n {
         if frees[i] {
-            most = larger(most, wait_left(n, here, next, pairs, i, waits[i]));
+            let left = wait_left(n, here, next, pairs, i, waits[i]);
+            most = larger(most, left, i as u8 + 1);
         }
     }
     most
@@ -86,28 +97,25 @@ fn any_marked(n: usize, marks: &[bool; MOST_ROWS]) -> bool
     false
 }
 
-// Gives the largest W at a place, for the rows whose wait there is free.
-fn largest_of(load: Load, rows: usize, j: usize, frees: &[bool; MOST_ROWS]) -> u16
-    requires { ⌜ Acceptable (viewOf load) × (rows ≡ load .rows) × (j < mostSteps)
-        × (now frees ≡ freesAt load (j + 1)) ⌝ }
-    ensures { λ r. ⌜ r ≡ largestW smallestCosts (viewOf load) j ⌝ }
+// Gives the largest W of each place of an accepted load with so many rows; 0 and 0 where no row has
+// a free wait there. Each array of a place comes from a function that indexes the load, and nothing
+// between takes the load: it would hold one more copy.
+pub fn place_waits(load: Load, rows: usize) -> [LargestW; MOST_PLACES]
+    requires { ⌜ Acceptable (viewOf load) × (rows ≡ load .rows) ⌝ }
+    ensures { λ r. ⌜ r ≡ placeWaits (viewOf load) ⌝ }
 {
-    let here = costs_at(load, j);
-    let next = costs_at(load, j + 1);
-    let pairs = pairs_at(load, j);
-    let waits = waits_at(load, j);
-    largest_left(rows, &here, &next, pairs, &waits, frees)
-}
-
-// Gives the largest W at a place of a load with so many rows, and 0 where no row has a free wait
-// there.
-pub fn largest_w(load: Load, rows: usize, j: usize) -> u16
-    requires { ⌜ Acceptable (viewOf load) × (rows ≡ load .rows) × (j < mostSteps) ⌝ }
-    ensures { λ r. ⌜ r ≡ largestW smallestCosts (viewOf load) j ⌝ }
-{
-    let frees = frees_at(load, j + 1);
-    if any_marked(rows, &frees) {
-        return largest_of(load, rows, j, &frees);
+    let mut places = [LargestW { left: 0, row: 0 }; MOST_PLACES];
+    for j in 0..MOST_PLACES {
+        let mut most = LargestW { left: 0, row: 0 };
+        let frees = frees_at(load, j + 1);
+        if any_marked(rows, &frees) {
+            let here = costs_at(load, j);
+            let next = costs_at(load, j + 1);
+            let pairs = pairs_at(load, j);
+            let waits = waits_at(load, j);
+            most = largest_left(rows, &here, &next, pairs, &waits, &frees);
+        }
+        places[j] = most;
     }
-    0
+    places
 }

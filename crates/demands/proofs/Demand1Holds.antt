@@ -6,17 +6,10 @@ use Rattle.refusals.proofs.TableLaws.{numberOf-apart, numberOf-least, numberOf-
 use Rattle.rules.specs.Margins.{marginBytes}
 use Rattle.bench.specs.declared.Moved.{Moved}
 use Rattle.reading_bench.specs.Calls.{boundBytes, verdictBytes, scheduleFile}
-use Rattle.lines.specs.Lines.{printed}
+use Rattle.lines.specs.Lines.{printed, printedBlamed}
 use Rattle.demands.specs.Demand1.{Demand1}
 use Rattle.demands.proofs.CallsDecided.{every-answer}
-use Rattle.demands.proofs.demand1.RefusedAlone.{
-  refused-load,
-  refused-bound,
-  refused-margins,
-  refused-verdict,
-  refused-answers,
-  refused-slots,
-}
+use Rattle.demands.proofs.demand1.RefusedAlone.{returned-alone}
 use Rattle.demands.proofs.demand1.WritingCalls.{c-keeps, out-keeps}
 use Rattle.demands.proofs.demand1.RefusedMoves.{bench-kept}
 use Rattle.demands.proofs.demand1.NumbersHold.{numbers}
@@ -32,12 +25,7 @@ demand1 =
       numbers = numbers;
       exactly = exactly-then;
       load-first = load-first;
-      no-load = refused-load;
-      no-bound = refused-bound;
-      no-margins = refused-margins;
-      no-verdict = refused-verdict;
-      no-answers = refused-answers;
-      no-slots = refused-slots;
+      alone = returned-alone;
       load-stays = λ load out refusal after g. g .output-is;
       schedule-stays = λ slots out refusal after g. g .output-is;
       run-stays = λ bs out refusal after g. g .output-is;
@@ -47,6 +35,7 @@ demand1 =
       margins-stay = c-keeps marginBytes;
       c-schedule-stays = c-keeps scheduleFile;
       lines-stay = λ bs out refusal r after p e. out-keeps Good (printed bs) out refusal r after p e;
+      blames-stay = λ bs out refusal r after p e. out-keeps Good (printedBlamed bs) out refusal r after p e;
       bench-stays = λ load bench refusal r e h.
           e ∙ bench-kept load bench refusal (ap (λ (m : Moved). m .outcome) (sym e) ∙ h);
     }

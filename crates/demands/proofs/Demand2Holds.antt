@@ -25,9 +25,13 @@ use Rattle.bound.proofs.GoodLaws.{
   BoundOf-good,
   MarginsOf-good,
   VerdictOf-good,
+  BlamesOf-margins,
+  BlamesOf-good,
+  PlaceWaitsOf-good,
   AnswersOf-bound,
   AnswersOf-margins,
   AnswersOf-verdict,
+  AnswersOf-blames,
 }
 use Rattle.schedule.proofs.CheckExactly.{checkSchedule-exactly}
 use Rattle.demands.specs.Demand2.{fileIn, Demand2}
@@ -67,10 +71,14 @@ demand2 =
       margins-are = MarginsOf-good;
       margins-written = λ load r e g bytes h. h ∙ ap bytesOfMargins (MarginsOf-good load r e g);
       verdicts = VerdictOf-good;
+      place-waits = PlaceWaitsOf-good;
+      blames-are = BlamesOf-good;
+      blames-margins = BlamesOf-margins;
       together = λ load r e. record {
         bound-is = AnswersOf-bound load r e;
         margins-are = AnswersOf-margins load r e;
         verdict-is = AnswersOf-verdict load r e;
+        blames-are = AnswersOf-blames load r e;
       };
       moves = λ load bench r good held e. rw e (next-same load (sym good) bench held);
       says-yes = λ load slots r e. rw e (checkSchedule-exactly load slots);

@@ -12,16 +12,18 @@ use Rattle.load_file.specs.Reading.{readLoad}
 use Rattle.load_file.specs.RoundTrip.{accepted}
 use Rattle.rules.specs.Margins.{marginBytes}
 use Rattle.schedule_file.specs.ScheduleFile.{scheduleBytes}
-use Rattle.lines.specs.Lines.{printed}
+use Rattle.lines.specs.Lines.{printed, printedBlamed}
 use Rattle.demands.specs.LoadsToTry.{
   answersFor,
   glimpseAfter,
   Sound,
+  blamedLines,
   Faulty,
   refused,
 }
 use Rattle.demands.specs.LoadA.{loadA}
-use Rattle.demands.specs.LoadB.{loadB, loadB9}
+use Rattle.demands.specs.LoadB.{loadB}
+use Rattle.demands.specs.LoadB9.{loadB9}
 use Rattle.demands.specs.LoadPhase.{loadPhase8, loadPhase7}
 use Rattle.demands.specs.SmallLoads.{loadUnequal, loadWaits0, loadEmpty}
 use Rattle.demands.specs.FaultyLoads.{loadB7, loadTwins, loadTwinsInOneBox}
@@ -43,8 +45,10 @@ pub record SoundHolds (e : Sound) : Type 0 where
   pub margined : marginBytes (viewOf (e .load)) ≡ padded 96 0 (bytesOf (e .margin-bytes))
   -- the schedule is written as that file
   pub scheduled : scheduleBytes (e .answers .slots) ≡ bytesOf (e .schedule-file)
-  -- and the program prints those lines
+  -- the program prints those lines
   pub prints : printed (bytesOf (e .file)) ≡ linesOf (e .lines)
+  -- and the one that says whom to blame those
+  pub prints-blames : printedBlamed (bytesOf (e .file)) ≡ linesOf (blamedLines e)
 
 -- what is claimed of a load that is refused
 pub record FaultyHolds (e : Faulty) : Type 0 where
@@ -54,8 +58,9 @@ pub record FaultyHolds (e : Faulty) : Type 0 where
   pub checks : checkLoad (e .load) ≡ Refused (e .refusal)
   -- it has that number
   pub numbered : numberOf (e .refusal) ≡ e .number
-  -- and the program prints it
+  -- and both programs print it
   pub prints : printed (bytesOf (e .file)) ≡ linesOf (e .lines)
+  pub prints-blames : printedBlamed (bytesOf (e .file)) ≡ linesOf (e .lines)
 
 -- a load marked P
 pub data Entry : Type 0 where

@@ -1,7 +1,7 @@
 -- Demand 2: "An accepted file reads to exactly one load, that load is written back to the same
 -- bytes, and a written load reads back as itself. The bound, the margins and every move equal
 -- document 01's definitions. The schedule check says yes exactly when document 01's rules hold."
--- Over any results that meet the calls' relations. Rests on D49.
+-- Over any results that meet the calls' relations. Rests on D49 and D84.
 use Prim.Native.Nat.{ℕ}
 use mathlib.Core.List.{List}
 use mathlib.Core.Logic.{_↔_}
@@ -22,12 +22,23 @@ use Rattle.load_file.specs.RoundTrip.{Held, accepted, RoundTrip}
 use Rattle.rules.specs.declared.Slot.{Slot}
 use Rattle.rules.specs.Bound.{bound}
 use Rattle.rules.specs.Margins.{margins, marginBytes, verdict}
+use Rattle.rules.specs.Blame.{placeWaits, blames}
 use Rattle.rules.specs.Move.{Moved as Move, move}
 use Rattle.bound.specs.declared.Answered.{Answered}
 use Rattle.bound.specs.declared.Bounded.{Bounded}
 use Rattle.bound.specs.declared.Margined.{Margined}
 use Rattle.bound.specs.declared.Judged.{Judged}
-use Rattle.bound.specs.Calls.{AnswersOf, BoundOf, MarginsOf, VerdictOf, MarginBytes}
+use Rattle.bound.specs.declared.Blamed.{Blamed}
+use Rattle.bound.specs.declared.PlaceWaits.{PlaceWaits}
+use Rattle.bound.specs.Calls.{
+  AnswersOf,
+  BoundOf,
+  MarginsOf,
+  VerdictOf,
+  BlamesOf,
+  PlaceWaitsOf,
+  MarginBytes,
+}
 use Rattle.schedule.specs.Calls.{CheckSchedule}
 use Rattle.schedule.specs.CheckExactly.{KeepsRules}
 use Rattle.bench.specs.declared.Bench.{Bench}
@@ -48,11 +59,13 @@ pub record SameMove (r : Moved) (m : Move) : Type 0 where
   pub lamps-are : r .lamps ≡ m .lamps
   pub count-is : r .count ≡ m .count
 
--- what one call gives together is what three give one by one
+-- what one call gives together is what four give one by one
 pub record Together (load : Load) (r : Answered) : Type 0 where
   pub bound-is : BoundOf load (record { answer = r .answer; bound = r .bound })
   pub margins-are : MarginsOf load (record { answer = r .answer; margins = r .margins })
   pub verdict-is : VerdictOf load (record { answer = r .answer; verdict = r .verdict })
+  pub blames-are : BlamesOf load
+      (record { answer = r .answer; margins = r .margins; blames = r .blames })
 
 -- demand 2
 pub record Demand2 : Type 0 where
@@ -78,7 +91,15 @@ pub record Demand2 : Type 0 where
   -- the verdict does
   pub verdicts : (load : Load) (r : Judged) → VerdictOf load r → r .answer ≡ Good
       → r .verdict ≡ verdict (viewOf load)
-  -- the three together do
+  -- the largest W of each place and its row equal document 02's (2026-01), nothing cut
+  pub place-waits : (load : Load) (r : PlaceWaits) → PlaceWaitsOf load r → r .answer ≡ Good
+      → r .places ≡ placeWaits (viewOf load)
+  -- and so do the place and row that each row blames; the margins beside them are the margins
+  pub blames-are : (load : Load) (r : Blamed) → BlamesOf load r → r .answer ≡ Good
+      → r .blames ≡ blames (viewOf load)
+  pub blames-margins : (load : Load) (r : Blamed) → BlamesOf load r
+      → MarginsOf load (record { answer = r .answer; margins = r .margins })
+  -- the four together do
   pub together : (load : Load) (r : Answered) → AnswersOf load r → Together load r
   -- and every move, with the state after it
   pub moves : (load : Load) (bench : Bench) (r : Moved) → CheckLoad load Good → HeldBench bench

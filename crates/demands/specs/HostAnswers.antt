@@ -1,5 +1,5 @@
 -- "It lends a load file's bytes and gets the bound, margins, verdict or schedule file": what C and
--- the program get, over any results of the calls and of the reading. To be read after PublicCalls.
+-- the programs get, over any results of the calls and of the reading. To be read after PublicCalls.
 -- Rests on D47 and D49.
 use Prim.Native.Nat.{ℕ, _+_, _≤_}
 use mathlib.Core.List.{List, [], _∷_}
@@ -28,8 +28,8 @@ use Rattle.reading_bench.specs.Calls.{
   BenchSchedule,
 }
 use Rattle.lines.specs.declared.Text.{Text}
-use Rattle.lines.specs.Lines.{printed}
-use Rattle.lines.specs.Calls.{textPlaces, TextOf, PrintLines}
+use Rattle.lines.specs.Lines.{printed, printedBlamed}
+use Rattle.lines.specs.Calls.{textPlaces, TextOf, BlamedTextOf, PrintLines, PrintBlames}
 
 -- a call for C: of a file that is read as a load, it refuses nothing but the room, and gives that
 -- load's answer
@@ -46,6 +46,25 @@ Refuses call =
     → read .answer ≡ Refused refusal
     → (out : List ℕ) (n : ℕ) (after : List ℕ) → call bs out n after → n ≡ numberOf refusal
 
+-- what a program gets: a text, or lines in an output, of what is printed
+pub record Prints
+    (printedFor : List ℕ → List ℕ)
+    (text : List ℕ → Text → Type 0)
+    (print : List ℕ → List ℕ → Written → List ℕ → Type 0)
+    : Type 0
+  where
+    -- the text of any bytes is all that is printed for them, and its first places hold it
+    pub texts : (bs : List ℕ) (r : Text) → text bs r → take (r .length) (r .bytes) ≡ printedFor bs
+    -- it fits the text's places, whatever the bytes are
+    pub texts-fit : (bs : List ℕ) → Bytes bs → length (printedFor bs) ≤ textPlaces
+    -- which the first bytes decide: one more than the longest load file has
+    pub fronts : (bs : List ℕ) (r : Text) → text (take (mostFileBytes + 1) bs) r → text bs r
+    -- the lines stand in the output, and so many bytes of them are counted
+    pub lines : (bs out : List ℕ) (r : Written) (after : List ℕ) → print bs out r after
+        → Given Good (printedFor bs) out (r .answer) after
+    pub lines-counted : (bs out : List ℕ) (r : Written) (after : List ℕ) → print bs out r after
+        → r .length ≡ ifGood (r .answer) (length (printedFor bs)) 0
+
 -- what the host gets
 pub record HostAnswers : Type 0 where
   -- the bound, 4 bytes
@@ -61,14 +80,6 @@ pub record HostAnswers : Type 0 where
   pub verdicts-refused : Refuses BenchVerdict
   pub margins-refused : Refuses BenchMargins
   pub schedules-refused : Refuses BenchSchedule
-  -- the text of any bytes is all that the program prints for them, and its first places hold it
-  pub texts : (bs : List ℕ) (r : Text) → TextOf bs r → take (r .length) (r .bytes) ≡ printed bs
-  -- it fits the text's places, whatever the bytes are
-  pub texts-fit : (bs : List ℕ) → Bytes bs → length (printed bs) ≤ textPlaces
-  -- which the first bytes decide: one more than the longest load file has
-  pub fronts : (bs : List ℕ) (r : Text) → TextOf (take (mostFileBytes + 1) bs) r → TextOf bs r
-  -- the program's lines stand in the output, and so many bytes of them are counted
-  pub lines : (bs out : List ℕ) (r : Written) (after : List ℕ) → PrintLines bs out r after
-      → Given Good (printed bs) out (r .answer) after
-  pub lines-counted : (bs out : List ℕ) (r : Written) (after : List ℕ) → PrintLines bs out r after
-      → r .length ≡ ifGood (r .answer) (length (printed bs)) 0
+  -- the program's lines, and those of the program that says whom to blame
+  pub program : Prints printed TextOf PrintLines
+  pub blames : Prints printedBlamed BlamedTextOf PrintBlames

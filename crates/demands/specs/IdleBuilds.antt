@@ -3,17 +3,23 @@
 use Prim.Native.Nat.{ℕ, _+_}
 use mathlib.Core.Bool.{Bool}
 use mathlib.Core.List.{List}
-use lib.IntN.{ℤ}
+use lib.IntN.{ℤ, pos}
+use lib.ListN.{replicate}
 use Rattle.refusals.specs.declared.Refusal.{Refusal}
 use Rattle.refusals.specs.declared.Checked.the-variants.{Refused}
+use Rattle.refusals.specs.Given.{ifGood}
 use Rattle.load.specs.declared.Load.{Load}
-use Rattle.load.specs.Load.{zeroLoad}
+use Rattle.load.specs.Load.{mostRows, zeroLoad}
+use Rattle.load.specs.View.{viewOf}
 use Rattle.load.specs.Check.{forBench}
 use Rattle.load_file.specs.declared.Reading.{Reading}
+use Rattle.rules.specs.declared.Blame.{Blame}
 use Rattle.rules.specs.declared.Outcome.{Outcome}
 use Rattle.rules.specs.declared.Outcome.the-variants.{Idle}
+use Rattle.rules.specs.Margins.{margins}
 use Rattle.bound.specs.declared.Margined.{Margined}
 use Rattle.bound.specs.declared.Judged.{Judged}
+use Rattle.bound.specs.declared.Blamed.{Blamed}
 use Rattle.bench.specs.declared.Bench.{Bench}
 use Rattle.bench.specs.declared.Moved.{Moved}
 use Rattle.bench.specs.Held.{benchAt, refusedWith, nextMove}
@@ -70,3 +76,12 @@ inventsEnds ends load bench =
 -- one with invented margins
 abbrev pub inventsMargins : List ℤ → Load → Margined
 inventsMargins margins load = record { answer = forBench load; margins = margins }
+
+-- one with invented blames
+abbrev pub inventsBlames : List Blame → Load → Blamed
+inventsBlames blames load =
+    record {
+      answer = forBench load;
+      margins = ifGood (forBench load) (margins (viewOf load)) (replicate mostRows (pos 0));
+      blames = blames;
+    }

@@ -13,6 +13,7 @@ pub mod NumberLists
 pub mod Numbers
 pub mod ExactlyThen
 pub mod LoadFirst
+pub mod ReturnedAlone
 pub mod Demand1
 pub mod HostAnswers
 pub mod Twins
@@ -22,6 +23,7 @@ pub mod Notation
 pub mod LoadsToTry
 pub mod LoadA
 pub mod LoadB
+pub mod LoadB9
 pub mod LoadPhase
 pub mod SmallLoads
 pub mod FaultyLoads

@@ -16,7 +16,9 @@ use Rattle.bound.specs.declared.Answered.{Answered}
 use Rattle.bound.specs.declared.Bounded.{Bounded}
 use Rattle.bound.specs.declared.Margined.{Margined}
 use Rattle.bound.specs.declared.Judged.{Judged}
-use Rattle.bound.specs.Calls.{AnswersOf, BoundOf, MarginsOf, VerdictOf}
+use Rattle.bound.specs.declared.Blamed.{Blamed}
+use Rattle.bound.specs.declared.PlaceWaits.{PlaceWaits}
+use Rattle.bound.specs.Calls.{AnswersOf, BoundOf, MarginsOf, VerdictOf, BlamesOf, PlaceWaitsOf}
 use Rattle.schedule.specs.Calls.{CheckSchedule, CheckArray}
 use Rattle.bench.specs.declared.Bench.{Bench}
 use Rattle.bench.specs.declared.Moved.{Moved}
@@ -25,10 +27,12 @@ use Rattle.bench.specs.Calls.{NextMove, Runs}
 
 -- the calls that refuse nothing but the load answer with its finding
 pub record FindAlike (load : Load) (found : Checked) : Type 0 where
+  pub place-waits-of : (r : PlaceWaits) → PlaceWaitsOf load r → r .answer ≡ found
   pub answers-of : (r : Answered) → AnswersOf load r → r .answer ≡ found
   pub bound-of : (r : Bounded) → BoundOf load r → r .answer ≡ found
   pub margins-of : (r : Margined) → MarginsOf load r → r .answer ≡ found
   pub verdict-of : (r : Judged) → VerdictOf load r → r .answer ≡ found
+  pub blames-of : (r : Blamed) → BlamesOf load r → r .answer ≡ found
   pub run : (r : Ran) → Runs load r → r .answer ≡ found
 
 -- the calls that can refuse something else too give the load's refusal first

@@ -39,6 +39,7 @@ loadPhase8 =
       margin-bytes = "00000000" ∷ [];
       schedule-file = "5343 0100" ∷ "534C 01 01 05000000" ∷ [];
       lines = "load 1 1 8 8 yes" ∷ "row 1 101 201 0" ∷ "slot 5 1 1" ∷ [];
+      blamed-rows = "row 1 101 201 0 0 0" ∷ [];
     }
 
 -- margin -1 at deadline 7: the run is the same, and the check finds the row late
@@ -61,4 +62,5 @@ loadPhase7 =
       margin-bytes = "FFFFFFFF" ∷ [];
       schedule-file = "5343 0100" ∷ "534C 01 01 05000000" ∷ [];
       lines = "load 1 1 8 8 no" ∷ "row 1 101 201 -1" ∷ "slot 5 1 1" ∷ [];
+      blamed-rows = "row 1 101 201 -1 0 0" ∷ [];
     }

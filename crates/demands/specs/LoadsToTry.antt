@@ -1,10 +1,11 @@
 -- "Loads to try": what is asked of a load marked P, and what is said of it. To be read after
 -- Notation.
-use Prim.Native.Nat.{ℕ}
+use Prim.Native.Nat.{ℕ, _+_}
 use Prim.Native.String.{String}
 use mathlib.Core.Bool.{Bool}
-use mathlib.Core.List.{List}
+use mathlib.Core.List.{List, _++_}
 use lib.IntN.{ℤ}
+use lib.ListN.{length, take, drop}
 use Rattle.counting.specs.Lists.{listTo}
 use Rattle.refusals.specs.declared.Refusal.{Refusal}
 use Rattle.refusals.specs.declared.Checked.{Checked}
@@ -72,7 +73,8 @@ unfoldable pub glimpseAfter : Load → ℕ → Glimpse
 glimpseAfter load n = glimpseOf n (move (viewOf load) (stateAfter (viewOf load) n fresh))
 
 -- an acceptable load: its file, the load itself, its answers, glimpses of its run, the margins'
--- bytes of the rows that are there, its schedule file and what is printed
+-- bytes of the rows that are there, its schedule file, what is printed, and the row lines of the
+-- program that says whom to blame
 pub record Sound : Type 0 where
   pub file : List String
   pub load : Load
@@ -81,6 +83,12 @@ pub record Sound : Type 0 where
   pub margin-bytes : List String
   pub schedule-file : List String
   pub lines : List String
+  pub blamed-rows : List String
+
+-- what is printed by the program that says whom to blame: all but the row lines as by the other
+abbrev pub blamedLines : Sound → List String
+blamedLines e =
+    take 1 (e .lines) ++ e .blamed-rows ++ drop (1 + length (e .blamed-rows)) (e .lines)
 
 -- a load that is refused: its file, the load in memory, the refusal, its number and what is printed
 pub record Faulty : Type 0 where

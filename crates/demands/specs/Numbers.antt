@@ -17,7 +17,9 @@ use Rattle.bound.specs.declared.Answered.{Answered}
 use Rattle.bound.specs.declared.Bounded.{Bounded}
 use Rattle.bound.specs.declared.Margined.{Margined}
 use Rattle.bound.specs.declared.Judged.{Judged}
-use Rattle.bound.specs.Calls.{AnswersOf, BoundOf, MarginsOf, VerdictOf}
+use Rattle.bound.specs.declared.Blamed.{Blamed}
+use Rattle.bound.specs.declared.PlaceWaits.{PlaceWaits}
+use Rattle.bound.specs.Calls.{AnswersOf, BoundOf, MarginsOf, VerdictOf, BlamesOf, PlaceWaitsOf}
 use Rattle.schedule.specs.Calls.{CheckSchedule, CheckArray}
 use Rattle.schedule_file.specs.Calls.{CheckRoom, WriteSchedule, WriteArray}
 use Rattle.bench.specs.declared.Bench.{Bench}
@@ -25,7 +27,7 @@ use Rattle.bench.specs.declared.Moved.{Moved}
 use Rattle.bench.specs.declared.Ran.{Ran}
 use Rattle.bench.specs.Calls.{NextMove, Runs, WriteRun}
 use Rattle.reading_bench.specs.Calls.{BenchBound, BenchVerdict, BenchMargins, BenchSchedule}
-use Rattle.lines.specs.Calls.{PrintLines}
+use Rattle.lines.specs.Calls.{PrintLines, PrintBlames}
 use Rattle.demands.specs.NumberLists.{OneOf, ofLoad, ofFile, ofRange, ofWindow, ofOutput}
 use Rattle.demands.specs.NumberLists.{ofC, ofWriting, ofSlotWriting, ofSchedule, ofMove}
 
@@ -49,7 +51,9 @@ pub record Numbers : Type 0 where
       → OneOf ofFile (numberGiven (r .answer))
   pub write-load : (load : Load) (out : List ℕ) (r : Checked) (after : List ℕ)
       → WriteLoad load out r after → OneOf ofWriting (numberGiven r)
-  -- bound, margins and verdict
+  -- the largest W of each place; bound, margins, verdict and blames
+  pub place-waits-of : (load : Load) (r : PlaceWaits) → PlaceWaitsOf load r
+      → OneOf ofLoad (numberGiven (r .answer))
   pub answers-of : (load : Load) (r : Answered) → AnswersOf load r
       → OneOf ofLoad (numberGiven (r .answer))
   pub bound-of : (load : Load) (r : Bounded) → BoundOf load r
@@ -57,6 +61,8 @@ pub record Numbers : Type 0 where
   pub margins-of : (load : Load) (r : Margined) → MarginsOf load r
       → OneOf ofLoad (numberGiven (r .answer))
   pub verdict-of : (load : Load) (r : Judged) → VerdictOf load r
+      → OneOf ofLoad (numberGiven (r .answer))
+  pub blames-of : (load : Load) (r : Blamed) → BlamesOf load r
       → OneOf ofLoad (numberGiven (r .answer))
   -- a schedule that is checked, and one that is written, its room by itself too
   pub check-schedule : (load : Load) (slots : List Slot) (r : Checked) → CheckSchedule load slots r
@@ -81,4 +87,6 @@ pub record Numbers : Type 0 where
   pub bench-margins : NumbersForC BenchMargins
   pub bench-schedule : NumbersForC BenchSchedule
   pub print-lines : (bs out : List ℕ) (r : Written) (after : List ℕ) → PrintLines bs out r after
+      → OneOf ofOutput (numberGiven (r .answer))
+  pub print-blames : (bs out : List ℕ) (r : Written) (after : List ℕ) → PrintBlames bs out r after
       → OneOf ofOutput (numberGiven (r .answer))

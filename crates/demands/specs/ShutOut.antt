@@ -14,9 +14,11 @@ use Rattle.load.specs.Load.{mostRows}
 use Rattle.load.specs.View.{viewOf}
 use Rattle.load.specs.Calls.{CheckLoad}
 use Rattle.load_file.specs.Calls.{ReadLoad}
+use Rattle.rules.specs.declared.Blame.{Blame}
 use Rattle.rules.specs.declared.Outcome.{Outcome}
 use Rattle.rules.specs.Margins.{marginAt, marginIn}
-use Rattle.bound.specs.Calls.{MarginsOf, VerdictOf}
+use Rattle.rules.specs.Blame.{nobody, blameAt}
+use Rattle.bound.specs.Calls.{MarginsOf, VerdictOf, BlamesOf}
 use Rattle.bench.specs.declared.Bench.{Bench}
 use Rattle.bench.specs.declared.Moved.{Moved}
 use Rattle.bench.specs.declared.Ran.{Ran}
@@ -34,6 +36,7 @@ use Rattle.demands.specs.IdleBuilds.{
   inventsCount,
   inventsEnds,
   inventsMargins,
+  inventsBlames,
 }
 use Rattle.demands.specs.Notation.{bytesOf}
 
@@ -80,3 +83,10 @@ pub record ShutOut : Type 0 where
   -- as A's first margin is 1
   pub margin-of-one : (given : List ℤ) → marginIn given 0 ≢ pos 1
       → MarginsOf (loadA .load) (inventsMargins given (loadA .load)) → ⊥
+  -- or blames, at any place of any accepted load
+  pub invents-blames : (load : Load) → CheckLoad load Good → (given : List Blame) (i : ℕ)
+      → i < mostRows → getD given i nobody ≢ blameAt (viewOf load) i
+      → BlamesOf load (inventsBlames given load) → ⊥
+  -- as A's first row is held up by place 1 and row 1
+  pub blame-of-one : (given : List Blame) → getD given 0 nobody ≢ record { place = 1; row = 1 }
+      → BlamesOf (loadA .load) (inventsBlames given (loadA .load)) → ⊥

@@ -45,6 +45,7 @@ loadUnequal =
           ∷ "slot 1 2 1"
           ∷ "slot 9 2 2"
           ∷ [];
+      blamed-rows = "row 1 101 201 999997 0 0" ∷ "row 2 102 202 999989 1 2" ∷ [];
     }
 
 -- 1 w0 1 / 1 w0 1: starts 0, 1, 2, 3; bound 4
@@ -86,6 +87,7 @@ loadWaits0 =
           ∷ "slot 2 1 2"
           ∷ "slot 3 2 2"
           ∷ [];
+      blamed-rows = "row 1 101 201 999996 0 0" ∷ "row 2 102 202 999996 0 0" ∷ [];
     }
 
 -- no rows: bound 0, Done at once, verdict yes
@@ -107,4 +109,5 @@ loadEmpty =
       margin-bytes = [];
       schedule-file = "5343 0000" ∷ [];
       lines = "load 0 0 0 0 yes" ∷ [];
+      blamed-rows = [];
     }

@@ -1,5 +1,5 @@
 -- What one call of the bound tells of an accepted load, in the words of the lines: bound and verdict of the first line,
--- and the margins of the row lines.
+-- and the margins and blames of the row lines.
 use Prim.Native.Nat.{ℕ, _<_}
 use mathlib.Core.Bool.{Bool, cond}
 use mathlib.Core.List.{List}
@@ -7,7 +7,7 @@ use mathlib.Core.Path.{_≡_, ap, ap₂, _∙_}
 use native.Mathlib.Omega.{arith}
 use borrow.Author.Tests.{lt-ltb}
 use lib.IntN.{pos}
-use lib.ListN.{take}
+use lib.ListN.{getD, take}
 use Rattle.counting.specs.Lists.{joinTo}
 use Rattle.counting.proofs.lists.ListLaws.{getD-listTo, joinTo-ext}
 use Rattle.refusals.specs.declared.Checked.the-variants.{Good}
@@ -18,6 +18,7 @@ use Rattle.load.specs.Check.{checkLoad}
 use Rattle.load.proofs.AcceptableLaws.{check-acceptable}
 use Rattle.rules.specs.declared.Slot.{Slot}
 use Rattle.rules.specs.Margins.{margin, margins, marginAt, marginIn}
+use Rattle.rules.specs.Blame.{nobody, rowBlame, blameAt, blames}
 use Rattle.rules.specs.Run.{schedule}
 use Rattle.rules.specs.Slots.{lastEnd}
 use Rattle.bound.specs.declared.Answered.{Answered}
@@ -27,12 +28,14 @@ use Rattle.bound.proofs.GoodLaws.{
   BoundOf-good,
   MarginsOf-good,
   VerdictOf-good,
+  BlamesOf-good,
   AnswersOf-bound,
   AnswersOf-margins,
   AnswersOf-verdict,
+  AnswersOf-blames,
 }
-use Rattle.lines.specs.Lines.{loadLine, rowLine, firstLineOf, rowLineOf}
-use Rattle.lines.specs.inner.Puts.{Scheduled, Told}
+use Rattle.lines.specs.Lines.{loadLine, blameWords, rowLine, firstLineOf, rowLineOf}
+use Rattle.lines.specs.inner.Puts.{rowLineBy, Scheduled, Told}
 
 module _ (load : Load) (accepted : checkLoad load ≡ Good) where
   -- at the place of a row stands its margin
@@ -42,6 +45,14 @@ module _ (load : Load) (accepted : checkLoad load ≡ Good) where
       let few = accepted-few load (check-acceptable load accepted) in
       getD-listTo (marginAt (viewOf load)) mostRows i (pos 0) (omega arith)
       ∙ ap (λ t. cond t (margin (viewOf load) i) (pos 0)) (lt-ltb i (load .rows) l)
+
+  -- and whom it blames
+  blame-read : (i : ℕ) → i < load .rows → getD (blames (viewOf load)) i nobody ≡ rowBlame (viewOf load) i
+  unfolding blames viewOf
+  blame-read i l =
+      let few = accepted-few load (check-acceptable load accepted) in
+      getD-listTo (blameAt (viewOf load)) mostRows i nobody (omega arith)
+      ∙ ap (λ t. cond t (rowBlame (viewOf load) i) nobody) (lt-ltb i (load .rows) l)
 
   module _ (r : Answered) (e : AnswersOf load r) where
     good : r .answer ≡ Good
@@ -57,13 +68,20 @@ module _ (load : Load) (accepted : checkLoad load ≡ Good) where
     margins-told : r .margins ≡ margins (viewOf load)
     margins-told = MarginsOf-good load _ (AnswersOf-margins load r e) good
 
-    -- the row lines, of the margins that were told
-    pub rowLines-told : joinTo (λ i. rowLineOf (shown i) (rowAt load i) (marginIn (r .margins) i)) (load .rows)
-        ≡ joinTo (rowLine load) (load .rows)
+    blames-told : r .blames ≡ blames (viewOf load)
+    blames-told = BlamesOf-good load _ (AnswersOf-blames load r e) good
+
+    -- the row lines, of the margins and blames that were told
+    pub rowLines-told : (blamed : Bool)
+        → joinTo (rowLineBy blamed load (r .margins) (r .blames)) (load .rows)
+        ≡ joinTo (rowLine blamed load) (load .rows)
     unfolding rowLineOf rowLine
-    rowLines-told =
-        joinTo-ext (λ i. rowLineOf (shown i) (rowAt load i) (marginIn (r .margins) i)) (rowLine load) (load .rows)
-        (λ i l. ap (rowLineOf (shown i) (rowAt load i)) (ap (λ ms. marginIn ms i) margins-told ∙ margin-read i l))
+    rowLines-told blamed =
+        joinTo-ext (rowLineBy blamed load (r .margins) (r .blames)) (rowLine blamed load) (load .rows)
+        (λ i l.
+        ap₂ (λ z b. rowLineOf (shown i) (rowAt load i) z (blameWords blamed b))
+        (ap (λ ms. marginIn ms i) margins-told ∙ margin-read i l)
+        (ap (λ bs. getD bs i nobody) blames-told ∙ blame-read i l))
 
 -- the first line, of what was told
 pub firstLine-told : (load : Load) (slots : List Slot) (count end b : ℕ) (v : Bool) → Scheduled load slots count

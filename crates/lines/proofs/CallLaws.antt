@@ -9,20 +9,34 @@ use Rattle.refusals.specs.declared.Checked.the-variants.{Good}
 use Rattle.refusals.specs.declared.Written.{Written}
 use Rattle.refusals.proofs.GivenLaws.{WritesOut-unique}
 use Rattle.lines.specs.declared.Text.{Text}
-use Rattle.lines.specs.Lines.{printed}
-use Rattle.lines.specs.Calls.{textPlaces, TextOf, PrintLines}
+use Rattle.lines.specs.Lines.{printed, printedBlamed}
+use Rattle.lines.specs.Calls.{
+  textPlaces,
+  textHolding,
+  TextOf,
+  BlamedTextOf,
+  PrintLines,
+  PrintBlames,
+}
 
 pub TextOf-unique : (bs : List ℕ) (r s : Text) → TextOf bs r → TextOf bs s → r ≡ s
 TextOf-unique bs r s p q = p ∙ sym q
 
-pub TextOf-length-le : (bs : List ℕ) (r : Text) → TextOf bs r → r .length ≤ length (r .bytes)
-TextOf-length-le bs r e =
+pub BlamedTextOf-unique : (bs : List ℕ) (r s : Text) → BlamedTextOf bs r → BlamedTextOf bs s → r ≡ s
+BlamedTextOf-unique bs r s p q = p ∙ sym q
+
+-- whatever it holds
+pub text-length-le : (bs : List ℕ) (r : Text) → r ≡ textHolding bs → r .length ≤ length (r .bytes)
+text-length-le bs r e =
     let size = ap (λ (t : Text). t .length) e in
     let long =
-    ap (λ (t : Text). length (t .bytes)) e
-    ∙ length-append (printed bs) (replicate (textPlaces - length (printed bs)) 0) in
+    ap (λ (t : Text). length (t .bytes)) e ∙ length-append bs (replicate (textPlaces - length bs) 0) in
     omega arith
 
 pub PrintLines-unique : (bs out : List ℕ) (r s : Written) (after later : List ℕ)
     → PrintLines bs out r after → PrintLines bs out s later → (r ≡ s) × (after ≡ later)
 PrintLines-unique bs out = WritesOut-unique Good (printed bs) out
+
+pub PrintBlames-unique : (bs out : List ℕ) (r s : Written) (after later : List ℕ)
+    → PrintBlames bs out r after → PrintBlames bs out s later → (r ≡ s) × (after ≡ later)
+PrintBlames-unique bs out = WritesOut-unique Good (printedBlamed bs) out

@@ -1,5 +1,5 @@
 -- How long what is printed can be: no number has more than ten digits, which bounds a line of each kind; and for any
--- bytes what is printed has at most 8,525, as an accepted load has at most 24 rows and 192 slots.
+-- bytes what is printed has at most 9,053, as an accepted load has at most 24 rows and 192 slots.
 use Prim.Native.Nat.{ℕ, zero, suc, _*_, _/_, _%_, _≤_}
 use mathlib.Core.Bool.{Bool, true, false}
 use mathlib.Core.List.{List, [], _∷_, _++_}
@@ -23,9 +23,11 @@ use Rattle.load.specs.View.{View, viewOf, stepsInAll}
 use Rattle.load.proofs.AcceptableLaws.{check-acceptable}
 use Rattle.load_file.specs.Reading.{readLoad}
 use Rattle.load_file.proofs.CallLaws.{ReadLoad-accepted}
+use Rattle.rules.specs.declared.Blame.{Blame}
 use Rattle.rules.specs.declared.Slot.{Slot}
 use Rattle.rules.specs.Bound.{bound}
 use Rattle.rules.specs.Margins.{margin, verdict}
+use Rattle.rules.specs.Blame.{rowBlame}
 use Rattle.rules.specs.Slots.{lastEnd}
 use Rattle.rules.specs.Run.{schedule}
 use Rattle.bound.proofs.AcceptedLaws.{accepted-few}
@@ -35,12 +37,13 @@ use Rattle.lines.specs.Lines.{
   yesOrNo,
   firstLineOf,
   loadLine,
+  blameWords,
   rowLineOf,
   rowLine,
   slotLine,
   loadLines,
   refusedLine,
-  printed,
+  printedBy,
 }
 use Rattle.lines.specs.Calls.{firstMost, rowMost, slotMost, textPlaces}
 use Rattle.lines.proofs.PrintedLaws.{read-lines, read-refused}
@@ -81,9 +84,24 @@ firstLineOf-le rows steps end bound answer =
       yesOrNo-le answer,
     ))
 
-pub rowLineOf-le : (row : ℕ) (fields : Row) (margin : ℤ) → length (rowLineOf row fields margin) ≤ rowMost
+blamed-le : (row : ℕ) (fields : Row) (margin : ℤ) (blame : Blame)
+    → length (rowLineOf row fields margin (blameWords true blame)) ≤ rowMost
 unfolding rowLineOf spaced text
-rowLineOf-le row fields margin =
+blamed-le row fields margin blame =
+    simp length-append
+    (omega (
+      arith,
+      decimal-le row,
+      decimal-le (fields .identifier .0),
+      decimal-le (fields .«box_number» .0),
+      signedDecimal-le margin,
+      decimal-le (blame .place),
+      decimal-le (blame .row),
+    ))
+
+unblamed-le : (row : ℕ) (fields : Row) (margin : ℤ) → length (rowLineOf row fields margin []) ≤ rowMost
+unfolding rowLineOf spaced text
+unblamed-le row fields margin =
     simp length-append
     (omega (
       arith,
@@ -92,6 +110,11 @@ rowLineOf-le row fields margin =
       decimal-le (fields .«box_number» .0),
       signedDecimal-le margin,
     ))
+
+pub rowLineOf-le : (row : ℕ) (fields : Row) (margin : ℤ) (blamed : Bool) (blame : Blame)
+    → length (rowLineOf row fields margin (blameWords blamed blame)) ≤ rowMost
+rowLineOf-le row fields margin true blame = blamed-le row fields margin blame
+rowLineOf-le row fields margin false blame = unblamed-le row fields margin
 
 pub slotLine-le : (slot : Slot) → length (slotLine slot) ≤ slotMost
 unfolding slotLine spaced text
@@ -107,9 +130,10 @@ pub loadLine-le : (L : View) (slots : List Slot) → length (loadLine L slots) �
 unfolding loadLine
 loadLine-le L slots = firstLineOf-le (L .rows) (stepsInAll L) (lastEnd L slots) (bound L) (verdict L)
 
-pub rowLine-le : (load : Load) (i : ℕ) → length (rowLine load i) ≤ rowMost
+pub rowLine-le : (blamed : Bool) (load : Load) (i : ℕ) → length (rowLine blamed load i) ≤ rowMost
 unfolding rowLine
-rowLine-le load i = rowLineOf-le (shown i) (rowAt load i) (margin (viewOf load) i)
+rowLine-le blamed load i =
+    rowLineOf-le (shown i) (rowAt load i) (margin (viewOf load) i) blamed (rowBlame (viewOf load) i)
 
 -- a run of pieces, each of at most so many bytes
 pub joinTo-le : (f : ℕ → List ℕ) (most n : ℕ) → ((i : ℕ) → length (f i) ≤ most) → length (joinTo f n) ≤ most * n
@@ -129,23 +153,23 @@ joinIn-le f most (slot ∷ slots) h =
     let l = h slot in
     rw length-append (omega arith)
 
-loadLines-le : (load : Load) → checkLoad load ≡ Good → length (loadLines load) ≤ textPlaces
+loadLines-le : (blamed : Bool) (load : Load) → checkLoad load ≡ Good → length (loadLines blamed load) ≤ textPlaces
 unfolding loadLines
-loadLines-le load accepted =
+loadLines-le blamed load accepted =
     let few = accepted-few load (check-acceptable load accepted) in
     let most = schedule-most load accepted in
     let first = loadLine-le (viewOf load) (schedule (viewOf load)) in
-    let rows = joinTo-le (rowLine load) rowMost (load .rows) (rowLine-le load) in
+    let rows = joinTo-le (rowLine blamed load) rowMost (load .rows) (rowLine-le blamed load) in
     let slots = joinIn-le slotLine slotMost (schedule (viewOf load)) slotLine-le in
     rw (length-append, length-append) (omega arith)
 
 -- for any bytes there is room enough
-pub printed-le : (bs : List ℕ) → Bytes bs → length (printed bs) ≤ textPlaces
-printed-le bs bytes = go (readLoad bs .answer) refl
+pub printedBy-le : (blamed : Bool) (bs : List ℕ) → Bytes bs → length (printedBy blamed bs) ≤ textPlaces
+printedBy-le blamed bs bytes = go (readLoad bs .answer) refl
   where
-    go : (c : Checked) → readLoad bs .answer ≡ c → length (printed bs) ≤ textPlaces
+    go : (c : Checked) → readLoad bs .answer ≡ c → length (printedBy blamed bs) ≤ textPlaces
     go Good e =
         let accepted = ReadLoad-accepted bs (readLoad bs) refl bytes e in
-        rw (read-lines bs (readLoad bs) refl e) at (loadLines-le (readLoad bs .load) accepted)
+        rw (read-lines blamed bs (readLoad bs) refl e) at (loadLines-le blamed (readLoad bs .load) accepted)
     go (Refused refusal) e =
-        rw (read-refused bs (readLoad bs) refl refusal e) at (refusedLine-le refusal)
+        rw (read-refused blamed bs (readLoad bs) refl refusal e) at (refusedLine-le refusal)

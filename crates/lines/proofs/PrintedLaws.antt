@@ -1,6 +1,7 @@
 -- What is printed for a file, by what it is refused for: the lines of its load, or the one line of its refusal. What
 -- was put at the front of zeros is a text.
 use Prim.Native.Nat.{ℕ, _-_, _≤_}
+use mathlib.Core.Bool.{Bool}
 use mathlib.Core.List.{List}
 use mathlib.Core.Path.{_≡_, ap, ap₂, sym, _∙_}
 use lib.ListN.{length, take, replicate}
@@ -14,28 +15,29 @@ use Rattle.load_file.specs.Reading.{fileFault}
 use Rattle.load_file.specs.Calls.{ReadLoad}
 use Rattle.load_file.proofs.CallLaws.{ReadLoad-answer, ReadLoad-load}
 use Rattle.lines.specs.declared.Text.{Text}
-use Rattle.lines.specs.Lines.{loadLines, refusedLine, printed}
+use Rattle.lines.specs.Lines.{loadLines, refusedLine, printedBy}
 use Rattle.lines.specs.Calls.{textPlaces, textHolding}
 
-module _ (bs : List ℕ) where
-  printed-good : fileFault bs ≡ Good → printed bs ≡ loadLines (loadIn bs)
-  unfolding printed
-  printed-good e = rw (e, printed)
+module _ (blamed : Bool) (bs : List ℕ) where
+  printedBy-good : fileFault bs ≡ Good → printedBy blamed bs ≡ loadLines blamed (loadIn bs)
+  unfolding printedBy
+  printedBy-good e = rw (e, printedBy)
 
-  pub printed-refused : (refusal : Refusal) → fileFault bs ≡ Refused refusal → printed bs ≡ refusedLine refusal
-  unfolding printed
-  printed-refused refusal e = rw (e, printed)
+  pub printedBy-refused : (refusal : Refusal) → fileFault bs ≡ Refused refusal
+      → printedBy blamed bs ≡ refusedLine refusal
+  unfolding printedBy
+  printedBy-refused refusal e = rw (e, printedBy)
 
   -- the same, by what its reading gives
   module _ (r : Reading) (e : ReadLoad bs r) where
     found : r .answer ≡ fileFault bs
     found = ReadLoad-answer bs r e
 
-    pub read-lines : r .answer ≡ Good → loadLines (r .load) ≡ printed bs
-    read-lines good = ap loadLines (ReadLoad-load bs r e good) ∙ sym (printed-good (sym found ∙ good))
+    pub read-lines : r .answer ≡ Good → loadLines blamed (r .load) ≡ printedBy blamed bs
+    read-lines good = ap (loadLines blamed) (ReadLoad-load bs r e good) ∙ sym (printedBy-good (sym found ∙ good))
 
-    pub read-refused : (refusal : Refusal) → r .answer ≡ Refused refusal → refusedLine refusal ≡ printed bs
-    read-refused refusal refused = sym (printed-refused refusal (sym found ∙ refused))
+    pub read-refused : (refusal : Refusal) → r .answer ≡ Refused refusal → refusedLine refusal ≡ printedBy blamed bs
+    read-refused refusal refused = sym (printedBy-refused refusal (sym found ∙ refused))
 
 -- what was put at the front of zeros is a text, with its length
 pub textHolding-is : (bs after : List ℕ) (n : ℕ) → after ≡ sets (replicate textPlaces 0) 0 bs → n ≡ length bs

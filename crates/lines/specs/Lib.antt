@@ -1,4 +1,5 @@
--- What the program prints for a load file.
+-- What the programs print for a load file.
 pub mod Lines
 pub mod Calls
+pub mod Inputs
 pub mod inner

@@ -11,16 +11,16 @@ use load::row_at;
 use load::step_at;
 use load_file::read_load;
 use refusals::Checked;
+use rules::Blame;
 use rules::SLOT_PLACES;
 use rules::Slot;
 ghost use mathlib.Core.Path.{_≡_};
 ghost use Prim.Native.Nat.{_≤_};
 ghost use lib.ListN.{take};
 ghost use Rattle.counting.specs.Lists.{joinTo};
-ghost use Rattle.load.specs.Load.{mostRows, shown, rowAt};
+ghost use Rattle.load.specs.Load.{mostRows};
 ghost use Rattle.load.specs.View.{viewOf};
 ghost use Rattle.load.specs.Check.{forBench};
-ghost use Rattle.rules.specs.Margins.{marginIn};
 ghost use Rattle.rules.specs.Run.{schedule};
 ghost use Rattle.rules.specs.Slots.{mostSlots, slotAt, slotEnd, lastEnd};
 ghost use Rattle.rules.specs.ScheduleRules.{NamesStep};
@@ -28,11 +28,10 @@ ghost use Rattle.lines.specs.Lines.{
   slotLine,
   loadLine,
   loadLines,
-  printed,
-  rowLineOf,
+  printedBy,
 };
 ghost use Rattle.lines.specs.Calls.{firstMost};
-ghost use Rattle.lines.specs.inner.Puts.{Put, Scheduled, Told, rowsEnd};
+ghost use Rattle.lines.specs.inner.Puts.{rowLineBy, Put, Scheduled, Told, rowsEnd};
 
 // Gives when a slot ends that names a step of the load.
 fn end_of(load: Load, slot: Slot) -> u32
@@ -68,17 +67,33 @@ fn put_slots(text: &mut [u8], at: usize, slots: [Slot; SLOT_PLACES], count: usiz
     next
 }
 
-// Puts the lines of the rows, with their margins, from a place on.
-fn put_rows(text: &mut [u8], at: usize, load: Load, margins: [i32; MOST_ROWS]) -> usize
+// Puts the lines of the rows from a place on, with their margins and, where it is asked for, whom
+// they blame.
+fn put_rows(
+    text: &mut [u8],
+    at: usize,
+    load: Load,
+    margins: [i32; MOST_ROWS],
+    blamed: bool,
+    blames: [Blame; MOST_ROWS],
+) -> usize
     requires { ⌜ (at ≤ firstMost) × (load .rows ≤ mostRows) ⌝ }
     ensures { λ r. ⌜ Put (now (text .entry)) at
-        (joinTo (λ i. rowLineOf (shown i) (rowAt load i) (marginIn margins i)) (load .rows))
+        (joinTo (rowLineBy blamed load margins blames) (load .rows))
         (now (text .exit)) r ⌝ }
 {
     let rows = load.rows as usize;
     let mut next = at;
     for i in 0..rows {
-        next = put_row(text, next, i as u32 + 1, load.row[i], margins[i]);
+        next = put_row(
+            text,
+            next,
+            i as u32 + 1,
+            load.row[i],
+            margins[i],
+            blamed,
+            blames[i],
+        );
     }
     next
 }
@@ -101,39 +116,47 @@ fn put_head(
 }
 
 // Puts the lines of a load with its schedule: the first line, the row lines, the slot lines. One
-// call tells bound, verdict and margins.
-fn put_lines(text: &mut [u8], load: Load, slots: [Slot; SLOT_PLACES], count: usize) -> usize
+// call tells bound, verdict, margins and blames.
+fn put_lines(
+    text: &mut [u8],
+    load: Load,
+    slots: [Slot; SLOT_PLACES],
+    count: usize,
+    blamed: bool,
+) -> usize
     requires { ⌜ Scheduled load slots count ⌝ }
     ensures { λ r. ⌜ Put (now (text .entry)) 0
-        (loadLines load) (now (text .exit)) r ⌝ }
+        (loadLines blamed load) (now (text .exit)) r ⌝ }
 {
     let told = answers_of(load);
     let margins = told.margins;
+    let blames = told.blames;
     let rows_at = put_head(text, load, slots, count, told.bound, told.verdict);
-    let slots_at = put_rows(text, rows_at, load, margins);
+    let slots_at = put_rows(text, rows_at, load, margins, blamed, blames);
     put_slots(text, slots_at, slots, count)
 }
 
 // Puts the lines of an accepted load.
-fn put_load(text: &mut [u8], load: Load) -> usize
+fn put_load(text: &mut [u8], load: Load, blamed: bool) -> usize
     requires { ⌜ forBench load ≡ Checked.Good ⌝ }
     ensures { λ r. ⌜ Put (now (text .entry)) 0
-        (loadLines load) (now (text .exit)) r ⌝ }
+        (loadLines blamed load) (now (text .exit)) r ⌝ }
 {
     let ran = run(load);
     let slots = ran.slots;
-    put_lines(text, load, slots, ran.count)
+    put_lines(text, load, slots, ran.count, blamed)
 }
 
-// Puts what is printed for a load file: the lines of its load, or the one line of its refusal.
-pub fn put_printed(text: &mut [u8], bytes: &[u8]) -> usize
+// Puts what is printed for a load file: the lines of its load, with or without whom its rows blame,
+// or the one line of its refusal.
+pub fn put_printed(text: &mut [u8], bytes: &[u8], blamed: bool) -> usize
     ensures { λ r. ⌜ Put (now (text .entry)) 0
-        (printed (now (bytes .entry))) (now (text .exit)) r ⌝ }
+        (printedBy blamed (now (bytes .entry))) (now (text .exit)) r ⌝ }
 {
     let reading = read_load(bytes);
     let answer = reading.answer;
     match answer {
-        Checked::Good => put_load(text, reading.load),
+        Checked::Good => put_load(text, reading.load, blamed),
         Checked::Refused(refusal) => put_refused(text, refusal),
     }
 }

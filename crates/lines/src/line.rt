@@ -1,5 +1,5 @@
-// The lines of the program, each put into a text from a place on; a call gives the place behind its
-// line. No call refuses.
+// The lines of the programs, each put into a text from a place on; a call gives the place behind
+// its line. No call refuses.
 use crate::word::put_bytes;
 use crate::word::put_number;
 use crate::word::put_signed;
@@ -7,11 +7,18 @@ use crate::word::put_verdict;
 use load::Row;
 use refusals::Refusal;
 use refusals::number_of;
+use rules::Blame;
 use rules::Slot;
-ghost use Prim.Native.Nat.{_≤_};
-ghost use Rattle.lines.specs.Lines.{slotLine, refusedLine, firstLineOf, rowLineOf};
+ghost use Prim.Native.Nat.{_+_, _≤_};
+ghost use Rattle.lines.specs.Lines.{
+  slotLine,
+  refusedLine,
+  firstLineOf,
+  blameWords,
+  rowLineOf,
+};
 ghost use Rattle.lines.specs.Calls.{textPlaces};
-ghost use Rattle.lines.specs.inner.Puts.{Put};
+ghost use Rattle.lines.specs.inner.Puts.{spacedAll, Put};
 
 // Puts the first line: rows, steps, end of the last step, bound, verdict.
 pub fn put_first(
@@ -34,17 +41,41 @@ pub fn put_first(
     put_bytes(text, at, b"\n")
 }
 
-// Puts a row line: row, counted from 1, identifier, box, margin.
-pub fn put_row(text: &mut [u8], at: usize, number: u32, row: Row, margin: i32) -> usize
+// Puts the place and row of a blame, where it is asked for.
+fn put_blame(text: &mut [u8], at: usize, blamed: bool, blame: Blame) -> usize
+    requires { ⌜ at ≤ 16384 ⌝ }
+    ensures { λ r. ⌜ Put (now (text .entry)) at
+        (spacedAll (blameWords blamed blame)) (now (text .exit)) r
+        × (r ≤ at + 22) ⌝ }
+{
+    if blamed {
+        let next = put_number(text, at, blame.place as u32);
+        return put_number(text, next, blame.row as u32);
+    }
+    at
+}
+
+// Puts a row line: row, counted from 1, identifier, box, margin; and where it is asked for, the
+// place and row that the row blames.
+pub fn put_row(
+    text: &mut [u8],
+    at: usize,
+    number: u32,
+    row: Row,
+    margin: i32,
+    blamed: bool,
+    blame: Blame,
+) -> usize
     requires { ⌜ at ≤ textPlaces ⌝ }
     ensures { λ r. ⌜ Put (now (text .entry)) at
-        (rowLineOf number row margin) (now (text .exit)) r ⌝ }
+        (rowLineOf number row margin (blameWords blamed blame)) (now (text .exit)) r ⌝ }
 {
     let mut next = put_bytes(text, at, b"row");
     next = put_number(text, next, number);
     next = put_number(text, next, row.identifier.0);
     next = put_number(text, next, row.box_number.0);
     next = put_signed(text, next, margin);
+    next = put_blame(text, next, blamed, blame);
     put_bytes(text, next, b"\n")
 }
 

@@ -2,6 +2,7 @@
 // public calls can be compared from outside. A question is a letter and its bytes, with numbers
 // little-endian; the module of a letter says which bytes, and what is answered. What is no
 // question, or one cut short, is answered by `bad`, and ends the program; so does the input's end.
+mod blames;
 mod checks;
 mod given;
 mod input;
@@ -23,7 +24,10 @@ use output::write_text;
 // the question is cut short.
 fn answer_kind(letter: u8) -> bool {
     match letter {
-        b'F' => reports::answer(),
+        b'F' => reports::answer(false),
+        b'B' => reports::answer(true),
+        b'P' => blames::answer(from_file(), false),
+        b'p' => blames::answer(from_memory(), true),
         b'M' => moves::answer(from_file()),
         b'N' => moves::answer(from_memory()),
         b'C' => checks::answer(from_file()),

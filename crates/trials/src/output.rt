@@ -1,8 +1,10 @@
 // Standard output, by pieces: texts, numbers as decimal digits, bytes as hexadecimal digits.
+use crate::input::front;
 use libc::STDOUT_FILENO;
 use refusals::Checked;
 use refusals::number_given;
 use words::byte_at;
+use words::signed_of;
 
 // Writes a text.
 pub fn write_text(text: &[u8]) {
@@ -24,6 +26,15 @@ pub fn write_number(text: &[u8], number: u32) {
 pub fn write_marked(mark: u8, number: u32) {
     write_byte(mark);
     io::print_decimal(STDOUT_FILENO, number as u64);
+}
+
+// Writes a space and then a whole number, with its sign where it is negative.
+pub fn write_signed(number: i32) {
+    let word = signed_of(number);
+    let length = word.length;
+    let bytes = word.bytes;
+    write_byte(b' ');
+    write_text(front(&bytes, length));
 }
 
 // Writes the first n bytes, two hexadecimal digits each; past their end, zeros.

@@ -1,14 +1,18 @@
 -- The terms of the bound of a load that is cut, as the code adds them up: the costs and embedded
--- waits that a row keeps, and the largest W's.
+-- waits that a row keeps, and the largest W's of the places.
 use Prim.Native.Nat.{ℕ, suc, _+_, _-_, min}
 use mathlib.Core.Bool.{cond, not}
+use mathlib.Core.List.{List}
+use lib.ListN.{getD}
 use Rattle.counting.specs.Sums.{sumTo}
 use Rattle.counting.specs.Searches.{firstTo}
 use Rattle.load.specs.declared.Row.{Row}
 use Rattle.load.specs.Load.{stepAt}
 use Rattle.load.specs.View.{View, rowWindows, embeddedAmong}
+use Rattle.rules.specs.declared.LargestW.{LargestW}
 use Rattle.rules.specs.Cut.{cut}
-use Rattle.rules.specs.Bound.{largestW, smallestCosts, bound}
+use Rattle.rules.specs.Bound.{bound}
+use Rattle.rules.specs.Blame.{noneLeft}
 
 -- how many steps a row keeps that keeps its first ones for certain
 unfoldable pub keptFrom : Row → ℕ → ℕ
@@ -28,9 +32,13 @@ abbrev pub ticksOf : Row → ℕ → ℕ
 ticksOf row m =
     sumTo (λ j. stepAt row j .cost) (keptOf row m) + sumTo (waitIn row) (keptOf row m - 1)
 
--- the largest W's of the first k places, added
-abbrev pub waitsBelow : View → ℕ → ℕ
-waitsBelow L k = sumTo (largestW smallestCosts L) k
+-- the largest W at a place of a list, with its row
+abbrev pub placeIn : List LargestW → ℕ → LargestW
+placeIn places j = getD places j noneLeft
+
+-- the W's of the first k places of a list, added
+abbrev pub waitsBelow : List LargestW → ℕ → ℕ
+waitsBelow places k = sumTo (λ j. placeIn places j .left) k
 
 -- the bound of the load cut at k + 1
 abbrev pub boundAt : View → ℕ → ℕ

@@ -1,15 +1,18 @@
 -- The rows marked at a place: those that have a free step there, and those whose costs there are
--- taken.
-use Prim.Native.Nat.{ℕ, _≤_, _<_}
-use mathlib.Core.Bool.{Bool, true, false, _&&_, not}
+-- taken; and what is left of the waits there.
+use Prim.Native.Nat.{ℕ, _-_, _≤_, _<_}
+use mathlib.Core.Bool.{Bool, true, false, cond, _&&_, not}
 use mathlib.Core.List.{List}
 use mathlib.Core.Path.{_≡_}
 use lib.Dec.{eqb, ltb}
+use Rattle.counting.specs.Sums.{maxTo}
 use Rattle.counting.specs.Lists.{filled, memberAt, isMarked}
+use Rattle.counting.specs.Searches.{firstLargest}
 use Rattle.load.specs.declared.Row.{Row}
 use Rattle.load.specs.declared.Load.{Load}
 use Rattle.load.specs.Load.{mostRows, largestCost, rowAt}
 use Rattle.load.specs.View.{rowWindows, embeddedAmong}
+use Rattle.rules.specs.declared.LargestW.{LargestW}
 
 -- whether a row other than i is marked
 abbrev pub isOther : List Bool → ℕ → ℕ → Bool
@@ -27,3 +30,12 @@ freeIn row j = ltb j (row .steps) && not (embeddedAmong j (rowWindows row))
 -- the rows of a load that have a free step at place j
 abbrev pub freesAt : Load → ℕ → List Bool
 freesAt load j = filled (λ i. freeIn (rowAt load i) j) (load .rows) mostRows false
+
+-- what is left of the wait of row i, where it is free, once what the others give is taken off; out
+-- of the waits of a place, and the marks of those that are free
+abbrev pub leftIn : (ℕ → ℕ) → List ℕ → List Bool → ℕ → ℕ
+leftIn given waits frees i = cond (isMarked frees i) (memberAt waits i - given i) 0
+
+-- the largest of f 0 .. f (n - 1), and where it stands first
+abbrev pub largestTo : (ℕ → ℕ) → ℕ → LargestW
+largestTo f n = record { left = maxTo f n; row = firstLargest f n }

@@ -1,10 +1,13 @@
--- The calls on bounds and margins: each contract is its relation in BoundCalls, which a result meets, and one only.
+-- The calls on bounds, margins and blames: each contract is its relation in BoundCalls, which a result meets, and one
+-- only.
 use mathlib.Core.Path.{refl}
 use Rattle.bound.proofs.CallLaws.{
   AnswersOf-unique,
   BoundOf-unique,
   MarginsOf-unique,
   VerdictOf-unique,
+  BlamesOf-unique,
+  PlaceWaitsOf-unique,
   MarginBytes-unique,
 }
 use Rattle.demands.specs.BoundCalls.{EveryBoundCall}
@@ -21,6 +24,8 @@ bound-relations =
       bound-of = λ load. listed;
       margins-of = λ load. listed;
       verdict-of = λ load. listed;
+      blames-of = λ load. listed;
+      place-waits-of = λ load. listed;
       margin-bytes = λ margins. listed;
     }
 
@@ -31,6 +36,8 @@ bound-contracts =
       bound-of = refl;
       margins-of = refl;
       verdict-of = refl;
+      blames-of = refl;
+      place-waits-of = refl;
       margin-bytes = refl;
     }
 
@@ -41,6 +48,8 @@ bound-same =
       bound-of = BoundOf-unique;
       margins-of = MarginsOf-unique;
       verdict-of = VerdictOf-unique;
+      blames-of = BlamesOf-unique;
+      place-waits-of = PlaceWaitsOf-unique;
       margin-bytes = MarginBytes-unique;
     }
 
@@ -51,5 +60,7 @@ bound-answers =
       bound-of = λ load. is _;
       margins-of = λ load. is _;
       verdict-of = λ load. is _;
+      blames-of = λ load. is _;
+      place-waits-of = λ load. is _;
       margin-bytes = λ margins. is _;
     }

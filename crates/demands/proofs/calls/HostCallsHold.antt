@@ -15,8 +15,8 @@ use Rattle.reading_bench.proofs.CallLaws.{
   BenchMargins-unique,
   BenchSchedule-unique,
 }
-use Rattle.lines.specs.Lines.{printed}
-use Rattle.lines.proofs.CallLaws.{TextOf-unique, PrintLines-unique}
+use Rattle.lines.specs.Lines.{printed, printedBlamed}
+use Rattle.lines.proofs.CallLaws.{TextOf-unique, BlamedTextOf-unique, PrintLines-unique, PrintBlames-unique}
 use Rattle.demands.specs.FileCalls.{Wrote, Writes}
 use Rattle.demands.specs.HostCalls.{EveryHostCall}
 use Rattle.demands.specs.Sameness.{OneResult}
@@ -29,7 +29,9 @@ abbrev pub host-relations : EveryHostCall Relation
 host-relations =
     record {
       text-of = λ bs. listed;
+      blamed-text-of = λ bs. listed;
       print-lines = λ bs out. listed;
+      print-blames = λ bs out. listed;
       bench-bound = λ bs out. listed;
       bench-verdict = λ bs out. listed;
       bench-margins = λ bs out. listed;
@@ -40,7 +42,9 @@ pub host-contracts : HostContracts host-relations
 host-contracts =
     record {
       text-of = refl;
+      blamed-text-of = refl;
       print-lines = refl;
+      print-blames = refl;
       bench-bound = refl;
       bench-verdict = refl;
       bench-margins = refl;
@@ -51,7 +55,9 @@ pub host-same : EveryHostCall OneResult
 host-same =
     record {
       text-of = TextOf-unique;
+      blamed-text-of = BlamedTextOf-unique;
       print-lines = λ bs out. both _ (PrintLines-unique bs out);
+      print-blames = λ bs out. both _ (PrintBlames-unique bs out);
       bench-bound = λ bs out. both _ (BenchBound-unique bs out);
       bench-verdict = λ bs out. both _ (BenchVerdict-unique bs out);
       bench-margins = λ bs out. both _ (BenchMargins-unique bs out);
@@ -71,7 +77,9 @@ pub host-answers : EveryHostCall Answer
 host-answers =
     record {
       text-of = λ bs. is _;
+      blamed-text-of = λ bs. is _;
       print-lines = λ bs out. writes-out Good (printed bs) out;
+      print-blames = λ bs out. writes-out Good (printedBlamed bs) out;
       bench-bound = for-c boundBytes;
       bench-verdict = for-c verdictBytes;
       bench-margins = for-c marginBytes;

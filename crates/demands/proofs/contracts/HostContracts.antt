@@ -9,8 +9,12 @@ pub record HostContracts (relation : EveryHostCall Relation) : Type 2 where
   -- lines
   pub text-of : Says lines.text_of.ended (λ M. lines.text_of.spec)
       (λ κs a r s. relation .text-of (a .0 .now) .meets r)
+  pub blamed-text-of : Says lines.blamed_text_of.ended (λ M. lines.blamed_text_of.spec)
+      (λ κs a r s. relation .blamed-text-of (a .0 .now) .meets r)
   pub print-lines : Says lines.print_lines.ended (λ M. lines.print_lines.spec)
       (λ κs a r s. relation .print-lines (a .0 .now) (a .1 .0 .now) .meets (wrote r (s .1 .0 .now)))
+  pub print-blames : Says lines.print_blames.ended (λ M. lines.print_blames.spec)
+      (λ κs a r s. relation .print-blames (a .0 .now) (a .1 .0 .now) .meets (wrote r (s .1 .0 .now)))
   -- reading_bench
   pub bench-bound : Says reading_bench.bench_bound.ended (λ M. reading_bench.bench_bound.spec)
       (λ κs a r s. relation .bench-bound (a .0 .now) (a .1 .0 .now) .meets (wrote r (s .1 .0 .now)))

@@ -13,6 +13,8 @@ use Rattle.bound.specs.declared.Answered.{Answered}
 use Rattle.bound.specs.declared.Bounded.{Bounded}
 use Rattle.bound.specs.declared.Margined.{Margined}
 use Rattle.bound.specs.declared.Judged.{Judged}
+use Rattle.bound.specs.declared.Blamed.{Blamed}
+use Rattle.bound.specs.declared.PlaceWaits.{PlaceWaits}
 use Rattle.schedule.specs.Calls.{firstSlots}
 use Rattle.bench.specs.declared.Moved.{Moved}
 use Rattle.bench.specs.declared.Ran.{Ran}
@@ -33,10 +35,12 @@ pub load-first : LoadFirst
 load-first =
     record {
       alike = λ load found c. record {
+        place-waits-of = λ r e. ap (λ (x : PlaceWaits). x .answer) e ∙ sym c;
         answers-of = λ r e. ap (λ (x : Answered). x .answer) e ∙ sym c;
         bound-of = λ r e. ap (λ (x : Bounded). x .answer) e ∙ sym c;
         margins-of = λ r e. ap (λ (x : Margined). x .answer) e ∙ sym c;
         verdict-of = λ r e. ap (λ (x : Judged). x .answer) e ∙ sym c;
+        blames-of = λ r e. ap (λ (x : Blamed). x .answer) e ∙ sym c;
         run = λ r e. ap (λ (x : Ran). x .answer) e ∙ sym c;
       };
       first = λ load refusal c. record {

@@ -3,7 +3,7 @@
 use Rattle.rules.specs.Margins.{marginBytes}
 use Rattle.schedule.specs.Calls.{firstSlots}
 use Rattle.reading_bench.specs.Calls.{boundBytes, verdictBytes, scheduleFile}
-use Rattle.lines.specs.Lines.{printed}
+use Rattle.lines.specs.Lines.{printed, printedBlamed}
 use Rattle.demands.specs.Numbers.{Numbers}
 use Rattle.demands.proofs.demand1.CallNumbers.{
   load-gives,
@@ -34,10 +34,12 @@ numbers =
       check-parts = λ row r e. rw e (parts-give row .number);
       read-load = λ bs r e. rw e (file-gives bs .number);
       write-load = load-written-gives;
+      place-waits-of = λ load r e. rw e (load-gives load .number);
       answers-of = λ load r e. rw e (load-gives load .number);
       bound-of = λ load r e. rw e (load-gives load .number);
       margins-of = λ load r e. rw e (load-gives load .number);
       verdict-of = λ load r e. rw e (load-gives load .number);
+      blames-of = λ load r e. rw e (load-gives load .number);
       check-schedule = λ load slots r e. rw e (schedule-gives load slots .number);
       check-array = λ load slots n r e. rw e (schedule-gives load (firstSlots slots n) .number);
       check-room = λ n room r e. rw e (room-gives n room .number);
@@ -51,4 +53,5 @@ numbers =
       bench-margins = c-gives marginBytes;
       bench-schedule = c-gives scheduleFile;
       print-lines = λ bs out r after p. out-gives (printed bs) out r after p;
+      print-blames = λ bs out r after p. out-gives (printedBlamed bs) out r after p;
     }

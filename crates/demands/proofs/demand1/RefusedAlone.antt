@@ -1,4 +1,5 @@
--- A refusal is returned alone: what stands beside it is the all-zero load, bound 0, margins 0, the verdict no, no slot.
+-- A refusal is returned alone: what stands beside it is the all-zero load, no W, bound 0, margins 0, the verdict no,
+-- nobody blamed, no slot.
 use Prim.Native.Nat.{ℕ}
 use mathlib.Core.Bool.{false}
 use mathlib.Core.List.{List}
@@ -19,13 +20,15 @@ use Rattle.bound.specs.declared.Answered.{Answered}
 use Rattle.bound.specs.declared.Bounded.{Bounded}
 use Rattle.bound.specs.declared.Margined.{Margined}
 use Rattle.bound.specs.declared.Judged.{Judged}
-use Rattle.bound.specs.Calls.{AnswersOf, BoundOf, MarginsOf, VerdictOf}
+use Rattle.bound.specs.declared.Blamed.{Blamed}
+use Rattle.bound.specs.declared.PlaceWaits.{PlaceWaits}
+use Rattle.bound.specs.Calls.{AnswersOf, BoundOf, MarginsOf, VerdictOf, BlamesOf, PlaceWaitsOf}
 use Rattle.bench.specs.declared.Ran.{Ran}
 use Rattle.bench.specs.Calls.{Runs}
 use Rattle.bench.proofs.running.RunsLaws.{scheduleOr-refused}
-use Rattle.demands.specs.Demand1.{nothingBut}
+use Rattle.demands.specs.ReturnedAlone.{noWaitsBut, noBlamesBut, nothingBut, ReturnedAlone}
 
-pub refused-load : (bs : List ℕ) (r : Reading) (refusal : Refusal) → ReadLoad bs r → r .answer ≡ Refused refusal
+refused-load : (bs : List ℕ) (r : Reading) (refusal : Refusal) → ReadLoad bs r → r .answer ≡ Refused refusal
     → r .load ≡ zeroLoad
 unfolding readLoad
 refused-load bs r refusal e h =
@@ -33,30 +36,55 @@ refused-load bs r refusal e h =
     ∙ ifGood-refused (fileFault bs) (loadIn bs) zeroLoad refusal (ap (λ (x : Reading). x .answer) (sym e) ∙ h)
 
 module _ (load : Load) where
-  pub refused-bound : (r : Bounded) (refusal : Refusal) → BoundOf load r → r .answer ≡ Refused refusal → r .bound ≡ 0
+  refused-bound : (r : Bounded) (refusal : Refusal) → BoundOf load r → r .answer ≡ Refused refusal → r .bound ≡ 0
   refused-bound r refusal e h =
       ap (λ (x : Bounded). x .bound) e
       ∙ ifGood-refused (checkLoad load) _ 0 refusal (ap (λ (x : Bounded). x .answer) (sym e) ∙ h)
 
-  pub refused-margins : (r : Margined) (refusal : Refusal) → MarginsOf load r → r .answer ≡ Refused refusal
+  refused-margins : (r : Margined) (refusal : Refusal) → MarginsOf load r → r .answer ≡ Refused refusal
       → r .margins ≡ replicate mostRows (pos 0)
   refused-margins r refusal e h =
       ap (λ (x : Margined). x .margins) e
       ∙ ifGood-refused (checkLoad load) _ _ refusal (ap (λ (x : Margined). x .answer) (sym e) ∙ h)
 
-  pub refused-verdict : (r : Judged) (refusal : Refusal) → VerdictOf load r → r .answer ≡ Refused refusal
+  refused-verdict : (r : Judged) (refusal : Refusal) → VerdictOf load r → r .answer ≡ Refused refusal
       → r .verdict ≡ false
   refused-verdict r refusal e h =
       ap (λ (x : Judged). x .verdict) e
       ∙ ifGood-refused (checkLoad load) _ false refusal (ap (λ (x : Judged). x .answer) (sym e) ∙ h)
 
-  pub refused-answers : (r : Answered) (refusal : Refusal) → AnswersOf load r → r .answer ≡ Refused refusal
+  refused-waits : (r : PlaceWaits) (refusal : Refusal) → PlaceWaitsOf load r → r .answer ≡ Refused refusal
+      → r ≡ noWaitsBut refusal
+  refused-waits r refusal e h =
+      let found : checkLoad load ≡ Refused refusal = ap (λ (x : PlaceWaits). x .answer) (sym e) ∙ h in
+      e ∙ rw found
+
+  refused-blames : (r : Blamed) (refusal : Refusal) → BlamesOf load r → r .answer ≡ Refused refusal
+      → r ≡ noBlamesBut refusal
+  refused-blames r refusal e h =
+      let found : checkLoad load ≡ Refused refusal = ap (λ (x : Blamed). x .answer) (sym e) ∙ h in
+      e ∙ rw found
+
+  refused-answers : (r : Answered) (refusal : Refusal) → AnswersOf load r → r .answer ≡ Refused refusal
       → r ≡ nothingBut refusal
   refused-answers r refusal e h =
       let found : checkLoad load ≡ Refused refusal = ap (λ (x : Answered). x .answer) (sym e) ∙ h in
       e ∙ rw found
 
-  pub refused-slots : (r : Ran) (refusal : Refusal) → Runs load r → r .answer ≡ Refused refusal → r .count ≡ 0
+  refused-slots : (r : Ran) (refusal : Refusal) → Runs load r → r .answer ≡ Refused refusal → r .count ≡ 0
   refused-slots r refusal e h =
       ap (λ (x : Ran). x .count) e
       ∙ ap length (scheduleOr-refused load refusal (ap (λ (x : Ran). x .answer) (sym e) ∙ h))
+
+pub returned-alone : ReturnedAlone
+returned-alone =
+    record {
+      no-load = refused-load;
+      no-waits = refused-waits;
+      no-bound = refused-bound;
+      no-margins = refused-margins;
+      no-verdict = refused-verdict;
+      no-blames = refused-blames;
+      no-answers = refused-answers;
+      no-slots = refused-slots;
+    }

@@ -1,13 +1,14 @@
--- What C and the program get: a file that is read as a load is not refused, and the load that its bytes spell is that
+-- What C and the programs get: a file that is read as a load is not refused, and the load that its bytes spell is that
 -- load, so that the answer given is that load's.
 use Prim.Native.Nat.{ℕ}
+use mathlib.Core.Bool.{Bool, true, false}
 use mathlib.Core.List.{List, [], _∷_}
 use mathlib.Core.Path.{_≡_, ap, sym, _∙_, subst}
 use Rattle.refusals.specs.declared.Refusal.{Refusal}
 use Rattle.refusals.specs.declared.Checked.the-variants.{Good, Refused}
 use Rattle.refusals.specs.Refusals.{numberOf, numberGiven}
 use Rattle.refusals.specs.FirstMet.{firstFault}
-use Rattle.refusals.specs.Given.{roomFor}
+use Rattle.refusals.specs.Given.{roomFor, WritesOut}
 use Rattle.load.specs.declared.Load.{Load}
 use Rattle.load.specs.View.{View, viewOf}
 use Rattle.load_file.specs.declared.Reading.{Reading}
@@ -17,12 +18,12 @@ use Rattle.load_file.specs.Calls.{ReadLoad}
 use Rattle.load_file.proofs.CallLaws.{ReadLoad-answer, ReadLoad-load}
 use Rattle.rules.specs.Margins.{marginBytes}
 use Rattle.reading_bench.specs.Calls.{Numbered, ForC, boundBytes, verdictBytes, scheduleFile}
-use Rattle.lines.specs.Lines.{printed}
+use Rattle.lines.specs.Lines.{printedBy}
 use Rattle.lines.specs.Calls.{textHolding}
 use Rattle.lines.proofs.PrintedLaws.{text-taken}
-use Rattle.lines.proofs.LengthLaws.{printed-le}
-use Rattle.lines.proofs.PrintedFront.{printed-front}
-use Rattle.demands.specs.HostAnswers.{GivesAnswer, HostAnswers}
+use Rattle.lines.proofs.LengthLaws.{printedBy-le}
+use Rattle.lines.proofs.PrintedFront.{printedBy-front}
+use Rattle.demands.specs.HostAnswers.{GivesAnswer, Prints, HostAnswers}
 
 module _ (bs : List ℕ) (read : Reading) (m : ReadLoad bs read) where
   fault-is : fileFault bs ≡ read .answer
@@ -45,6 +46,18 @@ refused-number answer bs read refusal m e out n after c =
     (c .given .finding-is
     ∙ ap (λ f. firstFault (f ∷ roomFor (answer (viewOf (loadIn bs))) out ∷ [])) (fault-is bs read m ∙ e))
 
+prints : (blamed : Bool)
+    → Prints (printedBy blamed) (λ bs r. r ≡ textHolding (printedBy blamed bs))
+    (λ bs out r after. WritesOut Good (printedBy blamed bs) out r after)
+prints blamed =
+    record {
+      texts = λ bs r e. text-taken (printedBy blamed bs) r e;
+      texts-fit = printedBy-le blamed;
+      fronts = λ bs r e. e ∙ ap textHolding (sym (printedBy-front blamed bs));
+      lines = λ bs out r after p. p .given;
+      lines-counted = λ bs out r after p. p .length-is;
+    }
+
 pub host-answers : HostAnswers
 host-answers =
     record {
@@ -56,9 +69,6 @@ host-answers =
       verdicts-refused = refused-number verdictBytes;
       margins-refused = refused-number marginBytes;
       schedules-refused = refused-number scheduleFile;
-      texts = λ bs r e. text-taken (printed bs) r e;
-      texts-fit = printed-le;
-      fronts = λ bs r e. e ∙ ap textHolding (sym (printed-front bs));
-      lines = λ bs out r after p. p .given;
-      lines-counted = λ bs out r after p. p .length-is;
+      program = prints false;
+      blames = prints true;
     }

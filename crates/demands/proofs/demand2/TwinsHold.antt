@@ -10,8 +10,17 @@ use Rattle.load.specs.declared.Load.{Load}
 use Rattle.load.specs.Load.{mostRows}
 use Rattle.load.specs.Check.{checkLoad}
 use Rattle.rules.specs.SameLoads.{SameLoad}
+use Rattle.rules.specs.Bound.{mostPlaces}
+use Rattle.rules.specs.Blame.{noneLeft, nobody}
 use Rattle.rules.specs.Run.{schedule}
-use Rattle.rules.proofs.bound.SameBound.{viewOf-same, bound-same, margins-same, verdict-same}
+use Rattle.rules.proofs.bound.SameBound.{
+  viewOf-same,
+  bound-same,
+  margins-same,
+  verdict-same,
+  placeWaits-same,
+  blames-same,
+}
 use Rattle.bench.specs.Runs.{scheduleOr, ranWith}
 use Rattle.bench.proofs.running.RunsLaws.{scheduleOr-good}
 use Rattle.bench.proofs.SameMoves.{nextMove-same}
@@ -27,6 +36,13 @@ module _ (a b : Load) (same : SameLoad a b) (ga : checkLoad a ≡ Good) (gb : ch
   same-answers : SameAnswers a b
   same-answers =
       record {
+        place-waits = λ r s p q.
+            p
+            ∙ (λ t. record {
+              answer = one-check t;
+              places = ifGood (one-check t) (placeWaits-same a b same t) (replicate mostPlaces noneLeft);
+            })
+            ∙ sym q;
         bounds = λ r s p q.
             p
             ∙ (λ t. record {
@@ -48,6 +64,14 @@ module _ (a b : Load) (same : SameLoad a b) (ga : checkLoad a ≡ Good) (gb : ch
               margins = ifGood (one-check t) (margins-same a b same t) (replicate mostRows (pos 0));
             })
             ∙ sym q;
+        blames = λ r s p q.
+            p
+            ∙ (λ t. record {
+              answer = one-check t;
+              margins = ifGood (one-check t) (margins-same a b same t) (replicate mostRows (pos 0));
+              blames = ifGood (one-check t) (blames-same a b same t) (replicate mostRows nobody);
+            })
+            ∙ sym q;
         together = λ r s p q.
             p
             ∙ (λ t. record {
@@ -55,6 +79,7 @@ module _ (a b : Load) (same : SameLoad a b) (ga : checkLoad a ≡ Good) (gb : ch
               bound = ifGood (one-check t) (bound-same a b same t) 0;
               margins = ifGood (one-check t) (margins-same a b same t) (replicate mostRows (pos 0));
               verdict = ifGood (one-check t) (verdict-same a b same t) false;
+              blames = ifGood (one-check t) (blames-same a b same t) (replicate mostRows nobody);
             })
             ∙ sym q;
         moves = λ bench r s p q. p ∙ nextMove-same a b same ga gb bench ∙ sym q;

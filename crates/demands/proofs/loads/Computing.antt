@@ -30,7 +30,7 @@ use Rattle.lines.specs.Lines.{
   slotLine,
   loadLines,
   refusedLine,
-  printed,
+  printedBy,
 }
 use Rattle.demands.specs.Notation.{pairs, hex, bytesOf, linesOf}
 
@@ -39,5 +39,5 @@ unfoldable pub computing : ℕ
 unfolding computingRules numberAt text decimalTo zeroLoad rowBytes loadBytes rowWith rowFrom rowPlace loadIn
     headerTests stepFaultIn windowFaultIn ownFault rowFaultAt endTests fileFault readLoad fresh stateAfterBy startsBy
     scheduleBy lastEnd scheduleBytes spaced firstLineOf loadLine rowLineOf rowLine slotLine loadLines refusedLine
-    printed pairs hex bytesOf linesOf
+    printedBy pairs hex bytesOf linesOf
 computing = 0

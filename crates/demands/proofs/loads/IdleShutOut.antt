@@ -17,6 +17,7 @@ use Rattle.load.specs.View.{viewOf}
 use Rattle.load_file.specs.declared.Reading.{Reading}
 use Rattle.rules.specs.Outcomes.{toldBy}
 use Rattle.rules.specs.Margins.{marginAt, margins, marginIn}
+use Rattle.rules.specs.Blame.{nobody, blameAt, blames}
 use Rattle.rules.specs.State.{fresh}
 use Rattle.bound.specs.Calls.{VerdictOf}
 use Rattle.bench.specs.declared.Bench.{Bench}
@@ -30,7 +31,7 @@ use Rattle.demands.specs.LoadA.{loadA}
 use Rattle.demands.specs.LoadB.{loadB}
 use Rattle.demands.specs.SmallLoads.{loadEmpty}
 use Rattle.demands.specs.AllLoads.{SoundHolds}
-use Rattle.demands.specs.IdleBuilds.{fixedVerdict, inventsMargins}
+use Rattle.demands.specs.IdleBuilds.{fixedVerdict, inventsMargins, inventsBlames}
 use Rattle.demands.specs.ShutOut.{ShutOut}
 use Rattle.demands.proofs.loads.Computing.{computing}
 use Rattle.demands.proofs.loads.LoadsHold.{a-holds, b-holds, empty-holds}
@@ -66,6 +67,10 @@ a-end = refl
 a-margin : marginIn (margins (viewOf (loadA .load))) 0 ≡ pos 1
 unfolding computing margins loadA
 a-margin = refl
+
+a-blame : getD (blames (viewOf (loadA .load))) 0 nobody ≡ record { place = 1; row = 1 }
+unfolding computing blames loadA
+a-blame = refl
 
 a-second : startsIn (nextMove (loadA .load) (first (loadA .load) .bench)) ≡ 1
 unfolding computing nextMove benchOf loadA
@@ -109,6 +114,11 @@ b-yes = refl
 margins-at : (load : Load) (i : ℕ) → i < mostRows → marginIn (margins (viewOf load)) i ≡ marginAt (viewOf load) i
 unfolding margins
 margins-at load i l = getD-listTo (marginAt (viewOf load)) mostRows i (pos 0) l
+
+-- and the blame
+blames-at : (load : Load) (i : ℕ) → i < mostRows → getD (blames (viewOf load)) i nobody ≡ blameAt (viewOf load) i
+unfolding blames
+blames-at load i l = getD-listTo (blameAt (viewOf load)) mostRows i nobody l
 
 -- a relation at a fresh bench
 module _ (load : Load) (bench : Bench) (f : Fresh bench) (r : Moved) (m : NextMove load bench r) where
@@ -171,4 +181,13 @@ shut-out =
           (ap (λ ms. marginIn ms 0)
           (demand2 .margins-are (loadA .load) (inventsMargins given (loadA .load)) m (a-holds .checks))
           ∙ a-margin);
+      invents-blames = λ load good given i l ne m.
+          ne
+          (ap (λ bs. getD bs i nobody) (demand2 .blames-are load (inventsBlames given load) m (sym good))
+          ∙ blames-at load i l);
+      blame-of-one = λ given ne m.
+          ne
+          (ap (λ bs. getD bs 0 nobody)
+          (demand2 .blames-are (loadA .load) (inventsBlames given (loadA .load)) m (a-holds .checks))
+          ∙ a-blame);
     }

@@ -2,7 +2,8 @@
 use mathlib.Core.Path.{refl}
 use Rattle.demands.specs.LoadsToTry.{answersFor, glimpseAfter}
 use Rattle.demands.specs.LoadA.{loadA}
-use Rattle.demands.specs.LoadB.{loadB, loadB9}
+use Rattle.demands.specs.LoadB.{loadB}
+use Rattle.demands.specs.LoadB9.{loadB9}
 use Rattle.demands.specs.LoadPhase.{loadPhase8, loadPhase7}
 use Rattle.demands.specs.SmallLoads.{loadUnequal, loadWaits0, loadEmpty}
 use Rattle.demands.specs.FaultyLoads.{loadB7, loadTwins, loadTwinsInOneBox}
@@ -21,6 +22,7 @@ a-holds =
       margined = refl;
       scheduled = refl;
       prints = refl;
+      prints-blames = refl;
     }
 
 pub b-holds : SoundHolds loadB
@@ -35,6 +37,7 @@ b-holds =
       margined = refl;
       scheduled = refl;
       prints = refl;
+      prints-blames = refl;
     }
 
 b9-holds : SoundHolds loadB9
@@ -49,6 +52,7 @@ b9-holds =
       margined = refl;
       scheduled = refl;
       prints = refl;
+      prints-blames = refl;
     }
 
 phase8-holds : SoundHolds loadPhase8
@@ -63,6 +67,7 @@ phase8-holds =
       margined = refl;
       scheduled = refl;
       prints = refl;
+      prints-blames = refl;
     }
 
 phase7-holds : SoundHolds loadPhase7
@@ -77,6 +82,7 @@ phase7-holds =
       margined = refl;
       scheduled = refl;
       prints = refl;
+      prints-blames = refl;
     }
 
 unequal-holds : SoundHolds loadUnequal
@@ -91,6 +97,7 @@ unequal-holds =
       margined = refl;
       scheduled = refl;
       prints = refl;
+      prints-blames = refl;
     }
 
 waits0-holds : SoundHolds loadWaits0
@@ -105,6 +112,7 @@ waits0-holds =
       margined = refl;
       scheduled = refl;
       prints = refl;
+      prints-blames = refl;
     }
 
 pub empty-holds : SoundHolds loadEmpty
@@ -119,19 +127,20 @@ empty-holds =
       margined = refl;
       scheduled = refl;
       prints = refl;
+      prints-blames = refl;
     }
 
 b7-holds : FaultyHolds loadB7
 unfolding computing loadB7
-b7-holds = record { reads = refl; checks = refl; numbered = refl; prints = refl }
+b7-holds = record { reads = refl; checks = refl; numbered = refl; prints = refl; prints-blames = refl }
 
 twins-holds : FaultyHolds loadTwins
 unfolding computing loadTwins
-twins-holds = record { reads = refl; checks = refl; numbered = refl; prints = refl }
+twins-holds = record { reads = refl; checks = refl; numbered = refl; prints = refl; prints-blames = refl }
 
 one-box-holds : FaultyHolds loadTwinsInOneBox
 unfolding computing loadTwinsInOneBox
-one-box-holds = record { reads = refl; checks = refl; numbered = refl; prints = refl }
+one-box-holds = record { reads = refl; checks = refl; numbered = refl; prints = refl; prints-blames = refl }
 
 -- all of them, in the list's order
 pub loads-hold : LoadsHold

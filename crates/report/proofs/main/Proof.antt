@@ -1,24 +1,21 @@
 -- `report::main` writes as much of the text as it counts, which is no more than there is.
-use Prim.Native.Nat.{ℕ, _≤_}
-use mathlib.Core.List.{List}
+use Prim.Native.Nat.{_≤_}
 use mathlib.Core.Path.{sym}
-use native.Mathlib.Omega.{arith}
 use borrow.Author.Needs.{needs}
 use lib.ListN.{length, take}
-use lib.Seq.{length-take-le, take-all}
-use Rattle.lines.proofs.CallLaws.{TextOf-length-le}
-use Rattle.report.specs.Program.{FirstOf}
+use lib.Seq.{length-take-le}
+use Rattle.lines.specs.Lines.{printed}
+use Rattle.lines.proofs.CallLaws.{text-length-le}
+use Rattle.lines.proofs.PrintedFront.{first-whole}
 use Rattle.report.proofs.main.Statement.{statement}
 use Rattle.report.proofs.main.Tie as tie
-
--- what was read may be the whole input
-whole : (places : List ℕ) (size : ℕ) → size ≤ length places → FirstOf (take size places) places size
-whole places size h = sym (take-all (length places) (take size places) (omega (arith, length-take-le size places h)))
 
 there : (c : tie.After-answer) → c .answer .result .length ≤ length (c .answer .result .bytes)
 there c =
     let read = c .before .before .read-full in
-    TextOf-length-le _ _ (c .answer .ensures _ (whole (read .last .1 .0) (read .result) (read .ensures .0)))
+    let file = read .last .1 .0 in
+    let size = read .result in
+    text-length-le (printed (take size file)) _ (c .answer .ensures _ (first-whole file size (read .ensures .0)))
 
 pub main-spec : {M : Type 1} → statement M
 main-spec =

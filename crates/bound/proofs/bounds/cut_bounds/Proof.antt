@@ -4,12 +4,15 @@ use Prim.Native.Nat.{_+_, _-_, _≤_}
 use mathlib.Core.Path.{_≡_, sym, _∙_, ap}
 use native.Mathlib.Omega.{arith}
 use borrow.Author.Needs.{needs}
+use Rattle.counting.specs.Sums.{sumTo}
 use Rattle.counting.specs.Lists.{filled, memberAt}
 use Rattle.counting.proofs.lists.ListLaws.{filled-none, filled-stored, filled-all, getD-listTo}
 use Rattle.load.specs.View.{viewOf}
-use Rattle.rules.specs.Bound.{largestPhase}
+use Rattle.rules.specs.Bound.{largestPhase, largestW, smallestCosts}
+use Rattle.rules.specs.Blame.{placeWaits}
 use Rattle.bound.specs.inner.CutTerms.{waitsBelow, boundAt}
 use Rattle.bound.proofs.AcceptedLaws.{cut-bound-is, cut-bound-le}
+use Rattle.bound.proofs.PlacesRead.{waitsBelow-is}
 use Rattle.bound.proofs.bounds.cut_bounds.Statement.{statement}
 use Rattle.bound.proofs.bounds.cut_bounds.Tie as tie
 
@@ -34,8 +37,10 @@ total c =
     let e : k + 1 - 1 ≡ k = omega arith in
     omega (
       arith,
-      ap (λ l. memberAt l k) (start .pre .1) ∙ getD-listTo (waitsBelow L) 8 k 0 (omega arith),
-      ap (waitsBelow L) e,
+      ap (λ l. memberAt l k) (start .pre .1)
+          ∙ getD-listTo (waitsBelow (placeWaits L)) 8 k 0 (omega arith)
+          ∙ waitsBelow-is L k (omega arith),
+      ap (sumTo (largestW smallestCosts L)) e,
       cut-bound-is L (start .pre .0) (k + 1) (omega arith),
     )
 

@@ -5,12 +5,11 @@ use native.Mathlib.Omega.{arith}
 use borrow.Author.Needs.{needs}
 use lib.ListN.{length}
 use Rattle.counting.specs.Lists.{joinTo, joinIn}
-use Rattle.load.specs.Load.{shown, rowAt}
 use Rattle.load.specs.View.{viewOf}
-use Rattle.rules.specs.Margins.{marginIn}
 use Rattle.rules.specs.Run.{schedule}
-use Rattle.lines.specs.Lines.{rowLine, rowLineOf, slotLine, loadLines}
+use Rattle.lines.specs.Lines.{rowLine, slotLine, loadLines}
 use Rattle.lines.specs.Calls.{rowMost}
+use Rattle.lines.specs.inner.Puts.{rowLineBy}
 use Rattle.lines.proofs.PutLaws.{put-more, put-same}
 use Rattle.lines.proofs.AnswerLaws.{answers-told, rowLines-told}
 use Rattle.lines.proofs.ScheduledLaws.{joinIn-taken, rows-few}
@@ -20,11 +19,11 @@ use Rattle.lines.proofs.gather.put_lines.Tie as tie
 
 -- what one call told, before the first line was put
 abbrev told : tie.After-put-head → tie.After-answers-of
-told c = c .before .before .before
+told c = c .before .before .before .before
 
 head-asks : tie.Need-put-head-requires
 head-asks c κs =
-    let answered = c .before .before in
+    let answered = c .before .before .before in
     let start = answered .before .before in
     (start .pre, answers-told (start .args .load) (start .pre .accepted) _ (answered .answers-of .ensures))
 
@@ -37,16 +36,17 @@ rows-ask c κs =
       rows-few _ _ _ (start .pre),
     )
 
--- the row lines, of the margins that were told
+-- the row lines, of the margins and blames that were told
 rows-put : (c : tie.After-put-rows)
     → let head = c .before .before .before .before in
-    let load = told head .before .before .args .load in
-    joinTo (λ i. rowLineOf (shown i) (rowAt load i) (marginIn (told head .answers-of .result .margins) i)) (load .rows)
-    ≡ joinTo (rowLine load) (load .rows)
+    let args = told head .before .before .args in
+    let answered = told head .answers-of .result in
+    joinTo (rowLineBy (args .blamed) (args .load) (answered .margins) (answered .blames)) (args .load .rows)
+    ≡ joinTo (rowLine (args .blamed) (args .load)) (args .load .rows)
 rows-put c =
     let head = c .before .before .before .before in
     let start = told head .before .before in
-    rowLines-told (start .args .load) (start .pre .accepted) _ (told head .answers-of .ensures)
+    rowLines-told (start .args .load) (start .pre .accepted) _ (told head .answers-of .ensures) (start .args .blamed)
 
 slots-ask : tie.Need-put-slots-requires
 slots-ask c κs =
@@ -61,7 +61,7 @@ slots-ask c κs =
         loadLine-le L (schedule L),
         rows .put-rows .ensures .place-is,
         ap length (rows-put rows),
-        joinTo-le (rowLine load) rowMost (load .rows) (rowLine-le load),
+        joinTo-le (rowLine (start .args .blamed) load) rowMost (load .rows) (rowLine-le (start .args .blamed) load),
         rows-few _ _ _ (start .pre),
       ),
       start .pre .few,

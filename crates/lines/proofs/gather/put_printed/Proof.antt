@@ -21,7 +21,7 @@ good : tie.Need-returns
 good c =
     let made = c .before .before in
     let told = made .before .before in
-    put-same (read-lines _ _ (told .before .before .read-load .ensures) (told .enum-told .given .1))
+    put-same (read-lines _ _ _ (told .before .before .read-load .ensures) (told .enum-told .given .1))
     (made .put-load .ensures)
 
 refused : tie.Need-returns-2
@@ -29,7 +29,7 @@ refused c =
     let made = c .before .before in
     let told = made .before .before in
     let read = told .before .before .before in
-    put-same (read-refused _ _ (read .read-load .ensures) _ (told .before .answer .given .1))
+    put-same (read-refused _ _ _ (read .read-load .ensures) _ (told .before .answer .given .1))
     (made .put-refused .ensures)
 
 pub put-printed-spec : {M : Type 1} → statement M

@@ -1,39 +1,33 @@
--- `lines::gather::put_rows` puts one row line a turn, each of at most 49 bytes, behind those before it.
-use Prim.Native.Nat.{ℕ, _+_, _-_, _*_, _≤_}
-use mathlib.Core.List.{List}
+-- `lines::gather::put_rows` puts one row line a turn, each of at most 71 bytes, behind those before it.
+use Prim.Native.Nat.{_+_, _-_, _*_, _≤_}
 use mathlib.Core.Path.{_≡_, refl, ap, _∙_}
 use native.Mathlib.Omega.{arith}
 use borrow.Author.Needs.{needs}
-use lib.IntN.{ℤ}
-use lib.ListN.{length}
+use lib.ListN.{getD, length}
 use mir.Facts.{toZ-ofZ}
 use mir.Syntax.{w32}
 use mir.Val.{SFits}
 use Rattle.counting.specs.Lists.{joinTo}
-use Rattle.load.specs.declared.Load.{Load}
 use Rattle.load.specs.Load.{shown, rowAt}
 use Rattle.rules.specs.Margins.{marginIn}
+use Rattle.rules.specs.Blame.{nobody}
 use Rattle.bound.proofs.SignLaws.{each-fits}
-use Rattle.lines.specs.Lines.{rowLineOf}
-use Rattle.lines.specs.inner.Puts.{Put}
+use Rattle.lines.specs.Lines.{blameWords, rowLineOf}
+use Rattle.lines.specs.inner.Puts.{rowLineBy, Put}
 use Rattle.lines.proofs.PutLaws.{put-same, put-none, put-next}
 use Rattle.lines.proofs.LengthLaws.{rowLineOf-le}
 use Rattle.lines.proofs.gather.put_rows.Statement.{statement}
 use Rattle.lines.proofs.gather.put_rows.Tie as tie
 
--- the line of the row at a place
-abbrev lineAt : Load → List ℤ → ℕ → List ℕ
-lineAt load margins i = rowLineOf (shown i) (rowAt load i) (marginIn margins i)
-
 abbrev Inv-loop : tie.InvT-loop
-Inv-loop text₀ at load margins rows next₀ i₀ text next i =
+Inv-loop text₀ at blamed load margins blames rows next₀ i₀ text next i =
     (i ≤ rows)
-    × (next ≤ at + 49 * i)
+    × (next ≤ at + 71 * i)
     × (length text ≡ length text₀)
-    × Put text₀ at (joinTo (lineAt load margins) i) text next
+    × Put text₀ at (joinTo (rowLineBy blamed load margins blames) i) text next
 
 abbrev μ-loop : tie.MeasureT-loop
-μ-loop text₀ at load margins rows next₀ i₀ text next i = rows - i
+μ-loop text₀ at blamed load margins blames rows next₀ i₀ text next i = rows - i
 
 starts : tie.Need-loop-holds Inv-loop μ-loop
 starts c = (search needs, search needs, refl, put-none _ _ _)
@@ -48,16 +42,23 @@ fits c =
 goes-on : tie.Need-loop-again Inv-loop μ-loop
 goes-on c =
     let made = c .before .before in
-    let turn = made .before .before .before .before .before in
+    let turn = made .before .before .before .before .before .before in
     let load = turn .before .before .args .t3 in
     let margins = turn .before .before .args .t4 in
+    let blamed = turn .before .before .args .blamed in
+    let blames = turn .before .before .args .t6 in
     let i = turn .loop .i in
-    let same = ap (rowLineOf (shown i) (rowAt load i)) (toZ-ofZ (fits turn)) in
+    let more = blameWords blamed (getD blames i nobody) in
+    let same = ap (λ z. rowLineOf (shown i) (rowAt load i) z more) (toZ-ofZ (fits turn)) in
     let put = put-same same (made .put-row .ensures) in (
       search needs,
-      omega (arith, put .place-is, rowLineOf-le (shown i) (rowAt load i) (marginIn margins i)),
+      omega (
+        arith,
+        put .place-is,
+        rowLineOf-le (shown i) (rowAt load i) (marginIn margins i) blamed (getD blames i nobody),
+      ),
       made .put-row .kept .0 ∙ turn .loop .inv .2,
-      put-next (lineAt load margins) i (turn .loop .inv .3) put,
+      put-next (rowLineBy blamed load margins blames) i (turn .loop .inv .3) put,
     )
 
 ends : tie.Need-returns Inv-loop μ-loop
@@ -75,6 +76,8 @@ put-rows-spec =
     μ-loop
     (λ c. search needs)
     starts
+    (λ c. search needs)
+    (λ c. search needs)
     (λ c. search needs)
     (λ c. search needs)
     (λ c. search needs)
