@@ -76,70 +76,11 @@ uint32_t largest_phase(const struct load *load)
     return largest;
 }
 
-/* The costs that the other rows give at a place: steps j and j+1 both there and both free. */
-static unsigned costs_beside(const struct load *load, unsigned i, unsigned j, uint32_t *costs)
-{
-    unsigned count = 0;
-    for (unsigned other = 1; other <= load->row_count; other++) {
-        const struct row *row = row_of(load, other);
-        if (other == i || !is_free(row, j) || !is_free(row, j + 1))
-            continue;
-        costs[count++] = step_of(row, j)->cost;
-        costs[count++] = step_of(row, j + 1)->cost;
-    }
-    return count;
-}
-
-/* Puts the cost at `place` among the sorted ones before it. */
-static void sort_in(uint32_t *costs, unsigned place)
-{
-    for (; place > 0 && costs[place - 1] > costs[place]; place--) {
-        uint32_t larger = costs[place - 1];
-        costs[place - 1] = costs[place];
-        costs[place] = larger;
-    }
-}
-
-static void sort_costs(uint32_t *costs, unsigned count)
-{
-    for (unsigned place = 1; place < count; place++)
-        sort_in(costs, place);
-}
-
-static uint32_t sum_of(const uint32_t *costs, unsigned count)
-{
-    uint32_t sum = 0;
-    for (unsigned place = 0; place < count; place++)
-        sum += costs[place];
-    return sum;
-}
-
-/* W of row i at place j: its wait less the r smallest of the 2r costs beside it. */
-uint32_t w_of(const struct load *load, unsigned i, unsigned j)
-{
-    uint32_t costs[2 * MOST_ROWS];
-    unsigned count = costs_beside(load, i, j, costs);
-    sort_costs(costs, count);
-    uint32_t spent = sum_of(costs, count / 2);
-    uint32_t wait = step_of(row_of(load, i), j)->wait;
-    return wait > spent ? wait - spent : 0;
-}
-
-/* The wait after step j is free when step j+1 is there and free; step j itself may be embedded. */
-uint32_t largest_w(const struct load *load, unsigned j)
-{
-    uint32_t largest = 0;
-    for (unsigned i = 1; i <= load->row_count; i++)
-        if (is_free(row_of(load, i), j + 1) && w_of(load, i, j) > largest)
-            largest = w_of(load, i, j);
-    return largest;
-}
-
 static uint32_t all_largest_w(const struct load *load)
 {
     uint32_t sum = 0;
-    for (unsigned j = 1; j < MOST_STEPS; j++)
-        sum += largest_w(load, j);
+    for (unsigned j = 1; j <= MOST_PLACES; j++)
+        sum += largest_w(load, j).w;
     return sum;
 }
 
@@ -155,9 +96,15 @@ enum refusal bound_of(const struct load *load, uint32_t *bound)
     return refusal;
 }
 
+/* The load as it is cut for a row: at that row's own steps. */
+static struct load cut_for(const struct load *load, unsigned row)
+{
+    return cut_load(load, row_of(load, row)->step_count);
+}
+
 static uint32_t row_bound(const struct load *load, unsigned row)
 {
-    struct load cut = cut_load(load, row_of(load, row)->step_count);
+    struct load cut = cut_for(load, row);
     return four_terms(&cut);
 }
 
@@ -179,6 +126,31 @@ enum refusal margins_of(const struct load *load, int32_t margins[MOST_ROWS])
     for (unsigned row = 1; row <= MOST_ROWS; row++) {
         int32_t deadline = refusal == ACCEPTED ? (int32_t)row_of(load, row)->deadline : 0;
         margins[row - 1] = deadline - (int32_t)bounds[row - 1];
+    }
+    return refusal;
+}
+
+enum refusal places_of(const struct load *load, struct place_w places[MOST_PLACES])
+{
+    enum refusal refusal = check_load(load);
+    for (unsigned j = 1; j <= MOST_PLACES; j++)
+        places[j - 1] = refusal == ACCEPTED ? largest_w(load, j) : (struct place_w){0, 0};
+    return refusal;
+}
+
+/* The cut drops no row, so that a row has its number in the cut load too. */
+static struct blame row_blame(const struct load *load, unsigned row)
+{
+    struct load cut = cut_for(load, row);
+    return blame_of(&cut);
+}
+
+enum refusal blames_of(const struct load *load, struct blame blames[MOST_ROWS])
+{
+    enum refusal refusal = check_load(load);
+    for (unsigned row = 1; row <= MOST_ROWS; row++) {
+        bool there = refusal == ACCEPTED && row <= load->row_count;
+        blames[row - 1] = there ? row_blame(load, row) : (struct blame){0, 0};
     }
     return refusal;
 }

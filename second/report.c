@@ -9,6 +9,7 @@ struct answers {
     uint32_t bound;
     bool verdict;
     int32_t margins[MOST_ROWS];
+    struct blame blames[MOST_ROWS];
     struct run run;
 };
 
@@ -19,6 +20,8 @@ static enum refusal answers_of(const uint8_t *bytes, size_t length, struct answe
         refusal = bound_of(&answers->load, &answers->bound);
     if (refusal == ACCEPTED)
         refusal = margins_of(&answers->load, answers->margins);
+    if (refusal == ACCEPTED)
+        refusal = blames_of(&answers->load, answers->blames);
     if (refusal == ACCEPTED)
         refusal = verdict_of(&answers->load, &answers->verdict);
     if (refusal == ACCEPTED) {
@@ -40,13 +43,21 @@ static void print_load_line(FILE *out, const struct answers *answers)
             word_of(answers->verdict));
 }
 
-static void print_row_lines(FILE *out, const struct answers *answers)
+static void print_row_line(FILE *out, const struct answers *answers, unsigned row, bool blaming)
 {
-    for (unsigned row = 1; row <= answers->load.row_count; row++) {
-        const struct row *line = row_of(&answers->load, row);
-        fprintf(out, "row %u %lu %lu %ld\n", row, (unsigned long)line->identifier.number,
-                (unsigned long)line->box.number, (long)answers->margins[row - 1]);
-    }
+    const struct row *line = row_of(&answers->load, row);
+    const struct blame *blame = &answers->blames[row - 1];
+    fprintf(out, "row %u %lu %lu %ld", row, (unsigned long)line->identifier.number,
+            (unsigned long)line->box.number, (long)answers->margins[row - 1]);
+    if (blaming)
+        fprintf(out, " %u %u", blame->place, blame->row);
+    fputc('\n', out);
+}
+
+static void print_row_lines(FILE *out, const struct answers *answers, bool blaming)
+{
+    for (unsigned row = 1; row <= answers->load.row_count; row++)
+        print_row_line(out, answers, row, blaming);
 }
 
 static void print_slot_lines(FILE *out, const struct run *run)
@@ -57,7 +68,7 @@ static void print_slot_lines(FILE *out, const struct run *run)
     }
 }
 
-void print_report(FILE *out, const uint8_t *bytes, size_t length)
+static void print_lines(FILE *out, const uint8_t *bytes, size_t length, bool blaming)
 {
     struct answers answers = {0};
     enum refusal refusal = answers_of(bytes, length, &answers);
@@ -66,8 +77,18 @@ void print_report(FILE *out, const uint8_t *bytes, size_t length)
         return;
     }
     print_load_line(out, &answers);
-    print_row_lines(out, &answers);
+    print_row_lines(out, &answers, blaming);
     print_slot_lines(out, &answers.run);
+}
+
+void print_report(FILE *out, const uint8_t *bytes, size_t length)
+{
+    print_lines(out, bytes, length, false);
+}
+
+void print_blame(FILE *out, const uint8_t *bytes, size_t length)
+{
+    print_lines(out, bytes, length, true);
 }
 
 static void print_margins(FILE *out, const struct answers *answers)
@@ -98,5 +119,36 @@ void print_answers(FILE *out, const uint8_t *bytes, size_t length)
         fprintf(out, " end %lu", (unsigned long)answers.run.end);
         print_slots(out, &answers.run);
     }
+    fputc('\n', out);
+}
+
+static void print_waits(FILE *out, const struct load *load)
+{
+    struct place_w places[MOST_PLACES];
+    places_of(load, places);
+    fputs("waits", out);
+    for (unsigned j = 1; j <= MOST_PLACES; j++)
+        fprintf(out, " %lu:%u", (unsigned long)places[j - 1].w, places[j - 1].row);
+}
+
+static void print_blames(FILE *out, const struct load *load)
+{
+    struct blame blames[MOST_ROWS];
+    blames_of(load, blames);
+    fputs(" blames", out);
+    for (unsigned row = 1; row <= MOST_ROWS; row++)
+        fprintf(out, " %u:%u", blames[row - 1].place, blames[row - 1].row);
+}
+
+void print_places(FILE *out, const uint8_t *bytes, size_t length)
+{
+    struct load load;
+    enum refusal refusal = read_load(bytes, length, &load);
+    if (refusal != ACCEPTED) {
+        fprintf(out, "refused %d\n", (int)refusal);
+        return;
+    }
+    print_waits(out, &load);
+    print_blames(out, &load);
     fputc('\n', out);
 }

@@ -6,12 +6,20 @@
 
 #include "load_file.h"
 
-/* The program's lines: load, rows, slots; or `refused` and the number. */
+/* The lines of the first program: load, rows, slots; or `refused` and the number. */
 void print_report(FILE *out, const uint8_t *bytes, size_t length);
+
+/* Those of the program that blames: the same, with its blame's place and row behind each row
+   line. */
+void print_blame(FILE *out, const uint8_t *bytes, size_t length);
 
 /* The same answers on one line, for comparing many files:
    NUMBER, and where it is 0:
    ` bound N verdict yes|no margins N... end N slots START,ROW,STEP...` */
 void print_answers(FILE *out, const uint8_t *bytes, size_t length);
+
+/* Every largest W and every blame on one line, those of rows not there too:
+   `waits`, 7 x ` W:ROW`, ` blames`, 24 x ` PLACE:ROW`; or `refused` and the number. */
+void print_places(FILE *out, const uint8_t *bytes, size_t length);
 
 #endif

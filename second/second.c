@@ -19,6 +19,8 @@ struct load_input {
 
 static const char HELP[] =
     "second report            a load file on standard input: prints its report\n"
+    "second blame             a load file on standard input: prints its report, and behind each\n"
+    "                         row line the place and the row that are to blame for its bound\n"
     "second answers FILE...   a line for each load file: its number, and where it is 0\n"
     "                         bound N verdict yes|no margins N... end N slots START,ROW,STEP...\n"
     "second values            a load file on standard input: its records in hex and every number\n"
@@ -62,27 +64,11 @@ static bool take_file(const char *name, struct load_input *input)
     return true;
 }
 
-static int report_input(void)
+static int print_of_input(void (*print)(FILE *, const uint8_t *, size_t))
 {
     struct load_input input;
     take_input(stdin, &input);
-    print_report(stdout, input.bytes, input.length);
-    return GOOD;
-}
-
-static int values_of_input(void)
-{
-    struct load_input input;
-    take_input(stdin, &input);
-    print_values(stdout, input.bytes, input.length);
-    return GOOD;
-}
-
-static int terms_of_input(void)
-{
-    struct load_input input;
-    take_input(stdin, &input);
-    print_terms(stdout, input.bytes, input.length);
+    print(stdout, input.bytes, input.length);
     return GOOD;
 }
 
@@ -175,11 +161,13 @@ static int answer(int count, char **words)
 {
     const char *command = count < 2 ? "" : words[1];
     if (count == 2 && strcmp(command, "report") == 0)
-        return report_input();
+        return print_of_input(print_report);
+    if (count == 2 && strcmp(command, "blame") == 0)
+        return print_of_input(print_blame);
     if (count == 2 && strcmp(command, "values") == 0)
-        return values_of_input();
+        return print_of_input(print_values);
     if (count == 2 && strcmp(command, "terms") == 0)
-        return terms_of_input();
+        return print_of_input(print_terms);
     if (count == 2 && strcmp(command, "schedule") == 0)
         return write_input_schedule();
     if (count == 2 && strcmp(command, "answer-trials") == 0)

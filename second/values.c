@@ -85,7 +85,8 @@ static bool has_place(const struct load *load, unsigned j)
 
 static void print_place(FILE *out, const struct load *load, unsigned j)
 {
-    fprintf(out, "place %u W %lu of", j, (unsigned long)largest_w(load, j));
+    struct place_w largest = largest_w(load, j);
+    fprintf(out, "place %u W %lu row %u of", j, (unsigned long)largest.w, largest.row);
     for (unsigned row = 1; row <= load->row_count; row++) {
         if (is_free(row_of(load, row), j + 1))
             fprintf(out, " %lu", (unsigned long)w_of(load, row, j));

@@ -9,7 +9,8 @@
 void print_values(FILE *out, const uint8_t *bytes, size_t length);
 
 /* The bound's terms, one a line: `costs N`, `phase N`, `embedded N`, and for each place up to the
-   longest row's last but one `place J W N of W...`, row by row, `-` where the wait is not free. */
+   longest row's last but one `place J W N row ROW of W...`: its largest W and the row that has it,
+   then W row by row, `-` where the wait is not free. */
 void print_terms(FILE *out, const uint8_t *bytes, size_t length);
 
 #endif

@@ -31,6 +31,7 @@ int main(void)
     struct tally tally = {0, 0};
     load_cases(&tally);
     bound_cases(&tally);
+    blame_cases(&tally);
     bench_cases(&tally);
     schedule_cases(&tally);
     call_cases(&tally);

@@ -22,6 +22,7 @@ struct load load_two_windows(void);
 void load_cases(struct tally *tally);
 void bench_cases(struct tally *tally);
 void bound_cases(struct tally *tally);
+void blame_cases(struct tally *tally);
 void schedule_cases(struct tally *tally);
 void call_cases(struct tally *tally);
 

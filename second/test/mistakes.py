@@ -13,7 +13,7 @@ import sys
 import tempfile
 
 HERE = os.path.dirname(os.path.dirname(os.path.abspath(__file__)))
-PARTS = ("load load_file bound plan bench schedule report notation lent values asked trials"
+PARTS = ("load load_file waits bound plan bench schedule report notation lent values asked trials"
          " calls second")
 MOST_SECONDS = 10
 PART_BYTES = 1 << 16
@@ -112,29 +112,31 @@ MISTAKES = [
      "get_2(fields) != steps_of(load)",
      "fields[0] != (steps_of(load) & 0xFF)"),
     ("bytes may follow", "load_file.c", " || reader->at != reader->length", ""),
-    ("pairing without step j+1", "bound.c", " || !is_free(row, j + 1))", ")"),
-    ("pairing with an embedded step j", "bound.c", "!is_free(row, j) || ", ""),
+    ("pairing without step j+1", "waits.c", " || !is_free(row, j + 1))", ")"),
+    ("pairing with an embedded step j", "waits.c", "!is_free(row, j) || ", ""),
     ("a window cut in two", "bound.c",
      "while (kept < row->step_count && is_embedded(row, kept + 1))",
      "while (false)"),
     ("nothing cut", "bound.c",
      "cut_load(load, row_of(load, row)->step_count)",
      "cut_load(load, MOST_STEPS)"),
-    ("all 2r costs taken", "bound.c", "sum_of(costs, count / 2)", "sum_of(costs, count)"),
-    ("the r largest taken", "bound.c",
+    ("all 2r costs taken", "waits.c", "sum_of(costs, count / 2)", "sum_of(costs, count)"),
+    ("the r largest taken", "waits.c",
      "costs[place - 1] > costs[place]",
      "costs[place - 1] < costs[place]"),
-    ("the row pairs with itself", "bound.c", "other == i || ", ""),
-    ("W only where step j is free", "bound.c",
+    ("the row pairs with itself", "waits.c", "other == i || ", ""),
+    ("W only where step j is free", "waits.c",
      "if (is_free(row_of(load, i), j + 1)",
      "if (is_free(row_of(load, i), j) && is_free(row_of(load, i), j + 1)"),
-    ("W of embedded waits too", "bound.c",
+    ("W of embedded waits too", "waits.c",
      "if (is_free(row_of(load, i), j + 1)",
      "if (j < row_of(load, i)->step_count"),
     ("phases added up", "bound.c",
      "if (row_of(load, row)->phase > largest)\n            largest = ",
      "largest += "),
-    ("W of the last place left out", "bound.c", "j < MOST_STEPS; j++", "j < MOST_STEPS - 1; j++"),
+    ("W of the last place left out", "bound.c",
+     "j <= MOST_PLACES; j++)\n        sum",
+     "j < MOST_PLACES; j++)\n        sum"),
     ("embedded waits left out", "bound.c", " + all_embedded_waits(load)", ""),
     ("all waits added", "bound.c", "if (is_embedded(row, step + 1))", "if (true)"),
     ("margin 0 refused", "bound.c",

@@ -58,7 +58,7 @@ for figure in 3 4 5 6 7 8; do
         line=$(row "$figure" "$place")
         ours=$(cells "$line" | sed -n 2p)
         same "figure $figure, place $place" "$ours" \
-            "$(sed -n "s/^place $place W [0-9]* of //p" "$work/terms" | tr - .)"
+            "$(sed -n "s/^place $place W [0-9]* row [0-9]* of //p" "$work/terms" | tr - .)"
         beside "figure $figure, place $place" "$(cells "$line" | sed -n 1p)" "$ours"
     done
 done

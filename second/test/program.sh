@@ -11,6 +11,7 @@ fails() {
     same "$what" "2 " "$? $found"
 }
 
+"$second" load < /dev/null > "$work/none"
 "$second" load > "$work/a" <<'ROWS'
 # Load A, with an empty line and no second colon.
 
@@ -31,6 +32,41 @@ slot 640 1 2
 slot 680 2 2
 slot 1280 1 3' "$("$second" load < "$(dirname "$0")/../rack.txt" | "$second" report)"
 
+same "A's blames" 'load 3 6 15 19 no
+row 1 101 201 1 1 1
+row 2 102 202 0 1 1
+row 3 103 203 -1 1 1
+slot 0 1 1
+slot 2 2 1
+slot 3 3 1
+slot 7 2 2
+slot 9 3 2
+slot 12 1 2
+.' "$("$second" blame < "$work/a" && echo .)"
+
+# Where the cut decides: rows of 2, 4 and 1 steps.
+"$second" load > "$work/cut" <<'ROWS'
+101 201 0 1000000 : 1 w4 1
+102 202 0 1000000 : 1 w2 1 w3 1 w20 1
+103 203 0 1000000 : 3
+ROWS
+same 'blames by the cut' 'row 1 101 201 999990 1 1
+row 2 102 202 999965 3 2
+row 3 103 203 999995 0 0' "$("$second" blame < "$work/cut" | grep '^row')"
+same 'terms with their rows' 'costs 9
+phase 0
+embedded 0
+place 1 W 3 row 1 of 3 1 -
+place 2 W 3 row 2 of - 3 -
+place 3 W 20 row 2 of - 20 -' "$("$second" terms < "$work/cut")"
+
+# Without their last two numbers the row lines are the report's, and so are all other lines.
+for load in "$loads"/*; do
+    "$second" load < "$load" > "$work/load"
+    same "blame and report: ${load##*/}" "$("$second" report < "$work/load")" \
+        "$("$second" blame < "$work/load" | sed '/^row / s/ [0-7] [0-9]*$//')"
+done
+
 # An output that takes nothing is told in a line, and by the exit status.
 told=$("$second" report < "$work/a" 2>&1 > /dev/full)
 same 'a full output' '2 second: standard output: No space left on device' "$? $told"
@@ -40,17 +76,18 @@ same 'a byte follows' 'refused 8' "$({ cat "$work/a"; printf '\0'; } | "$second"
 same 'much follows' 'refused 8' \
     "$({ cat "$work/a"; head -c 100000 /dev/zero; } | "$second" report)"
 same 'no load at all' 'refused 2' "$(head -c 100000 /dev/zero | "$second" report)"
-same 'no rows' 'load 0 0 0 0 yes' "$("$second" load < /dev/null | "$second" report)"
+same 'no rows' 'load 0 0 0 0 yes' "$("$second" report < "$work/none")"
 
+same 'blames of a refused file' 'refused 1' "$("$second" blame < /dev/null)"
+same 'blames of no rows' 'load 0 0 0 0 yes' "$("$second" blame < "$work/none")"
 same "A's terms" 'costs 11
 phase 0
 embedded 0
-place 1 W 8 of 8 1 0' "$("$second" terms < "$work/a")"
+place 1 W 8 row 1 of 8 1 0' "$("$second" terms < "$work/a")"
 same 'terms of no load' 'refused 1' "$("$second" terms < /dev/null)"
 same 'VALUES.md is as made' '' "$(sh "$(dirname "$0")/values.sh" "$second" \
     | diff - "$(dirname "$0")/../VALUES.md")"
 
-"$second" load < /dev/null > "$work/none"
 printf 'LD' > "$work/short"
 same 'answers, in the order of the files' \
     '0 bound 0 verdict yes margins end 0 slots

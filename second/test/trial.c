@@ -6,6 +6,7 @@
 #include <stdlib.h>
 #include <string.h>
 
+#include "blame_fault.h"
 #include "bound.h"
 #include "load_file.h"
 #include "random_load.h"
@@ -158,6 +159,12 @@ static bool any_state_is_moved(struct dice *dice, const struct load *load)
     return true;
 }
 
+static bool blames_rightly(const struct load *load)
+{
+    const char *fault = blame_fault(load);
+    return fault == NULL || fails(load, fault, 0, 1);
+}
+
 /* A number among the program's words, or what stands for it. */
 static unsigned long number_at(int count, char **words, int at, unsigned long otherwise)
 {
@@ -182,7 +189,7 @@ int main(int count, char **words)
         yes += verdict;
         if (!keeps_demands(&load) || !moves_are_the_run(&load) || !reads_as_written(&load)
             || !file_is_refused_as_load(&dice, &load) || !any_bytes_are_read(&dice, &load)
-            || !any_state_is_moved(&dice, &load))
+            || !any_state_is_moved(&dice, &load) || !blames_rightly(&load))
             return 1;
     }
     printf("trial: %lu random loads, %lu of them with verdict yes, no counterexample\n", loads,
