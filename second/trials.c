@@ -11,14 +11,24 @@ static void print_hex(FILE *answers, const uint8_t *bytes, size_t length)
         fprintf(answers, "%02x", bytes[place]);
 }
 
-static bool answer_report(FILE *questions, FILE *answers)
+static bool answer_file(FILE *questions, FILE *answers,
+                        void (*print)(FILE *, const uint8_t *, size_t))
 {
     struct asked_file file;
     if (!take_asked_file(questions, &file))
         return false;
-    print_report(answers, file.bytes, file.length);
-    fputs(".\n", answers);
+    print(answers, file.bytes, file.length);
     return true;
+}
+
+/* So many lines as the file gives, and a line that says where they end. */
+static bool answer_lines(FILE *questions, FILE *answers,
+                         void (*print)(FILE *, const uint8_t *, size_t))
+{
+    bool good = answer_file(questions, answers, print);
+    if (good)
+        fputs(".\n", answers);
+    return good;
 }
 
 static void print_outcome(FILE *answers, const struct move *move)
@@ -163,7 +173,9 @@ static bool answer_schedule_in_room(FILE *questions, FILE *answers)
 static bool answer_question(int letter, FILE *questions, FILE *answers)
 {
     switch (letter) {
-    case 'F': return answer_report(questions, answers);
+    case 'F': return answer_lines(questions, answers, print_report);
+    case 'B': return answer_lines(questions, answers, print_blame);
+    case 'P': return answer_file(questions, answers, print_places);
     case 'M': return answer_move(questions, answers);
     case 'C': return answer_check(questions, answers);
     case 'W': return answer_load(questions, answers);

@@ -2,6 +2,9 @@
    Numbers are little-endian; a file has at most 4,096 bytes, a list at most 256 slots.
 
    F  length (2), file                  the report's lines, then a line `.`
+   B  length (2), file                  the lines of the program that blames, then a line `.`
+   P  length (2), file                  `refused N` for a refused file; else `waits`, 7 x ` W:ROW`,
+                                        ` blames` and 24 x ` PLACE:ROW`
    M  length (2), file, clock (4), 24 x [finished (1) end (4) opening (4)]
                                         `refused N` for a refused file; else `start ROW STEP START`,
                                         `idle`, `done` or `refused N`, then ` lamps WORD count N`,

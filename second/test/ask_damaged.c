@@ -137,20 +137,25 @@ static void ask_longer(struct asking *asking, const struct asked_file *file)
     ask_report(asking, &longest);
 }
 
-/* One to three faults in a random load, and now and then a changed byte or a lost end besides. */
+/* Now and then there is a changed byte or a lost end besides. */
+struct asked_file spoiled_file(struct dice *dice, unsigned times)
+{
+    struct load load = any_load(dice, SMALL_SIZES);
+    for (uint32_t faults = between(dice, 1, MOST_SPOILED); faults > 0; faults--)
+        spoil(dice, &load);
+    struct asked_file file = file_of(&load);
+    size_t at = throw_dice(dice) % file.length;
+    if (times % 4 == 0)
+        file.bytes[at] = (uint8_t)throw_dice(dice);
+    if (times % 4 == 1)
+        file.length = at;
+    return file;
+}
+
 static void ask_spoiled(struct asking *asking)
 {
-    struct dice *dice = &asking->dice;
     for (unsigned times = 0; times < SPOILED; times++) {
-        struct load load = any_load(dice, SMALL_SIZES);
-        for (uint32_t faults = between(dice, 1, MOST_SPOILED); faults > 0; faults--)
-            spoil(dice, &load);
-        struct asked_file file = file_of(&load);
-        size_t at = throw_dice(dice) % file.length;
-        if (times % 4 == 0)
-            file.bytes[at] = (uint8_t)throw_dice(dice);
-        if (times % 4 == 1)
-            file.length = at;
+        struct asked_file file = spoiled_file(&asking->dice, times);
         ask_report(asking, &file);
     }
 }

@@ -1,6 +1,6 @@
 /* Writes the questions of the trials, always the same bytes. Usage: make_trials LOAD...
-   Each LOAD is a file of rows in the notation, asked first; the counts of questions by kind go to
-   standard error. */
+   Each LOAD is a file of rows in the notation, asked first and, for its blames, again later; the
+   counts of questions by kind, and of blamed loads by theirs, go to standard error. */
 #include <stdio.h>
 
 #include "notation.h"
@@ -47,22 +47,42 @@ static void ask_lent_loads(struct asking *asking)
     ask_rooms(asking);
 }
 
+/* Asks of each load in turn; the last of them stays in `file`. */
+static bool ask_each(struct asking *asking, char **names, struct asked_file *file,
+                     void (*ask)(struct asking *, const struct asked_file *))
+{
+    for (; *names != NULL; names++) {
+        if (!read_rows(*names, file)) {
+            fprintf(stderr, "make_trials: %s cannot be read as rows\n", *names);
+            return false;
+        }
+        ask(asking, file);
+    }
+    return true;
+}
+
+static void print_counts(const struct asking *asking)
+{
+    fprintf(stderr, "F %lu M %lu C %lu W %lu S %lu N %lu D %lu w %lu s %lu B %lu P %lu\n",
+            asking->reports, asking->moves, asking->checks, asking->loads, asking->schedules,
+            asking->memory_moves, asking->memory_checks, asking->room_loads,
+            asking->room_schedules, asking->blames, asking->blames);
+    fprintf(stderr, "rows tie %lu\nplaces tie %lu\nthe cut decides %lu\njust outweighed %lu\n",
+            asking->row_ties, asking->place_ties, asking->cuts, asking->outweighed);
+}
+
 int main(int count, char **names)
 {
     struct asking asking = {.out = stdout, .dice = {UINT64_C(0x9E3779B97F4A7C15) ^ SEED}};
     struct asked_file file = {0};
-    for (int at = 1; at < count; at++) {
-        if (!read_rows(names[at], &file)) {
-            fprintf(stderr, "make_trials: %s cannot be read as rows\n", names[at]);
-            return 2;
-        }
-        ask_all_of_file(&asking, &file);
-    }
+    if (count < 2 || !ask_each(&asking, names + 1, &file, ask_all_of_file))
+        return 2;
     ask_lent_files(&asking);
     ask_lent_loads(&asking);
+    if (!ask_each(&asking, names + 1, &file, ask_blame))
+        return 2;
+    ask_blames(&asking);
     ask_half(&asking, &file);
-    fprintf(stderr, "F %lu M %lu C %lu W %lu S %lu N %lu D %lu w %lu s %lu\n", asking.reports,
-            asking.moves, asking.checks, asking.loads, asking.schedules, asking.memory_moves,
-            asking.memory_checks, asking.room_loads, asking.room_schedules);
+    print_counts(&asking);
     return fflush(stdout) == 0 ? 0 : 2;
 }

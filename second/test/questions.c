@@ -1,6 +1,5 @@
 #include "questions.h"
 
-#include "little_endian.h"
 #include "load_file.h"
 
 enum { MEMORY_SHARE = 24 };
@@ -33,16 +32,14 @@ static void write_1(struct asking *asking, unsigned number)
 
 static void write_2(struct asking *asking, unsigned number)
 {
-    uint8_t bytes[2];
-    put_2(bytes, (uint16_t)number);
-    fwrite(bytes, 1, sizeof bytes, asking->out);
+    write_1(asking, number);
+    write_1(asking, number >> 8);
 }
 
 static void write_4(struct asking *asking, uint32_t number)
 {
-    uint8_t bytes[4];
-    put_4(bytes, number);
-    fwrite(bytes, 1, sizeof bytes, asking->out);
+    write_2(asking, number & 0xFFFF);
+    write_2(asking, number >> 16);
 }
 
 static void write_file(struct asking *asking, const struct asked_file *file)
@@ -61,18 +58,15 @@ static void write_slots(struct asking *asking, const struct asked_slots *list)
     }
 }
 
-static void write_progress(struct asking *asking, const struct progress *progress)
-{
-    write_1(asking, progress->finished);
-    write_4(asking, progress->end);
-    write_4(asking, progress->opening);
-}
-
 static void write_state(struct asking *asking, const struct bench *state)
 {
     write_4(asking, state->clock);
-    for (unsigned row = 1; row <= MOST_ROWS; row++)
-        write_progress(asking, progress_of(state, row));
+    for (unsigned row = 1; row <= MOST_ROWS; row++) {
+        const struct progress *progress = progress_of(state, row);
+        write_1(asking, progress->finished);
+        write_4(asking, progress->end);
+        write_4(asking, progress->opening);
+    }
 }
 
 static void write_row_fields(struct asking *asking, const struct row *row)
@@ -107,18 +101,29 @@ static void write_load_places(struct asking *asking, const struct load *load)
     }
 }
 
+static void write_asked(struct asking *asking, char letter, const struct asked_file *file)
+{
+    write_1(asking, (unsigned char)letter);
+    write_file(asking, file);
+}
+
 void ask_report(struct asking *asking, const struct asked_file *file)
 {
     asking->reports++;
-    write_1(asking, 'F');
-    write_file(asking, file);
+    write_asked(asking, 'F', file);
+}
+
+void ask_blame(struct asking *asking, const struct asked_file *file)
+{
+    asking->blames++;
+    write_asked(asking, 'B', file);
+    write_asked(asking, 'P', file);
 }
 
 void ask_move(struct asking *asking, const struct asked_file *file, const struct bench *state)
 {
     asking->moves++;
-    write_1(asking, 'M');
-    write_file(asking, file);
+    write_asked(asking, 'M', file);
     write_state(asking, state);
 }
 
@@ -126,8 +131,7 @@ void ask_check(struct asking *asking, const struct asked_file *file,
                const struct asked_slots *list)
 {
     asking->checks++;
-    write_1(asking, 'C');
-    write_file(asking, file);
+    write_asked(asking, 'C', file);
     write_slots(asking, list);
 }
 
@@ -192,8 +196,7 @@ void ask_check_of(struct asking *asking, const struct load *load, const struct a
 void ask_half(struct asking *asking, const struct asked_file *file)
 {
     asking->moves++;
-    write_1(asking, 'M');
-    write_file(asking, file);
+    write_asked(asking, 'M', file);
     write_4(asking, 0);
     write_1(asking, 0);
 }

@@ -5,13 +5,15 @@
 #include "asked.h"
 #include "random_load.h"
 
-/* `in_memory` says how ask_move_of and ask_check_of lend a load: as it is, or else as its file. */
+/* `in_memory` says how ask_move_of and ask_check_of lend a load: as it is, or else as its file.
+   `row_ties` and so on count the blamed loads of a kind (blame_kinds.h). */
 struct asking {
     FILE *out;
     struct dice dice;
     bool in_memory;
     unsigned long reports, moves, checks, loads, schedules;
     unsigned long memory_moves, memory_checks, room_loads, room_schedules;
+    unsigned long blames, row_ties, place_ties, cuts, outweighed;
 };
 
 /* A load's records, unchecked; its counts fit its places. */
@@ -23,11 +25,19 @@ struct asked_slots slots_of(const struct load *load);
 /* All of so many questions; in memory, where each is long, one in 24 of them, and at least one. */
 unsigned share_of(const struct asking *asking, unsigned count);
 
+/* A file with one to three faults of a random load, which may cancel out; `times` says what else is
+   wrong with it, and is counted up by whoever asks for many. */
+struct asked_file spoiled_file(struct dice *dice, unsigned times);
+
 void ask_report(struct asking *asking, const struct asked_file *file);
 void ask_move(struct asking *asking, const struct asked_file *file, const struct bench *state);
 void ask_check(struct asking *asking, const struct asked_file *file,
                const struct asked_slots *list);
 void ask_load(struct asking *asking, const struct load *load);
+
+/* B and P. */
+void ask_blame(struct asking *asking, const struct asked_file *file);
+
 void ask_schedule(struct asking *asking, const struct asked_slots *list);
 void ask_load_in_room(struct asking *asking, size_t room, const struct load *load);
 void ask_schedule_in_room(struct asking *asking, size_t room, const struct asked_slots *list);
@@ -54,6 +64,7 @@ void ask_loads_in_memory(struct asking *asking);
 void ask_schedules(struct asking *asking);
 void ask_faulty_loads(struct asking *asking);
 void ask_rooms(struct asking *asking);
+void ask_blames(struct asking *asking);
 
 /* A question that stops in the middle of its state; the stream's last. */
 void ask_half(struct asking *asking, const struct asked_file *file);

@@ -67,7 +67,7 @@ fi
 is_as_made "$trials/stdin" "$trials/stdout" && found=yes || found=no
 same 'trials: made and answered as committed' yes "$found"
 
-printf 'questions: %s\n' "$(cat "$work/counts")"
+printf 'questions: %s\n' "$(head -n 1 "$work/counts")"
 count() { grep -c -E "$1" "$trials/stdout"; }
 printf 'answers: files'
 met taken "$(count '^load [0-9]+ [0-9]+ [0-9]+ [0-9]+ (yes|no)$')"
@@ -93,6 +93,17 @@ met 0 "$(count '^schedule 0 [0-9a-f]+$')"
 for number in 3 9; do
     met "$number" "$(count "^schedule $number\$")"
 done
+printf '; blames'
+for kind in 'rows tie' 'places tie' 'the cut decides' 'just outweighed'; do
+    met "$kind" "$(sed -n "s/^$kind //p" "$work/counts")"
+done
+met 'a row line with its blame' "$(count '^row [0-9]+ [0-9]+ [0-9]+ -?[0-9]+ [1-7] [0-9]+$')"
+met 'one with none' "$(count '^row [0-9]+ [0-9]+ [0-9]+ -?[0-9]+ 0 0$')"
+met "A's row 3" "$(count '^row 3 103 203 -1 1 1$')"
+met "A's places" "$(count '^waits 8:1( 0:0){6} blames( 1:1){3}( 0:0){21}$')"
+met 'the cut by hand' "$(count '^waits 3:1 3:2 20:2( 0:0){4} blames 1:1 3:2( 0:0){22}$')"
+met 'the ties by hand' "$(count '^waits( 8:1){2}( 0:0){5} blames( 1:1){2}( 0:0){22}$')"
+met 'nothing to blame' "$(count '^waits( 0:0){7} blames( 0:0){24}$')"
 printf '\n'
 same 'trials: the last question is cut short' bad "$(tail -n 1 "$trials/stdout")"
 
@@ -118,6 +129,17 @@ bad 'F, no length' '' 'F'
 bad 'F, half a length' '' 'F\0'
 bad 'F, length 4,097' '' 'F\001\020'
 bad 'F, file cut short' '' 'F\004\0LD\001'
+bad 'B, no length' '' 'B'
+bad 'B, length 4,097' '' 'B\001\020'
+bad 'B, file cut short' '' 'B\004\0LD\001'
+bad 'B, after a good one' 'refused 1
+.
+' 'B\0\0b\0\0'
+bad 'P, half a length' '' 'P\0'
+bad 'P, length 4,097' '' 'P\001\020'
+bad 'P, file cut short' '' 'P\010\0LD\001\0EN\0'
+bad 'P, after a good one' 'refused 1
+' 'P\0\0X'
 bad 'M, no clock' '' 'M\0\0'
 bad 'C, no count' '' 'C\0\0'
 bad 'C, count 257' '' 'C\0\0\001\001'
@@ -153,6 +175,10 @@ empty 's, room 3' 'schedule 9' 's\003\0' 2 ''
 empty 's, room 4' 'schedule 0 53430000' 's\004\0' 2 ''
 empty 's, room 6' 'schedule 0 53430000a5a5' 's\006\0' 2 ''
 empty 's, 193 slots, room 0' 'schedule 3' 's\0\0\301\0' 1158 ''
+same 'B, no rows' 'load 0 0 0 0 yes
+.' "$(printf 'B\010\0LD\001\0EN\0\0' | "$second" answer-trials)"
+same 'P, no rows' "waits$(printf ' 0:0%.0s' $(seq 7)) blames$(printf ' 0:0%.0s' $(seq 24))" \
+    "$(printf 'P\010\0LD\001\0EN\0\0' | "$second" answer-trials)"
 same 'nothing asked' '' "$("$second" answer-trials < /dev/null)"
 same 'a file of 4,096 bytes' 'refused 2
 .' "$({ printf 'F\0\020'; head -c 4096 /dev/zero; } | "$second" answer-trials)"
