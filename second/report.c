@@ -121,34 +121,3 @@ void print_answers(FILE *out, const uint8_t *bytes, size_t length)
     }
     fputc('\n', out);
 }
-
-static void print_waits(FILE *out, const struct load *load)
-{
-    struct place_w places[MOST_PLACES];
-    places_of(load, places);
-    fputs("waits", out);
-    for (unsigned j = 1; j <= MOST_PLACES; j++)
-        fprintf(out, " %lu:%u", (unsigned long)places[j - 1].w, places[j - 1].row);
-}
-
-static void print_blames(FILE *out, const struct load *load)
-{
-    struct blame blames[MOST_ROWS];
-    blames_of(load, blames);
-    fputs(" blames", out);
-    for (unsigned row = 1; row <= MOST_ROWS; row++)
-        fprintf(out, " %u:%u", blames[row - 1].place, blames[row - 1].row);
-}
-
-void print_places(FILE *out, const uint8_t *bytes, size_t length)
-{
-    struct load load;
-    enum refusal refusal = read_load(bytes, length, &load);
-    if (refusal != ACCEPTED) {
-        fprintf(out, "refused %d\n", (int)refusal);
-        return;
-    }
-    print_waits(out, &load);
-    print_blames(out, &load);
-    fputc('\n', out);
-}

@@ -18,8 +18,4 @@ void print_blame(FILE *out, const uint8_t *bytes, size_t length);
    ` bound N verdict yes|no margins N... end N slots START,ROW,STEP...` */
 void print_answers(FILE *out, const uint8_t *bytes, size_t length);
 
-/* Every largest W and every blame on one line, those of rows not there too:
-   `waits`, 7 x ` W:ROW`, ` blames`, 24 x ` PLACE:ROW`; or `refused` and the number. */
-void print_places(FILE *out, const uint8_t *bytes, size_t length);
-
 #endif

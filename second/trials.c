@@ -1,15 +1,8 @@
 #include "trials.h"
 
-#include "asked.h"
+#include "answered.h"
 #include "load_file.h"
 #include "report.h"
-
-static void print_hex(FILE *answers, const uint8_t *bytes, size_t length)
-{
-    fputc(' ', answers);
-    for (size_t place = 0; place < length; place++)
-        fprintf(answers, "%02x", bytes[place]);
-}
 
 static bool answer_file(FILE *questions, FILE *answers,
                         void (*print)(FILE *, const uint8_t *, size_t))
@@ -29,31 +22,6 @@ static bool answer_lines(FILE *questions, FILE *answers,
     if (good)
         fputs(".\n", answers);
     return good;
-}
-
-static void print_outcome(FILE *answers, const struct move *move)
-{
-    if (move->refusal != ACCEPTED)
-        fprintf(answers, "refused %d", (int)move->refusal);
-    else if (move->outcome == START)
-        fprintf(answers, "start %u %u %lu", move->slot.row, move->slot.step,
-                (unsigned long)move->slot.start);
-    else
-        fputs(move->outcome == IDLE ? "idle" : "done", answers);
-}
-
-static void print_move_of(FILE *answers, const struct load *load, struct bench state)
-{
-    struct move move = move_of(load, state);
-    print_outcome(answers, &move);
-    fprintf(answers, " lamps %lu count %lu clock %lu", (unsigned long)move.lamps,
-            (unsigned long)move.lamp_count, (unsigned long)move.state.clock);
-    for (unsigned row = 1; row <= MOST_ROWS; row++) {
-        const struct progress *progress = progress_of(&move.state, row);
-        fprintf(answers, " %u:%lu:%lu", progress->finished, (unsigned long)progress->end,
-                (unsigned long)progress->opening);
-    }
-    fputc('\n', answers);
 }
 
 static bool answer_move(FILE *questions, FILE *answers)
@@ -81,11 +49,6 @@ static bool answer_move_in_memory(FILE *questions, FILE *answers)
     return true;
 }
 
-static void print_check_of(FILE *answers, const struct load *load, const struct asked_slots *list)
-{
-    fprintf(answers, "check %d\n", (int)check_schedule(load, list->slots, list->count));
-}
-
 static bool answer_check(FILE *questions, FILE *answers)
 {
     struct asked_file file;
@@ -109,16 +72,6 @@ static bool answer_check_in_memory(FILE *questions, FILE *answers)
         return false;
     print_check_of(answers, &load, &list);
     return true;
-}
-
-/* The number, and where it is 0 so many bytes. */
-static void print_written(FILE *answers, const char *what, enum refusal refusal,
-                          const uint8_t *bytes, size_t length)
-{
-    fprintf(answers, "%s %d", what, (int)refusal);
-    if (refusal == ACCEPTED)
-        print_hex(answers, bytes, length);
-    fputc('\n', answers);
 }
 
 static bool answer_load(FILE *questions, FILE *answers)

@@ -13,8 +13,8 @@ import sys
 import tempfile
 
 HERE = os.path.dirname(os.path.dirname(os.path.abspath(__file__)))
-PARTS = ("load load_file waits bound plan bench schedule report notation lent values asked trials"
-         " calls second")
+PARTS = ("load load_file waits bound plan bench schedule report notation lent values asked"
+         " answered trials calls second")
 MOST_SECONDS = 10
 PART_BYTES = 1 << 16
 
@@ -497,7 +497,7 @@ MISTAKES = [
     ("blame: place and row exchanged in the line", "report.c",
      "blame->place, blame->row);",
      "blame->row, blame->place);"),
-    ("blame: place and row exchanged among the blames", "report.c",
+    ("blame: place and row exchanged among the blames", "answered.c",
      "blames[row - 1].place, blames[row - 1].row);",
      "blames[row - 1].row, blames[row - 1].place);"),
     ("blame: the identifier for the row", "report.c",
