@@ -49,33 +49,71 @@ void print_written(FILE *answers, const char *what, enum refusal refusal, const 
     fputc('\n', answers);
 }
 
-static void print_waits(FILE *answers, const struct load *load)
+static void print_waits(FILE *answers, const struct place_w *places)
 {
-    struct place_w places[MOST_PLACES];
-    places_of(load, places);
     fputs("waits", answers);
     for (unsigned j = 1; j <= MOST_PLACES; j++)
         fprintf(answers, " %lu:%u", (unsigned long)places[j - 1].w, places[j - 1].row);
 }
 
-static void print_blames(FILE *answers, const struct load *load)
+static void print_blames(FILE *answers, const struct blame *blames)
 {
-    struct blame blames[MOST_ROWS];
-    blames_of(load, blames);
     fputs(" blames", answers);
     for (unsigned row = 1; row <= MOST_ROWS; row++)
         fprintf(answers, " %u:%u", blames[row - 1].place, blames[row - 1].row);
 }
 
+static void print_margins(FILE *answers, const int32_t *margins)
+{
+    fputs(" margins", answers);
+    for (unsigned row = 1; row <= MOST_ROWS; row++)
+        fprintf(answers, " %ld", (long)margins[row - 1]);
+}
+
 void print_places(FILE *answers, const uint8_t *bytes, size_t length)
 {
     struct load load;
+    struct place_w places[MOST_PLACES];
+    struct blame blames[MOST_ROWS];
     enum refusal refusal = read_load(bytes, length, &load);
     if (refusal != ACCEPTED) {
         fprintf(answers, "refused %d\n", (int)refusal);
         return;
     }
-    print_waits(answers, &load);
-    print_blames(answers, &load);
+    places_of(&load, places);
+    blames_of(&load, blames);
+    print_waits(answers, places);
+    print_blames(answers, blames);
+    fputc('\n', answers);
+}
+
+/* Each call checks the load for itself, and all give the same number. One that differs stands on
+   the line too, which is then no answer. */
+static bool print_refusals(FILE *answers, const enum refusal *numbers, unsigned calls)
+{
+    bool refused = false;
+    for (unsigned call = 0; call < calls; call++)
+        refused = refused || numbers[call] != ACCEPTED;
+    if (!refused)
+        return false;
+    fprintf(answers, "refused %d", (int)numbers[0]);
+    for (unsigned call = 1; call < calls; call++)
+        if (numbers[call] != numbers[0])
+            fprintf(answers, " but %d", (int)numbers[call]);
+    return true;
+}
+
+void print_places_of(FILE *answers, const struct load *load)
+{
+    struct place_w places[MOST_PLACES];
+    struct blame blames[MOST_ROWS];
+    int32_t margins[MOST_ROWS];
+    enum refusal numbers[] = {places_of(load, places), blames_of(load, blames),
+                              margins_of(load, margins)};
+    if (!print_refusals(answers, numbers, sizeof numbers / sizeof numbers[0])) {
+        print_waits(answers, places);
+        print_blames(answers, blames);
+        print_margins(answers, margins);
+    }
     fputc('\n', answers);
 }

@@ -14,4 +14,7 @@ void print_written(FILE *answers, const char *what, enum refusal refusal, const 
 /* Every largest W and every blame on one line, those of rows not there too. */
 void print_places(FILE *answers, const uint8_t *bytes, size_t length);
 
+/* The same of a load in memory, and every margin behind them. */
+void print_places_of(FILE *answers, const struct load *load);
+
 #endif

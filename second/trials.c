@@ -24,6 +24,15 @@ static bool answer_lines(FILE *questions, FILE *answers,
     return good;
 }
 
+static bool answer_places_in_memory(FILE *questions, FILE *answers)
+{
+    struct load load;
+    if (!take_asked_load(questions, &load))
+        return false;
+    print_places_of(answers, &load);
+    return true;
+}
+
 static bool answer_move(FILE *questions, FILE *answers)
 {
     struct asked_file file;
@@ -129,6 +138,7 @@ static bool answer_question(int letter, FILE *questions, FILE *answers)
     case 'F': return answer_lines(questions, answers, print_report);
     case 'B': return answer_lines(questions, answers, print_blame);
     case 'P': return answer_file(questions, answers, print_places);
+    case 'p': return answer_places_in_memory(questions, answers);
     case 'M': return answer_move(questions, answers);
     case 'C': return answer_check(questions, answers);
     case 'W': return answer_load(questions, answers);

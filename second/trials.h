@@ -5,6 +5,9 @@
    B  length (2), file                  the lines of the program that blames, then a line `.`
    P  length (2), file                  `refused N` for a refused file; else `waits`, 7 x ` W:ROW`,
                                         ` blames` and 24 x ` PLACE:ROW`
+   p  a load as in W                    `refused N` for a faulty load; else as P answers a good
+                                        file, and on the same line ` margins` and 24 x ` MARGIN`,
+                                        0 for rows not there
    M  length (2), file, clock (4), 24 x [finished (1) end (4) opening (4)]
                                         `refused N` for a refused file; else `start ROW STEP START`,
                                         `idle`, `done` or `refused N`, then ` lamps WORD count N`,

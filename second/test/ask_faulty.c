@@ -87,11 +87,11 @@ static void ask_next_turn(struct asking *asking, const struct lent *lent, const 
         ask(asking, lent, &l); \
     } while (0)
 
-#define FAULTY(place) MADE(ask_next_turn, place)
+#define FAULTY(place) MADE(ask, place)
 #define IN_EVERY_TURN(place) MADE(ask_every_turn, place)
 
 /* Numbers out of their range (3). */
-static void ask_ranges(struct asking *asking, const struct lent *lent)
+static void ask_ranges(struct asking *asking, const struct lent *lent, ask_lent *ask)
 {
     FAULTY(l.row_count = UINT8_MAX);
     FAULTY(r->identifier.number = 0);
@@ -112,7 +112,7 @@ static void ask_ranges(struct asking *asking, const struct lent *lent)
 }
 
 /* Unused places that are not zero (3): of a row's steps and windows, and of the load's rows. */
-static void ask_unused(struct asking *asking, const struct lent *lent)
+static void ask_unused(struct asking *asking, const struct lent *lent, ask_lent *ask)
 {
     FAULTY(r->steps[4].cost = 1);
     FAULTY(r->steps[7].wait = 1);
@@ -134,7 +134,7 @@ static void ask_unused(struct asking *asking, const struct lent *lent)
 }
 
 /* Twins (4, 5), windows against their steps (6), limits against their chains (7). */
-static void ask_between_places(struct asking *asking, const struct lent *lent)
+static void ask_between_places(struct asking *asking, const struct lent *lent, ask_lent *ask)
 {
     FAULTY((r->identifier = l.rows[0].identifier, r->box = l.rows[0].box));
     FAULTY(r->windows[1].last = 3);
@@ -171,12 +171,18 @@ static void ask_no_rows(struct asking *asking)
         ask_check_of(asking, &none, &list);
 }
 
+void ask_each_fault(struct asking *asking, ask_lent *ask)
+{
+    struct lent lent = sound_lent();
+    ask_ranges(asking, &lent, ask);
+    ask_unused(asking, &lent, ask);
+    ask_between_places(asking, &lent, ask);
+}
+
 void ask_faulty_loads(struct asking *asking)
 {
     struct lent lent = sound_lent();
     ask_no_rows(asking);
     ask_numbers(asking, &lent);
-    ask_ranges(asking, &lent);
-    ask_unused(asking, &lent);
-    ask_between_places(asking, &lent);
+    ask_each_fault(asking, ask_next_turn);
 }

@@ -1,4 +1,5 @@
-/* Good loads on which a wrong rule for blames shows. Each asks for some row whose cut load does it. */
+/* Good loads on which a wrong rule for blames shows. Each asks for some row whose cut load does
+   it. */
 #ifndef BLAME_KINDS_H
 #define BLAME_KINDS_H
 

@@ -63,10 +63,10 @@ static bool ask_each(struct asking *asking, char **names, struct asked_file *fil
 
 static void print_counts(const struct asking *asking)
 {
-    fprintf(stderr, "F %lu M %lu C %lu W %lu S %lu N %lu D %lu w %lu s %lu B %lu P %lu\n",
+    fprintf(stderr, "F %lu M %lu C %lu W %lu S %lu N %lu D %lu w %lu s %lu B %lu P %lu p %lu\n",
             asking->reports, asking->moves, asking->checks, asking->loads, asking->schedules,
             asking->memory_moves, asking->memory_checks, asking->room_loads,
-            asking->room_schedules, asking->blames, asking->blames);
+            asking->room_schedules, asking->blames, asking->blames, asking->memory_places);
     fprintf(stderr, "rows tie %lu\nplaces tie %lu\nthe cut decides %lu\njust outweighed %lu\n",
             asking->row_ties, asking->place_ties, asking->cuts, asking->outweighed);
 }
@@ -82,6 +82,7 @@ int main(int count, char **names)
     if (!ask_each(&asking, names + 1, &file, ask_blame))
         return 2;
     ask_blames(&asking);
+    ask_places_in_memory(&asking);
     ask_half(&asking, &file);
     print_counts(&asking);
     return fflush(stdout) == 0 ? 0 : 2;

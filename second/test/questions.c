@@ -45,6 +45,13 @@ void ask_blame(struct asking *asking, const struct asked_file *file)
     write_asked(asking, 'P', file);
 }
 
+void ask_places(struct asking *asking, const struct load *load)
+{
+    asking->memory_places++;
+    write_1(asking->out, 'p');
+    write_load_places(asking->out, load);
+}
+
 void ask_move(struct asking *asking, const struct asked_file *file, const struct bench *state)
 {
     asking->moves++;

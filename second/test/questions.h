@@ -13,8 +13,12 @@ struct asking {
     bool in_memory;
     unsigned long reports, moves, checks, loads, schedules;
     unsigned long memory_moves, memory_checks, room_loads, room_schedules;
-    unsigned long blames, row_ties, place_ties, cuts, outweighed;
+    unsigned long blames, row_ties, place_ties, cuts, outweighed, memory_places;
 };
+
+/* Asks something of a load that was made of the one in `lent`. */
+struct lent;
+typedef void ask_lent(struct asking *asking, const struct lent *lent, const struct load *load);
 
 /* A load's records, unchecked; its counts fit its places. */
 struct asked_file file_of(const struct load *load);
@@ -38,6 +42,9 @@ void ask_load(struct asking *asking, const struct load *load);
 /* B and P. */
 void ask_blame(struct asking *asking, const struct asked_file *file);
 
+/* p. */
+void ask_places(struct asking *asking, const struct load *load);
+
 void ask_schedule(struct asking *asking, const struct asked_slots *list);
 void ask_load_in_room(struct asking *asking, size_t room, const struct load *load);
 void ask_schedule_in_room(struct asking *asking, size_t room, const struct asked_slots *list);
@@ -45,6 +52,9 @@ void ask_schedule_in_room(struct asking *asking, size_t room, const struct asked
 /* M or N, and C or D. */
 void ask_move_of(struct asking *asking, const struct load *load, const struct bench *state);
 void ask_check_of(struct asking *asking, const struct load *load, const struct asked_slots *list);
+
+/* Asks of a sound load made faulty, in 40 ways, one at a time. */
+void ask_each_fault(struct asking *asking, ask_lent *ask);
 
 /* The parts of the stream, in order. The first asks the five questions that a load file has. */
 void ask_all_of_file(struct asking *asking, const struct asked_file *file);
@@ -65,6 +75,7 @@ void ask_schedules(struct asking *asking);
 void ask_faulty_loads(struct asking *asking);
 void ask_rooms(struct asking *asking);
 void ask_blames(struct asking *asking);
+void ask_places_in_memory(struct asking *asking);
 
 /* A question that stops in the middle of its state; the stream's last. */
 void ask_half(struct asking *asking, const struct asked_file *file);

@@ -1,6 +1,6 @@
 #!/bin/sh
 # The committed trials are those that this program makes and answers, byte for byte; every number
-# of the table that they can meet is met; an altered byte is noticed; a bad question ends it.
+# of the table that they can meet is met; an altered byte is noticed.
 # Usage: trials.sh PROGRAM MAKE_TRIALS TRIALS [write]
 # TRIALS is a folder with stdin and stdout; with `write` both are written anew.
 . "$(dirname "$0")/same.sh"
@@ -36,25 +36,9 @@ met() {
     printf ' %s %d' "$1" "$2"
 }
 
-# bad WHAT ANSWERS BYTES: the bytes, in printf's notation, are answered so.
-bad() {
-    same "bad question: $1" "$2bad" "$(printf "$3" | "$second" answer-trials)"
-}
-
-# empty WHAT ANSWER BYTES ZEROS MORE: the bytes, so many zeros, and more bytes are answered so; the
-# zeros hold the load without rows, which has 1,585 of them.
-empty() {
-    same "no rows: $1" "$2" \
-        "$({ printf "$3"; head -c "$4" /dev/zero; printf "$5"; } | "$second" answer-trials)"
-}
-
-# zeros COUNT: so many zeros in printf's notation.
-zeros() { printf '\\0%.0s' $(seq "$1"); }
-
 if [ "$4" = write ]; then
     written=$trials
 fi
-rows=$(printf ' 0:0:0%.0s' $(seq 24))
 set --
 for name in $order; do
     set -- "$@" "$loads/$name"
@@ -104,6 +88,20 @@ met "A's places" "$(count '^waits 8:1( 0:0){6} blames( 1:1){3}( 0:0){21}$')"
 met 'the cut by hand' "$(count '^waits 3:1 3:2 20:2( 0:0){4} blames 1:1 3:2( 0:0){22}$')"
 met 'the ties by hand' "$(count '^waits( 8:1){2}( 0:0){5} blames( 1:1){2}( 0:0){22}$')"
 met 'nothing to blame' "$(count '^waits( 0:0){7} blames( 0:0){24}$')"
+
+# p, the last questions but one, have a line each: `refused N` is also what is said of files.
+asked=$(sed -n '1s/.* p //p' "$work/counts")
+in_memory() { tail -n $((asked + 1)) "$trials/stdout" | grep -c -E "^($1)\$"; }
+printf '; blames in memory'
+sound='waits( [0-9]+:[0-9]+){7} blames( [0-7]:[0-9]+){24} margins( -?[0-9]+){24}'
+same 'trials: each p has its line' "$asked" "$(in_memory "refused [3-7]|$sound")"
+met taken "$(in_memory "$sound")"
+for number in 3 4 5 6 7; do
+    met "refused $number" "$(in_memory "refused $number")"
+done
+met "A's" "$(in_memory 'waits 8:1( 0:0){6} blames( 1:1){3}( 0:0){21} margins 1 0 -1( 0){21}')"
+met 'the least margins' "$(in_memory 'waits( 0:0){7} blames( 0:0){24} margins( -806399){24}')"
+met 'the largest' "$(in_memory 'waits( 0:0){7} blames( 0:0){24} margins 999999( 0){23}')"
 printf '\n'
 same 'trials: the last question is cut short' bad "$(tail -n 1 "$trials/stdout")"
 
@@ -119,69 +117,6 @@ for place in 0 $((length / 2)) $((length - 1)); do
 done
 head -c $((length - 1)) "$trials/stdout" > "$work/altered"
 noticed 'the last byte of the answers lost' "$trials/stdin" "$work/altered"
-
-bad 'another letter' '' 'X'
-bad 'a letter in lower case' '' 'f\0\0'
-bad 'after a good one' 'refused 1
-.
-' 'F\0\0\n'
-bad 'F, no length' '' 'F'
-bad 'F, half a length' '' 'F\0'
-bad 'F, length 4,097' '' 'F\001\020'
-bad 'F, file cut short' '' 'F\004\0LD\001'
-bad 'B, no length' '' 'B'
-bad 'B, length 4,097' '' 'B\001\020'
-bad 'B, file cut short' '' 'B\004\0LD\001'
-bad 'B, after a good one' 'refused 1
-.
-' 'B\0\0b\0\0'
-bad 'P, half a length' '' 'P\0'
-bad 'P, length 4,097' '' 'P\001\020'
-bad 'P, file cut short' '' 'P\010\0LD\001\0EN\0'
-bad 'P, after a good one' 'refused 1
-' 'P\0\0X'
-bad 'M, no clock' '' 'M\0\0'
-bad 'C, no count' '' 'C\0\0'
-bad 'C, count 257' '' 'C\0\0\001\001'
-bad 'C, slots cut short' '' 'C\0\0\001\0\001\001\0\0\0'
-bad 'W, no row' '' 'W\0'
-bad 'S, count 257' '' 'S\001\001'
-bad 'N, no row' '' 'N\0'
-bad 'D, no row' '' 'D\0'
-bad 'w, half a room' '' 'w\0'
-bad 'w, room 4,097' '' 'w\001\020'
-bad 'w, no row' '' 'w\010\0\0'
-bad 's, room 4,097' '' 's\001\020\0\0'
-bad 's, no count' '' 's\004\0'
-bad 's, count 257' '' 's\004\0\001\001'
-bad 's, slots cut short' '' 's\024\0\001\0\001\001\0\0\0'
-empty 'W, a byte too few' bad W 1584 ''
-empty 'N, no state' bad N 1585 ''
-empty 'N, a state cut short' bad N 1804 ''
-empty 'N, fresh' "done lamps 0 count 0 clock 0$rows" N 1805 ''
-empty 'N, a clock of 255' "done lamps 0 count 0 clock 255$rows" N 1585 "\\377$(zeros 219)"
-empty 'N, 25 rows' "refused 3 lamps 0 count 0 clock 0$rows" 'N\031' 1804 ''
-empty 'D, no count' bad D 1585 ''
-empty 'D, no slots' 'check 0' D 1587 ''
-empty 'D, one slot' 'check 12' D 1585 '\001\0\0\0\0\0\0\0'
-empty 'D, count 257' bad D 1585 '\001\001'
-empty 'D, 25 rows, one slot' 'check 3' 'D\031' 1584 '\001\0\0\0\0\0\0\0'
-empty 'w, room 0' 'load 9' 'w\0\0' 1585 ''
-empty 'w, room 7' 'load 9' 'w\007\0' 1585 ''
-empty 'w, room 8' 'load 0 4c440100454e0000' 'w\010\0' 1585 ''
-empty 'w, room 10' 'load 0 4c440100454e0000a5a5' 'w\012\0' 1585 ''
-empty 'w, 25 rows, room 0' 'load 3' 'w\0\0\031' 1584 ''
-empty 's, room 3' 'schedule 9' 's\003\0' 2 ''
-empty 's, room 4' 'schedule 0 53430000' 's\004\0' 2 ''
-empty 's, room 6' 'schedule 0 53430000a5a5' 's\006\0' 2 ''
-empty 's, 193 slots, room 0' 'schedule 3' 's\0\0\301\0' 1158 ''
-same 'B, no rows' 'load 0 0 0 0 yes
-.' "$(printf 'B\010\0LD\001\0EN\0\0' | "$second" answer-trials)"
-same 'P, no rows' "waits$(printf ' 0:0%.0s' $(seq 7)) blames$(printf ' 0:0%.0s' $(seq 24))" \
-    "$(printf 'P\010\0LD\001\0EN\0\0' | "$second" answer-trials)"
-same 'nothing asked' '' "$("$second" answer-trials < /dev/null)"
-same 'a file of 4,096 bytes' 'refused 2
-.' "$({ printf 'F\0\020'; head -c 4096 /dev/zero; } | "$second" answer-trials)"
 
 printf 'trials: %d as expected, %d not\n' "$passed" "$failed"
 [ "$failed" -eq 0 ]

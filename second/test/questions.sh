@@ -1,0 +1,96 @@
+#!/bin/sh
+# Single questions, as trials.h has them: a bad one ends it; those of a load without rows, or with
+# one place of it altered, are answered as is written here.
+# Usage: questions.sh PROGRAM
+. "$(dirname "$0")/same.sh"
+rows=$(printf ' 0:0:0%.0s' $(seq 24))
+places="waits$(printf ' 0:0%.0s' $(seq 7)) blames$(printf ' 0:0%.0s' $(seq 24))"
+
+# bad WHAT ANSWERS BYTES: the bytes, in printf's notation, are answered so.
+bad() {
+    same "bad question: $1" "$2bad" "$(printf "$3" | "$second" answer-trials)"
+}
+
+# empty WHAT ANSWER BYTES ZEROS MORE: the bytes, so many zeros, and more bytes are answered so; the
+# zeros hold the load without rows, which has 1,585 of them.
+empty() {
+    same "no rows: $1" "$2" \
+        "$({ printf "$3"; head -c "$4" /dev/zero; printf "$5"; } | "$second" answer-trials)"
+}
+
+# zeros COUNT: so many zeros in printf's notation.
+zeros() { printf '\\0%.0s' $(seq "$1"); }
+
+bad 'another letter' '' 'X'
+bad 'a letter in lower case' '' 'f\0\0'
+bad 'after a good one' 'refused 1
+.
+' 'F\0\0\n'
+bad 'F, no length' '' 'F'
+bad 'F, half a length' '' 'F\0'
+bad 'F, length 4,097' '' 'F\001\020'
+bad 'F, file cut short' '' 'F\004\0LD\001'
+bad 'B, no length' '' 'B'
+bad 'B, length 4,097' '' 'B\001\020'
+bad 'B, file cut short' '' 'B\004\0LD\001'
+bad 'B, after a good one' 'refused 1
+.
+' 'B\0\0b\0\0'
+bad 'P, half a length' '' 'P\0'
+bad 'P, length 4,097' '' 'P\001\020'
+bad 'P, file cut short' '' 'P\010\0LD\001\0EN\0'
+bad 'P, after a good one' 'refused 1
+' 'P\0\0X'
+bad 'p, nothing' '' 'p'
+bad 'p, no row' '' 'p\0'
+bad 'M, no clock' '' 'M\0\0'
+bad 'C, no count' '' 'C\0\0'
+bad 'C, count 257' '' 'C\0\0\001\001'
+bad 'C, slots cut short' '' 'C\0\0\001\0\001\001\0\0\0'
+bad 'W, no row' '' 'W\0'
+bad 'S, count 257' '' 'S\001\001'
+bad 'N, no row' '' 'N\0'
+bad 'D, no row' '' 'D\0'
+bad 'w, half a room' '' 'w\0'
+bad 'w, room 4,097' '' 'w\001\020'
+bad 'w, no row' '' 'w\010\0\0'
+bad 's, room 4,097' '' 's\001\020\0\0'
+bad 's, no count' '' 's\004\0'
+bad 's, count 257' '' 's\004\0\001\001'
+bad 's, slots cut short' '' 's\024\0\001\0\001\001\0\0\0'
+empty 'W, a byte too few' bad W 1584 ''
+empty 'N, no state' bad N 1585 ''
+empty 'N, a state cut short' bad N 1804 ''
+empty 'N, fresh' "done lamps 0 count 0 clock 0$rows" N 1805 ''
+empty 'N, a clock of 255' "done lamps 0 count 0 clock 255$rows" N 1585 "\\377$(zeros 219)"
+empty 'N, 25 rows' "refused 3 lamps 0 count 0 clock 0$rows" 'N\031' 1804 ''
+empty 'D, no count' bad D 1585 ''
+empty 'D, no slots' 'check 0' D 1587 ''
+empty 'D, one slot' 'check 12' D 1585 '\001\0\0\0\0\0\0\0'
+empty 'D, count 257' bad D 1585 '\001\001'
+empty 'D, 25 rows, one slot' 'check 3' 'D\031' 1584 '\001\0\0\0\0\0\0\0'
+empty 'p, a byte too few' bad p 1584 ''
+empty 'p, no rows' "$places margins$(printf ' 0%.0s' $(seq 24))" p 1585 ''
+empty 'p, 25 rows' 'refused 3' 'p\031' 1584 ''
+empty 'p, one row, and it is not there' 'refused 3' 'p\001' 1584 ''
+empty 'p, row 24 not zero' 'refused 3' p 1584 '\001'
+empty 'p, after a good one' 'refused 3
+bad' 'p\031' 1584 'p'
+empty 'w, room 0' 'load 9' 'w\0\0' 1585 ''
+empty 'w, room 7' 'load 9' 'w\007\0' 1585 ''
+empty 'w, room 8' 'load 0 4c440100454e0000' 'w\010\0' 1585 ''
+empty 'w, room 10' 'load 0 4c440100454e0000a5a5' 'w\012\0' 1585 ''
+empty 'w, 25 rows, room 0' 'load 3' 'w\0\0\031' 1584 ''
+empty 's, room 3' 'schedule 9' 's\003\0' 2 ''
+empty 's, room 4' 'schedule 0 53430000' 's\004\0' 2 ''
+empty 's, room 6' 'schedule 0 53430000a5a5' 's\006\0' 2 ''
+empty 's, 193 slots, room 0' 'schedule 3' 's\0\0\301\0' 1158 ''
+same 'B, no rows' 'load 0 0 0 0 yes
+.' "$(printf 'B\010\0LD\001\0EN\0\0' | "$second" answer-trials)"
+same 'P, no rows' "$places" "$(printf 'P\010\0LD\001\0EN\0\0' | "$second" answer-trials)"
+same 'nothing asked' '' "$("$second" answer-trials < /dev/null)"
+same 'a file of 4,096 bytes' 'refused 2
+.' "$({ printf 'F\0\020'; head -c 4096 /dev/zero; } | "$second" answer-trials)"
+
+printf 'single questions: %d as expected, %d not\n' "$passed" "$failed"
+[ "$failed" -eq 0 ]
