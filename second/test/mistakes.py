@@ -525,6 +525,48 @@ MISTAKES = [
     ("blame: places of the load cut at row 1", "bound.c",
      "places[j - 1] = refusal == ACCEPTED ? largest_w(load, j)",
      "places[j - 1] = refusal == ACCEPTED && j < row_of(load, 1)->step_count ? largest_w(load, j)"),
+    ("p: blames without the load's check", "bound.c",
+     "enum refusal blames_of(const struct load *load, struct blame blames[MOST_ROWS])\n"
+     "{\n"
+     "    enum refusal refusal = check_load(load);",
+     "enum refusal blames_of(const struct load *load, struct blame blames[MOST_ROWS])\n"
+     "{\n"
+     "    enum refusal refusal = ACCEPTED;"),
+    ("p: places without the load's check", "bound.c",
+     "enum refusal places_of(const struct load *load, struct place_w places[MOST_PLACES])\n"
+     "{\n"
+     "    enum refusal refusal = check_load(load);",
+     "enum refusal places_of(const struct load *load, struct place_w places[MOST_PLACES])\n"
+     "{\n"
+     "    enum refusal refusal = ACCEPTED;"),
+    ("p: margins without the load's check", "bound.c",
+     "enum refusal row_bounds_of(const struct load *load, uint32_t bounds[MOST_ROWS])\n"
+     "{\n"
+     "    enum refusal refusal = check_load(load);",
+     "enum refusal row_bounds_of(const struct load *load, uint32_t bounds[MOST_ROWS])\n"
+     "{\n"
+     "    enum refusal refusal = ACCEPTED;"),
+    ("p: rows not there not asked for blames", "bound.c",
+     "    for (unsigned row = 1; row <= MOST_ROWS; row++) {\n"
+     "        bool there = refusal == ACCEPTED && row <= load->row_count;\n"
+     "        blames[row - 1]",
+     "    struct load used = {.row_count = load->row_count};\n"
+     "    for (unsigned row = 1; row <= load->row_count && row <= MOST_ROWS; row++)\n"
+     "        used.rows[row - 1] = *row_of(load, row);\n"
+     "    refusal = check_load(&used);\n"
+     "    for (unsigned row = 1; row <= MOST_ROWS; row++) {\n"
+     "        bool there = refusal == ACCEPTED && row <= load->row_count;\n"
+     "        blames[row - 1]"),
+    ("p: margins in turned order", "answered.c",
+     '" %ld", (long)margins[row - 1])',
+     '" %ld", (long)margins[MOST_ROWS - row])'),
+    ("p: negative margins as 0", "answered.c",
+     '" %ld", (long)margins[row - 1])',
+     '" %ld", margins[row - 1] < 0 ? 0L : (long)margins[row - 1])'),
+    ("p: margins of rows not there", "bound.c",
+     "refusal == ACCEPTED ? (int32_t)row_of(load, row)->deadline : 0;",
+     "refusal != ACCEPTED ? 0\n"
+     "            : row <= load->row_count ? (int32_t)row_of(load, row)->deadline : MOST_DEADLINE;"),
     ("end of the last row", "bench.c",
      "run.end = end_of(load, move.slot);",
      "if (move.slot.row == load->row_count) run.end = end_of(load, move.slot);"),
