@@ -180,7 +180,7 @@ class Tree:
                 self.methods.setdefault(block[1], set()).update(re.findall(r'\bfn\s+(\w+)', block[2]))
 
     def printed_lines(self):
-        texts = [path for path in self.paths if re.match(r'examples/\w+\.txt$', path)]
+        texts = [path for path in self.paths if re.match(r'examples/\w+\.(txt|blame)$', path)]
         return {line for path in texts for line in read(self.root, path).split('\n')}
 
     def has(self, path):
