@@ -149,7 +149,7 @@ pub schedule-gives : (load : Load) (slots : List Slot) → Gives ofSchedule (che
 unfolding checkSchedule checkSlots slotTests anyIn
 schedule-gives load slots =
     then-gives ofSchedule (checkLoad load) _
-    (record { number = OneOf-more ofLoad ofSchedule refl (numberGiven (checkLoad load)) (load-gives load .number) })
+    (record { passes = OneOf-more ofLoad ofSchedule refl (numberGiven (checkLoad load)) (load-gives load .passes) })
     (last-gives ofSchedule _
     (then-gives ofSchedule _ _
     (tests-give ofSchedule ((not (eqb (length slots) (stepsInAll (viewOf load))), SlotCount) ∷ []) refl)
@@ -179,7 +179,7 @@ rules-give L s = go (move-way (L .cost) L s)
 
 pub move-gives : (load : Load) (bench : Bench) → OneOf ofMove (numberIn (nextMove load bench .outcome))
 unfolding nextMove anyIn
-move-gives load bench = go (checkLoad load) refl (load-gives load .number)
+move-gives load bench = go (checkLoad load) refl (load-gives load .passes)
   where
     go : (found : Checked) → checkLoad load ≡ found → OneOf ofLoad (numberGiven found)
         → OneOf ofMove (numberIn (nextMove load bench .outcome))

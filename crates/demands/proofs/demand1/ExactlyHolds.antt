@@ -78,7 +78,7 @@ module _ (load : Load) where
   module _ (number : ℕ) (high : 7 < number)
       (own : (refusal : Refusal) → checkLoad load ≡ Refused refusal → numberOf refusal ≡ number) where
     in-order : checkLoad load ≡ Good
-    in-order = go (checkLoad load) refl (load-gives load .number)
+    in-order = go (checkLoad load) refl (load-gives load .passes)
       where
         go : (found : Checked) → checkLoad load ≡ found → OneOf ofLoad (numberGiven found) → checkLoad load ≡ Good
         go Good q o = q

@@ -1,8 +1,8 @@
 -- With which numbers a call can refuse: where each test of a list gives one of some numbers, so does the first that is
 -- met, and so does the first finding of several. The definitions are lists of tests, so that each list is decided by
 -- computing.
-use Prim.Native.Nat.{ℕ, zero, suc}
-use mathlib.Core.Bool.{Bool, true, false, cond, _&&_, _||_}
+use Prim.Native.Nat.{ℕ}
+use mathlib.Core.Bool.{Bool, true, false, _&&_, _||_}
 use mathlib.Core.List.{List, [], _∷_}
 use mathlib.Core.Path.{_≡_, refl}
 use lib.Dec.{eqb}
@@ -11,47 +11,43 @@ use Rattle.counting.specs.Lists.{anyIn}
 use Rattle.counting.proofs.tests.TestLaws.{and-left, and-right, true-false}
 use Rattle.refusals.specs.declared.Refusal.{Refusal}
 use Rattle.refusals.specs.declared.Checked.{Checked}
-use Rattle.refusals.specs.declared.Checked.the-variants.{Good, Refused}
-use Rattle.refusals.specs.Refusals.{numberOf, numberGiven}
+use Rattle.refusals.specs.declared.Checked.the-variants.{Good}
+use Rattle.refusals.specs.Refusals.{numberGiven}
 use Rattle.refusals.specs.FirstMet.{firstMet, andThen, firstFaultTo}
+use Rattle.refusals.proofs.FoundLaws.{
+  eachPasses,
+  Passes,
+  firstMet-passes,
+  andThen-passes,
+  last-passes,
+  firstFaultTo-passes,
+}
 use Rattle.demands.specs.NumberLists.{OneOf}
 
 -- what a check finds is Good, or its number is one of these
-pub record Gives (numbers : List ℕ) (found : Checked) : Type 0 where
-  pub number : OneOf numbers (numberGiven found)
+abbrev pub gives : List ℕ → Checked → Bool
+gives numbers found = anyIn (eqb (numberGiven found)) (0 ∷ numbers)
 
--- each test's refusal has one of these numbers
-abbrev pub eachOf : List ℕ → List (Bool × Refusal) → Bool
-eachOf numbers [] = true
-eachOf numbers (t ∷ ts) = anyIn (eqb (numberOf (t .1))) (0 ∷ numbers) && eachOf numbers ts
+-- the same as a fact
+abbrev pub Gives : List ℕ → Checked → Type 0
+Gives numbers = Passes (gives numbers)
 
 module _ (numbers : List ℕ) where
   good-gives : Gives numbers Good
   unfolding anyIn
-  good-gives = record { number = refl }
+  good-gives = record { passes = refl }
 
-  pub tests-give : (ts : List (Bool × Refusal)) → eachOf numbers ts ≡ true → Gives numbers (firstMet ts)
-  tests-give [] e = good-gives
-  tests-give (t ∷ ts) e =
-      go (t .0) (record { number = and-left (anyIn (eqb (numberOf (t .1))) (0 ∷ numbers)) (eachOf numbers ts) e })
-      (tests-give ts (and-right (anyIn (eqb (numberOf (t .1))) (0 ∷ numbers)) (eachOf numbers ts) e))
-    where
-      go : (met : Bool) → Gives numbers (Refused (t .1)) → Gives numbers (firstMet ts)
-          → Gives numbers (cond met (Refused (t .1)) (firstMet ts))
-      go true mine rest = mine
-      go false mine rest = rest
+  pub tests-give : (ts : List (Bool × Refusal)) → eachPasses (gives numbers) ts ≡ true → Gives numbers (firstMet ts)
+  tests-give = firstMet-passes (gives numbers) good-gives
 
   pub then-gives : (a b : Checked) → Gives numbers a → Gives numbers b → Gives numbers (andThen a b)
-  then-gives Good b p q = q
-  then-gives (Refused refusal) b p q = p
+  then-gives a b p q = andThen-passes (gives numbers) good-gives a b p (λ e. q)
 
   pub last-gives : (a : Checked) → Gives numbers a → Gives numbers (andThen a Good)
-  last-gives a p = then-gives a Good p good-gives
+  last-gives = last-passes (gives numbers) good-gives
 
   pub faultsTo-give : (f : ℕ → Checked) → ((i : ℕ) → Gives numbers (f i)) → (n : ℕ) → Gives numbers (firstFaultTo f n)
-  unfolding firstFaultTo
-  faultsTo-give f each zero = good-gives
-  faultsTo-give f each (suc n) = then-gives (firstFaultTo f n) (f n) (faultsTo-give f each n) (each n)
+  faultsTo-give f each n = firstFaultTo-passes (gives numbers) good-gives f n (λ i l. each i)
 
 -- numbers that are all among others
 abbrev pub eachAmong : List ℕ → List ℕ → Bool
@@ -82,4 +78,4 @@ OneOf-more numbers others each = among (0 ∷ numbers) others each
 pub Gives-more : (numbers others : List ℕ) → eachAmong others numbers ≡ true → (found : Checked) → Gives numbers found
     → Gives others found
 Gives-more numbers others each found g =
-    record { number = OneOf-more numbers others each (numberGiven found) (g .number) }
+    record { passes = OneOf-more numbers others each (numberGiven found) (g .passes) }

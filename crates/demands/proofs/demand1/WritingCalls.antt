@@ -41,13 +41,13 @@ given-gives numbers finding answer out found after nine f g =
     rw (g .finding-is)
     (then-gives numbers finding _ f
     (last-gives numbers _
-    (tests-give numbers ((ltb (length out) (length answer), OutputShort) ∷ []) (rw nine))) .number)
+    (tests-give numbers ((ltb (length out) (length answer), OutputShort) ∷ []) (rw nine))) .passes)
 
 -- one of some numbers is one of them and 9
 with-nine : (numbers : List ℕ) (found : Checked) → eachAmong (numbers ++ ofOutput) numbers ≡ true → Gives numbers found
     → Gives (numbers ++ ofOutput) found
 with-nine numbers found each g =
-    record { number = OneOf-more numbers (numbers ++ ofOutput) each (numberGiven found) (g .number) }
+    record { passes = OneOf-more numbers (numbers ++ ofOutput) each (numberGiven found) (g .passes) }
 
 pub load-written-gives : (load : Load) (out : List ℕ) (r : Checked) (after : List ℕ) → WriteLoad load out r after
     → OneOf ofWriting (numberGiven r)
@@ -91,7 +91,7 @@ pub out-gives : (answer out : List ℕ) (r : Written) (after : List ℕ) → Wri
     → OneOf ofOutput (numberGiven (r .answer))
 unfolding anyIn
 out-gives answer out r after p =
-    given-gives ofOutput Good answer out (r .answer) after refl (record { number = refl }) (p .given)
+    given-gives ofOutput Good answer out (r .answer) after refl (record { passes = refl }) (p .given)
 
 -- a finding whose number is not 0 leaves the output
 number-stays : (finding : Checked) (answer out : List ℕ) (found : Checked) (after : List ℕ)
