@@ -1,5 +1,5 @@
-/* Numbers given back: the document's table, in its order. Nothing else in the program
-   writes these numbers as numerals. */
+/* Numbers given back: document 01's table, in its order, and then those of document 02's requests.
+   Nothing else in the program writes these numbers as numerals. */
 #ifndef NUMBERS_H
 #define NUMBERS_H
 
@@ -21,7 +21,10 @@ enum refusal {
     SLOT_OVERLAPS = 14,
     SLOT_EARLY = 15,
     WINDOW_LATE = 16,
-    ROW_LATE = 17
+    ROW_LATE = 17,
+    LINE_MALFORMED = 18,
+    ROW_DIFFERS = 19,
+    WINDOW_ALONE = 20
 };
 
 #endif

@@ -2,20 +2,11 @@
 #include <stdio.h>
 #include <string.h>
 
+#include "conversion.h"
 #include "lent.h"
-#include "load_file.h"
-#include "notation.h"
 #include "report.h"
 #include "trials.h"
 #include "values.h"
-
-enum { GOOD = 0, CANNOT = 2, NOTATION_ROOM = 1 << 18 };
-
-/* One byte more than a load file can have: a longer input is then refused like any other. */
-struct load_input {
-    size_t length;
-    uint8_t bytes[MOST_LOAD_BYTES + 1];
-};
 
 static const char HELP[] =
     "second report            a load file on standard input: prints its report\n"
@@ -32,6 +23,13 @@ static const char HELP[] =
     "                         each row (numbers not there are 0): prints the move and the state\n"
     "second answer-trials     questions on standard input (trials.h): prints their answers\n"
     "second load              rows as text on standard input: writes a load file, unchecked\n"
+    "second load-of-sheet     a route sheet on standard input: writes its load file\n"
+    "second sheet-of-load     a load file on standard input: writes its route sheet\n"
+    "\n"
+    "These two write nothing for what is refused: `refused N` stands on standard error, and the\n"
+    "exit status is 1. A route sheet has a line a step, each with CR LF:\n"
+    "    ID,BOX,PHASE,DEADLINE,COST,WAIT,LIMIT\n"
+    "The limit stands on a window's first step, - on its other steps, nothing elsewhere.\n"
     "\n"
     "A row as text, one line each:\n"
     "    ID BOX PHASE DEADLINE : COST wWAIT COST ... : FIRST-LAST<=LIMIT ...\n"
@@ -41,18 +39,6 @@ static const char HELP[] =
     "    101 201 0 1000000 : 2 w4 2 : 1-2<=8\n"
     "    102 202 0 1000000 : 3\n"
     "    103 203 0 1000000 : 2 w1 1 : 1-2<=6\n";
-
-static int cannot(const char *what)
-{
-    fprintf(stderr, "second: %s\n", what);
-    return CANNOT;
-}
-
-/* A failed read counts as the input's end. */
-static void take_input(FILE *file, struct load_input *input)
-{
-    input->length = fread(input->bytes, 1, sizeof input->bytes, file);
-}
 
 static bool take_file(const char *name, struct load_input *input)
 {
@@ -81,37 +67,6 @@ static int answer_files(int count, char **names)
         print_answers(stdout, input.bytes, input.length);
     }
     return GOOD;
-}
-
-static int write_load_text(void)
-{
-    uint8_t bytes[NOTATION_ROOM];
-    size_t written;
-    unsigned long line = write_notation(stdin, bytes, sizeof bytes, &written);
-    if (line != 0) {
-        fprintf(stderr, "second: line %lu is not a row in the notation\n", line);
-        return CANNOT;
-    }
-    fwrite(bytes, 1, written, stdout);
-    return GOOD;
-}
-
-static int write_input_schedule(void)
-{
-    struct load_input input;
-    struct load load;
-    uint8_t bytes[MOST_SCHEDULE_BYTES];
-    size_t written = 0;
-    take_input(stdin, &input);
-    enum refusal refusal = read_load(input.bytes, input.length, &load);
-    if (refusal == ACCEPTED) {
-        struct run run = run_of(&load);
-        refusal = write_schedule(run.slots, run.slot_count, bytes, sizeof bytes, &written);
-    }
-    fwrite(bytes, 1, written, stdout);
-    if (refusal != ACCEPTED)
-        fprintf(stderr, "refused %d\n", (int)refusal);
-    return refusal == ACCEPTED ? GOOD : CANNOT;
 }
 
 /* One slot more than any load has steps: a longer list has another count all the same. */
@@ -169,11 +124,15 @@ static int answer(int count, char **words)
     if (count == 2 && strcmp(command, "terms") == 0)
         return print_of_input(print_terms);
     if (count == 2 && strcmp(command, "schedule") == 0)
-        return write_input_schedule();
+        return write_schedule_of_load(stdin, stdout);
     if (count == 2 && strcmp(command, "answer-trials") == 0)
         return answer_input_trials();
     if (count == 2 && strcmp(command, "load") == 0)
-        return write_load_text();
+        return write_load_of_text(stdin, stdout);
+    if (count == 2 && strcmp(command, "load-of-sheet") == 0)
+        return write_load_of_sheet(stdin, stdout);
+    if (count == 2 && strcmp(command, "sheet-of-load") == 0)
+        return write_sheet_of_load(stdin, stdout);
     if (count == 3 && strcmp(command, "check") == 0)
         return with_load_file(words[2], check_slot_lines);
     if (count == 3 && strcmp(command, "move") == 0)

@@ -1,0 +1,50 @@
+/* Numbers at the ends of their ranges and beyond (3), twins (4, 5), and which comes first. */
+#include "worked_sheets.h"
+
+const struct worked_sheet WORKED_RANGES[] = {
+    {3, "identifier 0", LINE("0,201,0,9,1,0,")},
+    {0, "identifier 1", LINE("1,201,0,9,1,0,")},
+    {0, "identifier 4,294,967,295", LINE("4294967295,201,0,9,1,0,")},
+    {3, "identifier 4,294,967,296", LINE("4294967296,201,0,9,1,0,")},
+    {3, "box 0", LINE("101,0,0,9,1,0,")},
+    {0, "box 4,294,967,295", LINE("101,4294967295,0,9,1,0,")},
+    {3, "box 4,294,967,296", LINE("101,4294967296,0,9,1,0,")},
+    {0, "identifier and box alike", LINE("7,7,0,9,1,0,")},
+    {0, "phase 86,400", LINE("101,201,86400,9,1,0,")},
+    {3, "phase 86,401", LINE("101,201,86401,9,1,0,")},
+    {3, "deadline 0", LINE("101,201,0,0,1,0,")},
+    {0, "deadline 1", LINE("101,201,0,1,1,0,")},
+    {0, "deadline 1,000,000", LINE("101,201,0,1000000,1,0,")},
+    {3, "deadline 1,000,001", LINE("101,201,0,1000001,1,0,")},
+    {3, "cost 0", LINE("101,201,0,9,0,0,")},
+    {0, "cost 600", LINE("101,201,0,9,600,0,")},
+    {3, "cost 601", LINE("101,201,0,9,601,0,")},
+    {0, "wait 3,600", LINE("101,201,0,9,1,3600,") LINE("101,201,0,9,1,0,")},
+    {3, "wait 3,601", LINE("101,201,0,9,1,3601,") LINE("101,201,0,9,1,0,")},
+    {3, "a last wait of 1", LINE("101,201,0,9,1,1,")},
+    {3, "a last wait of 1 in the first of two rows", IN_1("2,1,") IN_2("3,0,")},
+    {3, "a last wait that the next row's line would go on with", IN_1("2,4,") IN_2("3,0,")},
+    {4, "the first row's lines again", SHEET_OF_B IN_1("2,4,8") IN_1("2,0,-")},
+    {4, "a row again after another one", IN_1("2,0,") IN_2("3,0,") IN_1("2,0,")},
+    {4, "a row cut in two by another, with other boxes", IN_1("2,0,") IN_2("3,0,")
+        LINE("101,7,5,9,1,0,")},
+    {4, "the last row's identifier in front", IN_2("3,0,") IN_1("2,0,") IN_2("3,0,")},
+    {5, "a box again", IN_1("2,4,8") IN_1("2,0,-") LINE("102,201,0,1000000,3,0,")},
+    {5, "the first row's box in row 3", IN_1("2,0,") IN_2("3,0,") LINE("103,201,0,9,1,0,")},
+    {4, "identifier and box again", IN_1("2,0,") IN_2("3,0,") IN_1("2,0,")},
+    {3, "identifier again and deadline 0", IN_1("2,0,") IN_2("3,0,") LINE("101,201,0,0,2,0,")},
+    {4, "identifier again and cost 0", IN_1("2,0,") IN_2("3,0,") IN_1("0,0,")},
+    {5, "box again and cost 601", IN_1("2,0,") LINE("102,201,0,9,601,0,")},
+    {5, "box again and a limit below its chain", IN_1("2,0,") LINE("102,201,0,9,2,4,7")
+        LINE("102,201,0,9,2,0,-")},
+    {3, "cost 0 before a limit below its chain", IN_1("2,4,7") IN_1("0,0,-")},
+    {3, "cost 0 after a window that is too short", IN_1("2,4,7") IN_1("2,4,-") IN_1("0,0,")},
+    {3, "a wait too long inside a window that is too short", IN_1("2,3601,7") IN_1("2,0,-")},
+    {7, "a limit below its chain, and box again in row 2", IN_1("2,4,7") IN_1("2,0,-")
+        LINE("102,201,0,9,1,0,")},
+    {7, "a limit below its chain, and cost 0 in row 2", IN_1("2,4,7") IN_1("2,0,-") IN_2("0,0,")},
+    {3, "cost 0 in row 1, identifier again in row 3", IN_1("0,0,") IN_2("3,0,") IN_1("2,0,")},
+    {4, "identifier again in row 3, phase out of range in row 4", IN_1("2,0,") IN_2("3,0,")
+        IN_1("2,0,") LINE("104,204,86401,9,1,0,")},
+    {0, NULL, NULL},
+};
