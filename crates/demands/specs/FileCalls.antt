@@ -6,7 +6,7 @@ use Rattle.refusals.specs.declared.Checked.{Checked}
 use Rattle.load.specs.declared.Row.{Row}
 use Rattle.load.specs.declared.Load.{Load}
 use Rattle.load_records.specs.declared.RowRecords.{RowRecords}
-use Rattle.load_records.specs.Calls.{RowRecordsOf, WriteLoad}
+use Rattle.load_records.specs.Calls.{RowRecordsOf, FileSize, WriteLoad}
 use Rattle.load_file.specs.declared.Reading.{Reading}
 use Rattle.load_file.specs.Calls.{ReadLoad}
 
@@ -23,6 +23,7 @@ Writes meets wrote = meets (wrote .gives) (wrote .after)
 pub record EveryFileCall {ℓ} (Claim : (A : Type 0) → (A → Type 0) → Type ℓ) : Type ℓ where
   -- load_records
   pub row-records : (row : Row) → Claim RowRecords (RowRecordsOf row)
+  pub file-size : (load : Load) → Claim ℕ (FileSize load)
   pub write-load : (load : Load) (out : List ℕ)
       → Claim (Wrote Checked) (Writes (WriteLoad load out))
   -- load_file

@@ -9,10 +9,13 @@ use Rattle.load.specs.declared.Load.{Load}
 use Rattle.load.specs.Check.{checkLoad}
 use Rattle.load_records.specs.declared.RowRecords.{RowRecords}
 use Rattle.load_records.specs.Writing.{loadBytes}
-use Rattle.load_records.specs.Calls.{RowRecordsOf, WriteLoad}
+use Rattle.load_records.specs.Calls.{RowRecordsOf, FileSize, WriteLoad}
 
 pub RowRecordsOf-unique : (row : Row) (r s : RowRecords) → RowRecordsOf row r → RowRecordsOf row s → r ≡ s
 RowRecordsOf-unique row r s p q = p ∙ sym q
+
+pub FileSize-unique : (load : Load) (r s : ℕ) → FileSize load r → FileSize load s → r ≡ s
+FileSize-unique load r s p q = p ∙ sym q
 
 pub WriteLoad-unique : (load : Load) (out : List ℕ) (r s : Checked) (after later : List ℕ)
     → WriteLoad load out r after → WriteLoad load out s later → (r ≡ s) × (after ≡ later)

@@ -25,6 +25,7 @@ worked-hold =
     record {
       records = refl;
       records-counted = refl;
+      size = refl;
       written = record { finding-is = refl; output-is = refl };
       room-more = record { finding-is = refl; output-is = refl };
       room-less = record { finding-is = refl; output-is = refl };

@@ -5,7 +5,7 @@ use mathlib.Core.List.{List, _++_}
 use mathlib.Core.Path.{_≡_}
 use lib.ListN.{length, replicate}
 use Rattle.refusals.specs.declared.Checked.{Checked}
-use Rattle.refusals.specs.Given.{Given}
+use Rattle.refusals.specs.Given.{ifGood, Given}
 use Rattle.load.specs.declared.Row.{Row}
 use Rattle.load.specs.declared.Load.{Load}
 use Rattle.load.specs.Check.{checkLoad}
@@ -21,6 +21,10 @@ recordsHolding bs =
 -- row_records(row): the row's own record, then its steps' and its windows' records
 abbrev pub RowRecordsOf : Row → RowRecords → Type 0
 RowRecordsOf row r = r ≡ recordsHolding (rowBytes (countedRow row))
+
+-- file_size(load): how many bytes the load's file has; 0 where the load is refused
+abbrev pub FileSize : Load → ℕ → Type 0
+FileSize load r = r ≡ ifGood (checkLoad load) (length (loadBytes load)) 0
 
 -- write_load(load, out): 3 to 7, then 9, and the output as it was; or Good, and the file at the
 -- output's front

@@ -6,7 +6,7 @@ use Rattle.refusals.specs.declared.Refusal.the-variants.{OutputShort}
 use Rattle.refusals.specs.declared.Checked.the-variants.{Good, Refused}
 use Rattle.load.specs.declared.Row.{Row}
 use Rattle.load.specs.Load.{rowAt}
-use Rattle.load_records.specs.Calls.{RowRecordsOf, WriteLoad}
+use Rattle.load_records.specs.Calls.{RowRecordsOf, FileSize, WriteLoad}
 use Rattle.load_records.specs.WorkedFile.{joined, row, steps, windows, file, spelled}
 
 -- a row with more steps and windows than have a place
@@ -42,6 +42,8 @@ pub record WorkedCases : Type 0 where
             ++ windows
             ++ joined (replicate 3 (0x57 ∷ 0x4E ∷ 0 ∷ 0 ∷ 0 ∷ 0 ∷ []));
       })
+  -- the load's file has 46 bytes
+  pub size : FileSize spelled 46
   -- the load is written as its file, into a room of exactly its 46 bytes
   pub written : WriteLoad spelled (replicate 46 7) Good (joined file)
   -- into a room of one byte more, which stays

@@ -18,6 +18,7 @@ pub use records::VERSION;
 pub use records::WINDOW_MARK;
 pub use records::WINDOW_SIZE;
 pub use rows::row_records;
+pub use writing::file_size;
 pub use writing::write_load;
 
 // The records of a row: so many bytes, and 0 in the places behind them.

@@ -18,10 +18,10 @@ ghost use Rattle.load.specs.Load.{rowAt};
 ghost use Rattle.load.specs.Check.{checkLoad};
 ghost use Rattle.load_records.specs.Records.{headerKind};
 ghost use Rattle.load_records.specs.Writing.{rowBytes, loadBytes};
-ghost use Rattle.load_records.specs.Calls.{WriteLoad};
+ghost use Rattle.load_records.specs.Calls.{FileSize, WriteLoad};
 
-// Gives how many bytes the file of a load has.
-fn file_size(load: Load) -> usize
+// Gives how many bytes the file has of a load that passes its check.
+fn whole_size(load: Load) -> usize
     requires { ⌜ checkLoad load ≡ Checked.Good ⌝ }
     ensures { λ r. ⌜ r ≡ length (loadBytes load) ⌝ }
 {
@@ -30,6 +30,16 @@ fn file_size(load: Load) -> usize
         size += row_size(load.row[i]);
     }
     size
+}
+
+// Gives how many bytes the file of a load has; 0 where its check refuses the load, which has none.
+pub fn file_size(load: Load) -> usize
+    ensures { λ r. ⌜ FileSize load r ⌝ }
+{
+    if let Checked::Refused(_) = load::check_load(load) {
+        return 0;
+    }
+    whole_size(load)
 }
 
 // Writes the rows of a load behind the header, and gives the place behind them.
@@ -72,7 +82,7 @@ pub fn write_load(load: Load, out: &mut [u8]) -> Checked
     if let Checked::Refused(refusal) = load::check_load(load) {
         return Checked::Refused(refusal);
     }
-    if out.len() < file_size(load) {
+    if out.len() < whole_size(load) {
         return Checked::Refused(Refusal::OutputShort);
     }
     write_file(out, load);

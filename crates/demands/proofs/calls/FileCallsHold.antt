@@ -2,7 +2,7 @@
 use mathlib.Core.Path.{refl}
 use Rattle.load.specs.Check.{checkLoad}
 use Rattle.load_records.specs.Writing.{loadBytes}
-use Rattle.load_records.proofs.CallLaws.{RowRecordsOf-unique, WriteLoad-unique}
+use Rattle.load_records.proofs.CallLaws.{RowRecordsOf-unique, FileSize-unique, WriteLoad-unique}
 use Rattle.load_file.proofs.CallLaws.{ReadLoad-unique}
 use Rattle.demands.specs.FileCalls.{EveryFileCall}
 use Rattle.demands.specs.Sameness.{OneResult}
@@ -15,6 +15,7 @@ abbrev pub file-relations : EveryFileCall Relation
 file-relations =
     record {
       row-records = λ row. listed;
+      file-size = λ load. listed;
       write-load = λ load out. listed;
       read-load = λ bs. listed;
     }
@@ -23,6 +24,7 @@ pub file-contracts : FileContracts file-relations
 file-contracts =
     record {
       row-records = refl;
+      file-size = refl;
       write-load = refl;
       read-load = refl;
     }
@@ -31,6 +33,7 @@ pub file-same : EveryFileCall OneResult
 file-same =
     record {
       row-records = RowRecordsOf-unique;
+      file-size = FileSize-unique;
       write-load = λ load out. both _ (WriteLoad-unique load out);
       read-load = ReadLoad-unique;
     }
@@ -39,6 +42,7 @@ pub file-answers : EveryFileCall Answer
 file-answers =
     record {
       row-records = λ row. is _;
+      file-size = λ load. is _;
       write-load = λ load out. given (checkLoad load) (loadBytes load) out;
       read-load = λ bs. is _;
     }

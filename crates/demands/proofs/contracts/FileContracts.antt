@@ -9,6 +9,8 @@ pub record FileContracts (relation : EveryFileCall Relation) : Type 2 where
   -- load_records
   pub row-records : Says load_records.row_records.ended (λ M. load_records.row_records.spec)
       (λ κs a r s. relation .row-records (a .0) .meets r)
+  pub file-size : Says load_records.file_size.ended (λ M. load_records.file_size.spec)
+      (λ κs a r s. relation .file-size (a .0) .meets r)
   pub write-load : Says load_records.write_load.ended (λ M. load_records.write_load.spec)
       (λ κs a r s. relation .write-load (a .0) (a .1 .0 .now) .meets (wrote r (s .1 .0 .now)))
   -- load_file

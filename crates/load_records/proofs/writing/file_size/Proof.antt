@@ -1,68 +1,35 @@
--- `load_records::writing::file_size` adds row by row: after i turns the size is that of the header, of the end record
--- and of the first i rows. A checked load has few enough rows, steps and windows that the sum fits.
-use Prim.Native.Nat.{_+_, _-_, _≤_}
-use mathlib.Core.Path.{_≡_}
-use native.Mathlib.Omega.{arith}
+-- `load_records::writing::file_size` gives 0 where the check refuses, and else the whole size.
+use mathlib.Core.Path.{_≡_, sym, _∙_}
 use borrow.Author.Needs.{needs}
 use lib.ListN.{length}
-use Rattle.load.specs.Load.{mostRows}
-use Rattle.load_records.proofs.WritingLaws.{
-  rowsBytes,
-  rowsBytes-length-zero,
-  rowsBytes-length-next,
-  rowsBytes-length-le,
-  rowBytes-length-le,
-  loadBytes-length-rows,
-  rows-le,
-}
+use Rattle.refusals.specs.declared.Checked.the-variants.{Good}
+use Rattle.refusals.proofs.GivenLaws.{ifGood-good, ifGood-refused}
+use Rattle.load.specs.Check.{checkLoad}
+use Rattle.load_records.specs.Writing.{loadBytes}
 use Rattle.load_records.proofs.writing.file_size.Statement.{statement}
 use Rattle.load_records.proofs.writing.file_size.Tie as tie
 
-abbrev Inv-loop : tie.InvT-loop
-Inv-loop load size₀ i₀ i-end size i =
-    (i ≤ load .rows) × (load .rows ≤ mostRows) × (size ≡ 8 + length (rowsBytes load i))
+has-none : tie.Need-returns
+has-none c =
+    let load = c .before .before .before .args .load in
+    let refused = sym (c .before .before .check-load .ensures) ∙ c .enum-told .given .1 in
+    sym (ifGood-refused (checkLoad load) (length (loadBytes load)) 0 _ refused)
 
-abbrev μ-loop : tie.MeasureT-loop
-μ-loop load size₀ i₀ i-end size i = load .rows - i
+is-good : (c : tie.After-enum-told2) → checkLoad (c .before .before .before .args .load) ≡ Good
+is-good c = sym (c .before .before .check-load .ensures) ∙ c .enum-told2 .given .1
 
-starts : tie.Need-loop-holds Inv-loop μ-loop
-starts c = let e = rowsBytes-length-zero (c .args .t1) in (search needs, rows-le _ (c .pre), omega arith)
-
-sum-fits : tie.Need-add-size-2 Inv-loop μ-loop
-sum-fits c =
-    let a = c .before .before .before in
-    let load = a .before .args .t1 in
-    let so-far = rowsBytes-length-le load (a .before .pre) (a .loop .i) (omega arith) in
-    let row = rowBytes-length-le load (a .before .pre) (a .loop .i) (omega arith) in
-    omega arith
-
-goes-on : tie.Need-loop-again Inv-loop μ-loop
-goes-on c =
-    let a = c .before .before .before in
-    let e = rowsBytes-length-next (a .before .args .t1) (a .loop .i) in
-    (search needs, search needs, omega arith)
-
-ends : tie.Need-returns Inv-loop μ-loop
-ends c =
-    let a = c .before in
-    let e : a .loop .i ≡ a .before .args .t1 .rows = omega arith in
-    let size = rw e at (a .loop .inv .2) in
-    omega (arith, loadBytes-length-rows (a .before .args .t1))
+has-file : tie.Need-returns-2
+has-file c =
+    let load = c .before .before .before .before .args .load in
+    c .whole-size .ensures ∙ sym (ifGood-good (checkLoad load) (length (loadBytes load)) 0 (is-good (c .before)))
 
 pub file-size-spec : {M : Type 1} → statement M
 file-size-spec =
     tie.close
     (tie.spec
-    Inv-loop
-    μ-loop
-    (λ c. search needs)
-    (λ c. search needs)
-    starts
-    (λ c. search needs)
-    (λ c. search needs)
     (λ c κs. search needs)
-    sum-fits
     (λ c. search needs)
+    has-none
     (λ c. search needs)
-    goes-on
-    ends)
+    (λ c κs. is-good c)
+    has-file)
