@@ -6,6 +6,7 @@ use Rattle.demands.specs.Demand1.{Answer}
 use Rattle.demands.proofs.calls.WordCallsHold.{word-same, word-answers}
 use Rattle.demands.proofs.calls.LoadCallsHold.{load-same, load-answers}
 use Rattle.demands.proofs.calls.FileCallsHold.{file-same, file-answers}
+use Rattle.demands.proofs.calls.SheetCallsHold.{sheet-same, sheet-answers}
 use Rattle.demands.proofs.calls.BoundCallsHold.{bound-same, bound-answers}
 use Rattle.demands.proofs.calls.BenchCallsHold.{bench-same, bench-answers}
 use Rattle.demands.proofs.calls.ScheduleCallsHold.{schedule-same, schedule-answers}
@@ -17,6 +18,7 @@ sameness =
       words = word-same;
       loads = load-same;
       files = file-same;
+      sheets = sheet-same;
       bounds = bound-same;
       benches = bench-same;
       schedules = schedule-same;
@@ -29,6 +31,7 @@ every-answer =
       words = word-answers;
       loads = load-answers;
       files = file-answers;
+      sheets = sheet-answers;
       bounds = bound-answers;
       benches = bench-answers;
       schedules = schedule-answers;

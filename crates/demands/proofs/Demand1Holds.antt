@@ -3,6 +3,8 @@
 use mathlib.Core.Path.{ap, sym, _∙_}
 use Rattle.refusals.specs.declared.Checked.the-variants.{Good}
 use Rattle.refusals.proofs.TableLaws.{numberOf-apart, numberOf-least, numberOf-le}
+use Rattle.load.specs.Check.{checkLoad}
+use Rattle.sheet.specs.Writing.{sheetBytes}
 use Rattle.rules.specs.Margins.{marginBytes}
 use Rattle.bench.specs.declared.Moved.{Moved}
 use Rattle.reading_bench.specs.Calls.{boundBytes, verdictBytes, scheduleFile}
@@ -27,6 +29,8 @@ demand1 =
       load-first = load-first;
       alone = returned-alone;
       load-stays = λ load out refusal after g. g .output-is;
+      sheet-stays = λ load out refusal r after p e.
+          out-keeps (checkLoad load) (sheetBytes load) out refusal r after p e;
       schedule-stays = λ slots out refusal after g. g .output-is;
       run-stays = λ bs out refusal after g. g .output-is;
       array-stays = λ slots n out refusal after g. g .output-is;

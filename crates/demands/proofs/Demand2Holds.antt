@@ -37,6 +37,7 @@ use Rattle.schedule.proofs.CheckExactly.{checkSchedule-exactly}
 use Rattle.demands.specs.Demand2.{fileIn, Demand2}
 use Rattle.demands.proofs.moves.MovesHeld.{next-same}
 use Rattle.demands.proofs.demand2.HostHolds.{host-answers}
+use Rattle.demands.proofs.demand2.SheetHolds.{sheet-answers}
 use Rattle.demands.proofs.demand2.TwinsHold.{twins-answered}
 
 -- a file that is not refused, written back
@@ -67,6 +68,7 @@ demand2 =
       one-load = λ bs r s p q. ap (λ (x : Reading). x .load) (p ∙ sym q);
       read-write = reads-writes;
       write-read = writes-reads;
+      sheets = sheet-answers;
       bounds = BoundOf-good;
       margins-are = MarginsOf-good;
       margins-written = λ load r e g bytes h. h ∙ ap bytesOfMargins (MarginsOf-good load r e g);

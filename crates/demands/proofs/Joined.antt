@@ -9,6 +9,7 @@ use Rattle.demands.specs.JoinedContract.{Relation}
 use Rattle.demands.proofs.contracts.WordContracts.{WordContracts}
 use Rattle.demands.proofs.contracts.LoadContracts.{LoadContracts}
 use Rattle.demands.proofs.contracts.FileContracts.{FileContracts}
+use Rattle.demands.proofs.contracts.SheetContracts.{SheetContracts}
 use Rattle.demands.proofs.contracts.BoundContracts.{BoundContracts}
 use Rattle.demands.proofs.contracts.BenchContracts.{BenchContracts}
 use Rattle.demands.proofs.contracts.ScheduleContracts.{ScheduleContracts}
@@ -22,6 +23,7 @@ pub record Joined : Type 2 where
   pub words : WordContracts (relation .words)
   pub loads : LoadContracts (relation .loads)
   pub files : FileContracts (relation .files)
+  pub sheets : SheetContracts (relation .sheets)
   pub bounds : BoundContracts (relation .bounds)
   pub benches : BenchContracts (relation .benches)
   pub schedules : ScheduleContracts (relation .schedules)

@@ -6,6 +6,7 @@ use Rattle.demands.proofs.Joined.{Joined}
 use Rattle.demands.proofs.calls.WordCallsHold.{word-relations, word-contracts}
 use Rattle.demands.proofs.calls.LoadCallsHold.{load-relations, load-contracts}
 use Rattle.demands.proofs.calls.FileCallsHold.{file-relations, file-contracts}
+use Rattle.demands.proofs.calls.SheetCallsHold.{sheet-relations, sheet-contracts}
 use Rattle.demands.proofs.calls.BoundCallsHold.{bound-relations, bound-contracts}
 use Rattle.demands.proofs.calls.BenchCallsHold.{bench-relations, bench-contracts}
 use Rattle.demands.proofs.calls.ScheduleCallsHold.{schedule-relations, schedule-contracts}
@@ -17,6 +18,7 @@ relations =
       words = word-relations;
       loads = load-relations;
       files = file-relations;
+      sheets = sheet-relations;
       bounds = bound-relations;
       benches = bench-relations;
       schedules = schedule-relations;
@@ -30,6 +32,7 @@ joined =
       words = word-contracts;
       loads = load-contracts;
       files = file-contracts;
+      sheets = sheet-contracts;
       bounds = bound-contracts;
       benches = bench-contracts;
       schedules = schedule-contracts;

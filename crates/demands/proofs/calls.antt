@@ -3,6 +3,7 @@ pub mod CallAnswers
 pub mod WordCallsHold
 pub mod LoadCallsHold
 pub mod FileCallsHold
+pub mod SheetCallsHold
 pub mod BoundCallsHold
 pub mod BenchCallsHold
 pub mod ScheduleCallsHold

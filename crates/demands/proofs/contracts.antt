@@ -2,6 +2,7 @@
 pub mod WordContracts
 pub mod LoadContracts
 pub mod FileContracts
+pub mod SheetContracts
 pub mod BoundContracts
 pub mod BenchContracts
 pub mod ScheduleContracts

@@ -13,6 +13,7 @@ use Rattle.refusals.specs.declared.Written.{Written}
 use Rattle.refusals.specs.Calls.{NumberOf}
 use Rattle.load.specs.declared.Load.{Load}
 use Rattle.load_records.specs.Calls.{WriteLoad}
+use Rattle.sheet.specs.Calls.{WriteSheet}
 use Rattle.rules.specs.declared.Slot.{Slot}
 use Rattle.rules.specs.declared.Outcome.the-variants as outcome
 use Rattle.schedule_file.specs.Calls.{WriteSchedule, WriteArray}
@@ -63,6 +64,8 @@ pub record Demand1 : Type 0 where
   -- a refused call leaves the output as it was
   pub load-stays : (load : Load) (out : List ℕ) (refusal : Refusal) (after : List ℕ)
       → WriteLoad load out (Refused refusal) after → after ≡ out
+  pub sheet-stays : (load : Load) (out : List ℕ) (refusal : Refusal) (r : Written) (after : List ℕ)
+      → WriteSheet load out r after → r .answer ≡ Refused refusal → after ≡ out
   pub schedule-stays : (slots : List Slot) (out : List ℕ) (refusal : Refusal) (after : List ℕ)
       → WriteSchedule slots out (Refused refusal) after → after ≡ out
   pub run-stays : (bs out : List ℕ) (refusal : Refusal) (after : List ℕ)

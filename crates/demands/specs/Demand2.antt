@@ -46,6 +46,7 @@ use Rattle.bench.specs.declared.Moved.{Moved}
 use Rattle.bench.specs.Held.{stateOf, HeldBench}
 use Rattle.bench.specs.Calls.{NextMove}
 use Rattle.demands.specs.HostAnswers.{HostAnswers}
+use Rattle.demands.specs.SheetAnswers.{SheetAnswers}
 use Rattle.demands.specs.Twins.{Twins}
 
 -- the file of a load that was written into an output: so many bytes from its front
@@ -80,6 +81,8 @@ pub record Demand2 : Type 0 where
   -- and a written load reads back as itself
   pub write-read : (load : Load) → Held load → (out after : List ℕ) → WriteLoad load out Good after
       → (r : Reading) → ReadLoad (fileIn load after) r → r ≡ accepted load
+  -- and so it is with route sheets
+  pub sheets : SheetAnswers
   -- the bound equals document 01's definition
   pub bounds : (load : Load) (r : Bounded) → BoundOf load r → r .answer ≡ Good
       → r .bound ≡ bound (viewOf load)

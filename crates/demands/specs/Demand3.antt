@@ -18,6 +18,7 @@ use Rattle.load.specs.View.{viewOf, isFree}
 use Rattle.load.specs.Calls.{CheckLoad}
 use Rattle.load_file.specs.declared.Reading.{Reading}
 use Rattle.load_file.specs.Calls.{ReadLoad}
+use Rattle.sheet.specs.Calls.{ReadSheet}
 use Rattle.rules.specs.declared.Slot.{Slot}
 use Rattle.rules.specs.declared.Outcome.the-variants.{Done}
 use Rattle.rules.specs.Outcomes.{toldBy}
@@ -102,7 +103,10 @@ pub record Demand3 : Type 0 where
   -- any file that is not refused
   pub of-files : (bs : List ℕ) → Bytes bs → (r : Reading) → ReadLoad bs r → r .answer ≡ Good
       → (run : Run (r .load)) → RunKept (r .load) run
-  -- whose call writes the schedule file as well
+  -- any sheet that is not refused
+  pub of-sheets : (bs : List ℕ) → Bytes bs → (r : Reading) → ReadSheet bs r → r .answer ≡ Good
+      → (run : Run (r .load)) → RunKept (r .load) run
+  -- a file's call writes the schedule file as well
   pub runs-of-files : (bs : List ℕ) → Bytes bs → (r : Reading) → ReadLoad bs r → r .answer ≡ Good
       → (out after : List ℕ) → WriteRun bs out Good after
       → after ≡ written (scheduleBytes (schedule (viewOf (r .load)))) out

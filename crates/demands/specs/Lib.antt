@@ -2,6 +2,7 @@
 pub mod WordCalls
 pub mod LoadCalls
 pub mod FileCalls
+pub mod SheetCalls
 pub mod BoundCalls
 pub mod BenchCalls
 pub mod ScheduleCalls
@@ -16,6 +17,7 @@ pub mod LoadFirst
 pub mod ReturnedAlone
 pub mod Demand1
 pub mod HostAnswers
+pub mod SheetAnswers
 pub mod Twins
 pub mod Demand2
 pub mod Demand3
@@ -28,6 +30,7 @@ pub mod LoadPhase
 pub mod SmallLoads
 pub mod FaultyLoads
 pub mod AllLoads
+pub mod SheetsToTry
 pub mod WorkedRuns
 pub mod IdleBuilds
 pub mod ShutOut

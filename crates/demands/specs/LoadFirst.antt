@@ -7,9 +7,11 @@ use mathlib.Core.Path.{_≡_}
 use Rattle.refusals.specs.declared.Refusal.{Refusal}
 use Rattle.refusals.specs.declared.Checked.{Checked}
 use Rattle.refusals.specs.declared.Checked.the-variants.{Refused}
+use Rattle.refusals.specs.declared.Written.{Written}
 use Rattle.load.specs.declared.Load.{Load}
 use Rattle.load.specs.Calls.{CheckLoad}
 use Rattle.load_records.specs.Calls.{WriteLoad}
+use Rattle.sheet.specs.Calls.{WriteSheet}
 use Rattle.rules.specs.declared.Slot.{Slot}
 use Rattle.rules.specs.declared.Outcome.the-variants as outcome
 use Rattle.bound.specs.declared.Answered.{Answered}
@@ -45,6 +47,8 @@ pub record RefuseFirst (load : Load) (refusal : Refusal) : Type 0 where
       → r ≡ Refused refusal
   pub write-load : (out : List ℕ) (r : Checked) (after : List ℕ) → WriteLoad load out r after
       → r ≡ Refused refusal
+  pub write-sheet : (out : List ℕ) (r : Written) (after : List ℕ) → WriteSheet load out r after
+      → r .answer ≡ Refused refusal
 
 -- the load comes first
 pub record LoadFirst : Type 0 where

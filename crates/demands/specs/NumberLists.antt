@@ -25,6 +25,14 @@ ofLoad = 3 ∷ 4 ∷ 5 ∷ 6 ∷ 7 ∷ []
 abbrev pub ofFile : List ℕ
 ofFile = 1 ∷ 2 ∷ ofLoad ++ 8 ∷ []
 
+-- 18 to 20: the lines of a sheet
+abbrev pub ofLines : List ℕ
+ofLines = 18 ∷ 19 ∷ 20 ∷ []
+
+-- 3, 4, 5, 7 and 18 to 20: a sheet, which is never given 6
+abbrev pub ofSheet : List ℕ
+ofSheet = 3 ∷ 4 ∷ 5 ∷ 7 ∷ ofLines
+
 -- 12 to 17: slots
 abbrev pub ofSlots : List ℕ
 ofSlots = 12 ∷ 13 ∷ 14 ∷ 15 ∷ 16 ∷ 17 ∷ []

@@ -11,6 +11,7 @@ use Rattle.load.specs.Calls.{CheckLoad, CheckFields, CheckStep, CheckWindow, Ch
 use Rattle.load_records.specs.Calls.{WriteLoad}
 use Rattle.load_file.specs.declared.Reading.{Reading}
 use Rattle.load_file.specs.Calls.{ReadLoad}
+use Rattle.sheet.specs.Calls.{ReadSheet, WriteSheet}
 use Rattle.rules.specs.declared.Slot.{Slot}
 use Rattle.rules.specs.Outcomes.{toldBy}
 use Rattle.bound.specs.declared.Answered.{Answered}
@@ -28,8 +29,9 @@ use Rattle.bench.specs.declared.Ran.{Ran}
 use Rattle.bench.specs.Calls.{NextMove, Runs, WriteRun}
 use Rattle.reading_bench.specs.Calls.{BenchBound, BenchVerdict, BenchMargins, BenchSchedule}
 use Rattle.lines.specs.Calls.{PrintLines, PrintBlames}
-use Rattle.demands.specs.NumberLists.{OneOf, ofLoad, ofFile, ofRange, ofWindow, ofOutput}
-use Rattle.demands.specs.NumberLists.{ofC, ofWriting, ofSlotWriting, ofSchedule, ofMove}
+use Rattle.demands.specs.NumberLists.{OneOf, ofLoad, ofFile, ofSheet, ofRange, ofWindow}
+use Rattle.demands.specs.NumberLists.{ofOutput, ofC, ofWriting, ofSlotWriting}
+use Rattle.demands.specs.NumberLists.{ofSchedule, ofMove}
 
 -- a call for C gives 1 to 9 alone
 abbrev pub NumbersForC : (List ℕ → List ℕ → ℕ → List ℕ → Type 0) → Type 0
@@ -51,6 +53,11 @@ pub record Numbers : Type 0 where
       → OneOf ofFile (numberGiven (r .answer))
   pub write-load : (load : Load) (out : List ℕ) (r : Checked) (after : List ℕ)
       → WriteLoad load out r after → OneOf ofWriting (numberGiven r)
+  -- a sheet that is read, and one that is written
+  pub read-sheet : (bs : List ℕ) (r : Reading) → ReadSheet bs r
+      → OneOf ofSheet (numberGiven (r .answer))
+  pub write-sheet : (load : Load) (out : List ℕ) (r : Written) (after : List ℕ)
+      → WriteSheet load out r after → OneOf ofWriting (numberGiven (r .answer))
   -- the largest W of each place; bound, margins, verdict and blames
   pub place-waits-of : (load : Load) (r : PlaceWaits) → PlaceWaitsOf load r
       → OneOf ofLoad (numberGiven (r .answer))

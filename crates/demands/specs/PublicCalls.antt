@@ -4,6 +4,7 @@
 use Rattle.demands.specs.WordCalls.{EveryWordCall}
 use Rattle.demands.specs.LoadCalls.{EveryLoadCall}
 use Rattle.demands.specs.FileCalls.{EveryFileCall}
+use Rattle.demands.specs.SheetCalls.{EverySheetCall}
 use Rattle.demands.specs.BoundCalls.{EveryBoundCall}
 use Rattle.demands.specs.BenchCalls.{EveryBenchCall}
 use Rattle.demands.specs.ScheduleCalls.{EveryScheduleCall}
@@ -14,6 +15,7 @@ pub record EveryCall {ℓ} (Claim : (A : Type 0) → (A → Type 0) → Type ℓ
   pub words : EveryWordCall Claim
   pub loads : EveryLoadCall Claim
   pub files : EveryFileCall Claim
+  pub sheets : EverySheetCall Claim
   pub bounds : EveryBoundCall Claim
   pub benches : EveryBenchCall Claim
   pub schedules : EveryScheduleCall Claim

@@ -8,10 +8,12 @@ use lib.IntN.{pos}
 use lib.ListN.{replicate}
 use Rattle.refusals.specs.declared.Refusal.{Refusal}
 use Rattle.refusals.specs.declared.Checked.the-variants.{Refused}
+use Rattle.refusals.specs.declared.Written.{Written}
 use Rattle.load.specs.declared.Load.{Load}
 use Rattle.load.specs.Load.{mostRows, zeroLoad}
 use Rattle.load_file.specs.declared.Reading.{Reading}
 use Rattle.load_file.specs.Calls.{ReadLoad}
+use Rattle.sheet.specs.Calls.{ReadSheet, WriteSheet}
 use Rattle.rules.specs.Bound.{mostPlaces}
 use Rattle.rules.specs.Blame.{noneLeft, nobody}
 use Rattle.bound.specs.declared.Answered.{Answered}
@@ -49,11 +51,16 @@ nothingBut refusal =
       blames = replicate mostRows nobody;
     }
 
--- a refusal is returned alone: with the all-zero load, no W, bound 0, margins 0, verdict no, nobody
--- blamed, no slot
+-- a refusal is returned alone: with the all-zero load, length 0, no W, bound 0, margins 0, verdict
+-- no, nobody blamed, no slot
 pub record ReturnedAlone : Type 0 where
   pub no-load : (bs : List ℕ) (r : Reading) (refusal : Refusal) → ReadLoad bs r
       → r .answer ≡ Refused refusal → r .load ≡ zeroLoad
+  pub no-sheet-load : (bs : List ℕ) (r : Reading) (refusal : Refusal) → ReadSheet bs r
+      → r .answer ≡ Refused refusal → r .load ≡ zeroLoad
+  pub no-sheet-length : (load : Load) (out : List ℕ) (r : Written) (after : List ℕ)
+      → (refusal : Refusal) → WriteSheet load out r after → r .answer ≡ Refused refusal
+      → r .length ≡ 0
   pub no-waits : (load : Load) (r : PlaceWaits) (refusal : Refusal) → PlaceWaitsOf load r
       → r .answer ≡ Refused refusal → r ≡ noWaitsBut refusal
   pub no-bound : (load : Load) (r : Bounded) (refusal : Refusal) → BoundOf load r

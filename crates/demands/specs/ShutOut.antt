@@ -14,6 +14,7 @@ use Rattle.load.specs.Load.{mostRows}
 use Rattle.load.specs.View.{viewOf}
 use Rattle.load.specs.Calls.{CheckLoad}
 use Rattle.load_file.specs.Calls.{ReadLoad}
+use Rattle.sheet.specs.Calls.{ReadSheet}
 use Rattle.rules.specs.declared.Blame.{Blame}
 use Rattle.rules.specs.declared.Outcome.{Outcome}
 use Rattle.rules.specs.Margins.{marginAt, marginIn}
@@ -26,6 +27,7 @@ use Rattle.bench.specs.Held.{nextMove}
 use Rattle.bench.specs.Calls.{Fresh, NextMove, Runs}
 use Rattle.demands.specs.LoadA.{loadA}
 use Rattle.demands.specs.LoadB.{loadB}
+use Rattle.demands.specs.SheetsToTry.{sheetA}
 use Rattle.demands.specs.Demand3.{Run}
 use Rattle.demands.specs.IdleBuilds.{
   refusesFile,
@@ -42,9 +44,10 @@ use Rattle.demands.specs.Notation.{bytesOf}
 
 -- the idle builds are shut out
 pub record ShutOut : Type 0 where
-  -- one that refuses all: by 'exactly then' load A and its file are not refused
+  -- one that refuses all: by 'exactly then' load A, its file and its sheet are not refused
   pub refuses-files : (refusal : Refusal)
       → ReadLoad (bytesOf (loadA .file)) (refusesFile refusal (bytesOf (loadA .file))) → ⊥
+  pub refuses-sheets : (refusal : Refusal) → ReadSheet sheetA (refusesFile refusal sheetA) → ⊥
   pub refuses-loads : (refusal : Refusal) → CheckLoad (loadA .load) (Refused refusal) → ⊥
   -- and by demand 3 no move is, in the run of any load that is not refused
   pub refuses-moves : (load : Load) → CheckLoad load Good → (run : Run load) (n : ℕ)

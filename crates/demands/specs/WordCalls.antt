@@ -4,8 +4,9 @@ use Prim.Native.Nat.{ℕ}
 use mathlib.Core.List.{List}
 use lib.IntN.{ℤ}
 use Rattle.words.specs.declared.Word.{Word}
+use Rattle.words.specs.declared.Digits.{Digits}
 use Rattle.words.specs.Calls.{ByteAt, NumberAt, Overwrite, LittleEndian, Complement}
-use Rattle.words.specs.Calls.{DecimalOf, SignedOf}
+use Rattle.words.specs.Calls.{DecimalOf, SignedOf, DecimalAt}
 use Rattle.refusals.specs.declared.Refusal.{Refusal}
 use Rattle.refusals.specs.declared.Checked.{Checked}
 use Rattle.refusals.specs.Calls.{NumberOf, NumberGiven}
@@ -22,6 +23,7 @@ pub record EveryWordCall {ℓ} (Claim : (A : Type 0) → (A → Type 0) → Type
   pub complement32 : (number : ℤ) → Claim ℕ (Complement 32 number)
   pub decimal-of : (number : ℕ) → Claim Word (DecimalOf number)
   pub signed-of : (number : ℤ) → Claim Word (SignedOf number)
+  pub decimal-at : (bs : List ℕ) (at : ℕ) → Claim Digits (DecimalAt bs at)
   -- refusals
   pub number-of : (refusal : Refusal) → Claim ℕ (NumberOf refusal)
   pub number-given : (found : Checked) → Claim ℕ (NumberGiven found)

@@ -33,6 +33,9 @@ refusalAt-own refusal.SlotOverlaps = refl
 refusalAt-own refusal.SlotEarly = refl
 refusalAt-own refusal.WindowLate = refl
 refusalAt-own refusal.RowLate = refl
+refusalAt-own refusal.LineMalformed = refl
+refusalAt-own refusal.RowDiffers = refl
+refusalAt-own refusal.WindowDash = refl
 
 -- two refusals with one number are one
 pub numberOf-apart : (a b : Refusal) → numberOf a ≡ numberOf b → a ≡ b

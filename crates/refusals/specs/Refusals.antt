@@ -25,10 +25,13 @@ numberOf refusal.SlotOverlaps = 14
 numberOf refusal.SlotEarly = 15
 numberOf refusal.WindowLate = 16
 numberOf refusal.RowLate = 17
+numberOf refusal.LineMalformed = 18
+numberOf refusal.RowDiffers = 19
+numberOf refusal.WindowDash = 20
 
 -- the table's last number
 abbrev pub lastNumber : ℕ
-lastNumber = 17
+lastNumber = 20
 
 -- the number of what a check finds: 0 where it refuses nothing
 abbrev pub numberGiven : Checked → ℕ

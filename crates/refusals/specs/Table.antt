@@ -44,4 +44,10 @@ table =
     ∷ refusal.WindowLate
     -- it ends its row late
     ∷ refusal.RowLate
+    -- a line of a sheet is malformed, or a number has over ten digits
+    ∷ refusal.LineMalformed
+    -- a row's box, phase or deadline differs between lines
+    ∷ refusal.RowDiffers
+    -- a dash has no window before it; or, found at the next line or the end, a window has one step
+    ∷ refusal.WindowDash
     ∷ []

@@ -25,7 +25,8 @@ pub record WorkedCases : Type 0 where
   -- the table's numbers, in the table's order
   pub numbers :
       map numberOf table
-      ≡ 1 ∷ 2 ∷ 3 ∷ 4 ∷ 5 ∷ 6 ∷ 7 ∷ 8 ∷ 9 ∷ 10 ∷ 11 ∷ 12 ∷ 13 ∷ 14 ∷ 15 ∷ 16 ∷ 17 ∷ []
+      ≡ 1 ∷ 2 ∷ 3 ∷ 4 ∷ 5 ∷ 6 ∷ 7 ∷ 8 ∷ 9 ∷ 10 ∷ 11 ∷ 12 ∷ 13 ∷ 14 ∷ 15 ∷ 16 ∷ 17 ∷ 18 ∷ 19 ∷ 20
+      ∷ []
   -- nothing refused is 0
   pub nothing-refused : numberGiven Good ≡ 0
   -- of two tests that are met the first decides, and one that is not met decides nothing

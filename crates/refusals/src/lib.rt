@@ -20,6 +20,9 @@ pub enum Refusal {
     SlotEarly,
     WindowLate,
     RowLate,
+    LineMalformed,
+    RowDiffers,
+    WindowDash,
 }
 
 // What a check finds: nothing to refuse, or the refusal that comes first.
@@ -57,6 +60,9 @@ pub fn number_of(refusal: Refusal) -> u32
         Refusal::SlotEarly => 15,
         Refusal::WindowLate => 16,
         Refusal::RowLate => 17,
+        Refusal::LineMalformed => 18,
+        Refusal::RowDiffers => 19,
+        Refusal::WindowDash => 20,
     }
 }
 

@@ -3,6 +3,7 @@ use Prim.Native.Nat.{ℕ}
 use mathlib.Core.List.{List}
 use mathlib.Core.Path.{_≡_, sym, _∙_}
 use lib.IntN.{ℤ}
+use Rattle.words.specs.declared.Digits.{Digits}
 use Rattle.words.specs.declared.Word.{Word}
 use Rattle.words.specs.Calls.{
   ByteAt,
@@ -12,6 +13,7 @@ use Rattle.words.specs.Calls.{
   Complement,
   DecimalOf,
   SignedOf,
+  DecimalAt,
 }
 
 pub ByteAt-unique : (bs : List ℕ) (at r s : ℕ) → ByteAt bs at r → ByteAt bs at s → r ≡ s
@@ -36,3 +38,6 @@ DecimalOf-unique n r s p q = p ∙ sym q
 
 pub SignedOf-unique : (z : ℤ) (r s : Word) → SignedOf z r → SignedOf z s → r ≡ s
 SignedOf-unique z r s p q = p ∙ sym q
+
+pub DecimalAt-unique : (bs : List ℕ) (at : ℕ) (r s : Digits) → DecimalAt bs at r → DecimalAt bs at s → r ≡ s
+DecimalAt-unique bs at r s p q = p ∙ sym q

@@ -7,9 +7,11 @@ use lib.IntN.{ℤ}
 use lib.ListN.{length, replicate}
 use lib.Seq.{sets}
 use Rattle.words.specs.declared.Word.{Word}
+use Rattle.words.specs.declared.Digits.{Digits}
 use Rattle.words.specs.Decimal.{decimal, signedDecimal}
 use Rattle.words.specs.LittleEndian.{byteAt, numberAt, littleEndian}
 use Rattle.words.specs.TwosComplement.{twosComplement}
+use Rattle.words.specs.PlainDecimal.{plainAt, plainValue}
 
 -- byte_at(bs, at): the byte at a place
 abbrev pub ByteAt : List ℕ → ℕ → ℕ → Type 0
@@ -47,3 +49,8 @@ DecimalOf n r = r ≡ wordHolding (decimal n)
 -- signed_of(number): the whole number in decimal, with a minus sign where it is negative
 abbrev pub SignedOf : ℤ → Word → Type 0
 SignedOf z r = r ≡ wordHolding (signedDecimal z)
+
+-- decimal_at(bs, at): the plain decimal at a place: how many digits it has, and the number; 0 and 0
+-- where none stands there
+abbrev pub DecimalAt : List ℕ → ℕ → Digits → Type 0
+DecimalAt bs at r = r ≡ record { count = plainAt bs at; value = plainValue bs at }

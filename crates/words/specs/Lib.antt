@@ -3,5 +3,6 @@ pub mod LittleEndian
 pub mod LampWord
 pub mod TwosComplement
 pub mod Decimal
+pub mod PlainDecimal
 pub mod WorkedCases
 pub mod Calls

@@ -2,9 +2,11 @@
 // number, its two's complement and its decimal text. No call refuses: a byte past the end reads as
 // 0, and is not written.
 mod decimal;
+mod plain;
 
 pub use decimal::decimal_of;
 pub use decimal::signed_of;
+pub use plain::decimal_at;
 ghost use mathlib.Core.Path.{_≡_};
 ghost use Prim.Native.Nat.{_+_, _-_, _≤_, _<_};
 ghost use lib.ListN.{drop};
@@ -18,6 +20,13 @@ pub const WORD_PLACES: usize = 11;
 pub struct Word {
     pub length: usize,
     pub bytes: [u8; WORD_PLACES],
+}
+
+// A number that was read as text: how many digits it has, none where no number stands there, and
+// what they spell.
+pub struct Digits {
+    pub count: usize,
+    pub value: u64,
 }
 
 // The byte at a place; 0 past the end.

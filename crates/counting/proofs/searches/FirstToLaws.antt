@@ -1,7 +1,7 @@
 -- What a search over the numbers below n finds: the first that has p, or n; and it is the only such number.
 use Prim.Native.Nat.{ℕ, zero, suc, _≤_, _<_}
 use mathlib.Core.Bool.{Bool, true, false}
-use mathlib.Core.Path.{_≡_, refl}
+use mathlib.Core.Path.{_≡_, refl, ap, sym, _∙_}
 use native.Mathlib.Decide.{decLt}
 use native.Mathlib.Omega.{arith}
 use Rattle.counting.specs.Searches.{firstTo}
@@ -42,3 +42,24 @@ firstTo-unique p n r s f g =
             | no m ↦ omega arith
           ]
     ]
+
+-- where n itself has p, what is found has it
+pub firstTo-has : (p : ℕ → Bool) (n : ℕ) → p n ≡ true → p (firstTo p n) ≡ true
+firstTo-has p n h =
+    let first = firstTo-first p n in
+    elim (decLt (firstTo p n) n) [
+      | yes l ↦ first .has l
+      | no g ↦ let e : firstTo p n ≡ n = omega (arith, first .most) in ap p e ∙ h
+    ]
+
+-- only what p says below n matters
+pub firstTo-ext : (p q : ℕ → Bool) (n : ℕ) → ((k : ℕ) → k < n → p k ≡ q k) → firstTo p n ≡ firstTo q n
+firstTo-ext p q n h =
+    let first = firstTo-first p n in
+    firstTo-unique q n (firstTo p n) (firstTo q n)
+    (record {
+      most = first .most;
+      before = λ k l. sym (h k (omega (arith, first .most))) ∙ first .before k l;
+      has = λ l. sym (h (firstTo p n) l) ∙ first .has l;
+    })
+    (firstTo-first q n)

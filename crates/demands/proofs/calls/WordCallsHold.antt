@@ -8,6 +8,7 @@ use Rattle.words.proofs.CallLaws.{
   Complement-unique,
   DecimalOf-unique,
   SignedOf-unique,
+  DecimalAt-unique,
 }
 use Rattle.refusals.proofs.CallLaws.{NumberOf-unique, NumberGiven-unique}
 use Rattle.demands.specs.WordCalls.{EveryWordCall}
@@ -29,6 +30,7 @@ word-relations =
       complement32 = λ number. listed;
       decimal-of = λ number. listed;
       signed-of = λ number. listed;
+      decimal-at = λ bs at. listed;
       number-of = λ refusal. listed;
       number-given = λ found. listed;
     }
@@ -45,6 +47,7 @@ word-contracts =
       complement32 = refl;
       decimal-of = refl;
       signed-of = refl;
+      decimal-at = refl;
       number-of = refl;
       number-given = refl;
     }
@@ -61,6 +64,7 @@ word-same =
       complement32 = Complement-unique 32;
       decimal-of = DecimalOf-unique;
       signed-of = SignedOf-unique;
+      decimal-at = DecimalAt-unique;
       number-of = NumberOf-unique;
       number-given = NumberGiven-unique;
     }
@@ -77,6 +81,7 @@ word-answers =
       complement32 = λ z. is _;
       decimal-of = λ n. is _;
       signed-of = λ z. is _;
+      decimal-at = λ bs at. is _;
       number-of = λ refusal. is _;
       number-given = λ found. is _;
     }

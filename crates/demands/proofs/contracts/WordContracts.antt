@@ -25,6 +25,8 @@ pub record WordContracts (relation : EveryWordCall Relation) : Type 2 where
       (λ κs a r s. relation .decimal-of (a .0) .meets r)
   pub signed-of : Says words.signed_of.ended (λ M. words.signed_of.spec)
       (λ κs a r s. relation .signed-of (a .0) .meets r)
+  pub decimal-at : Says words.decimal_at.ended (λ M. words.decimal_at.spec)
+      (λ κs a r s. relation .decimal-at (a .0 .now) (a .1 .0) .meets r)
   -- refusals
   pub number-of : Says refusals.number_of.ended (λ M. refusals.number_of.spec)
       (λ κs a r s. relation .number-of (a .0) .meets r)

@@ -53,6 +53,8 @@ use Rattle.load_file.specs.Reading.{
   fileFault,
   readLoad,
 }
+use Rattle.sheet.specs.Reading.{readSheet}
+use Rattle.sheet.proofs.narrow.SheetNumbers.{sheet-numbers}
 use Rattle.rules.specs.declared.Slot.{Slot}
 use Rattle.rules.specs.declared.Outcome.{Outcome}
 use Rattle.rules.specs.declared.Outcome.the-variants.{Refused}
@@ -65,7 +67,16 @@ use Rattle.rules.proofs.moves.MoveLaws.{Way, unshaped, finished, full, goes, mo
 use Rattle.bench.specs.declared.Bench.{Bench}
 use Rattle.bench.specs.Held.{stateOf, nextMove}
 use Rattle.bench.proofs.choice.NextLaws.{nextMove-good, nextMove-refused}
-use Rattle.demands.specs.NumberLists.{OneOf, ofLoad, ofFile, ofRange, ofWindow, ofSchedule, ofMove}
+use Rattle.demands.specs.NumberLists.{
+  OneOf,
+  ofLoad,
+  ofFile,
+  ofSheet,
+  ofRange,
+  ofWindow,
+  ofSchedule,
+  ofMove,
+}
 use Rattle.demands.proofs.demand1.NumberLaws.{
   Gives,
   tests-give,
@@ -144,6 +155,11 @@ file-gives bs =
     (faultsTo-give ofFile (λ i. rowFaultAt bs i (rowPlace bs i)) (λ i. file-row-gives bs i (rowPlace bs i))
     (rowsSaid bs))
     (last-gives ofFile _ (tests-give ofFile (endTests bs (rowPlace bs (rowsSaid bs))) refl)))
+
+-- of a sheet's numbers 6 is none: the windows that marks spell are in order
+pub sheet-gives : (bs : List ℕ) → Gives ofSheet (readSheet bs .answer)
+unfolding readSheet
+sheet-gives bs = record { passes = sheet-numbers bs }
 
 pub schedule-gives : (load : Load) (slots : List Slot) → Gives ofSchedule (checkSchedule load slots)
 unfolding checkSchedule checkSlots slotTests anyIn

@@ -49,5 +49,7 @@ load-first =
         check-schedule = λ slots r e. e ∙ check-refused load slots refusal (sym c);
         check-array = λ slots n r e. e ∙ check-refused load (firstSlots slots n) refusal (sym c);
         write-load = λ out r after g. g .finding-is ∙ first-refused (checkLoad load) _ refusal (sym c);
+        write-sheet = λ out r after p.
+            p .given .finding-is ∙ first-refused (checkLoad load) _ refusal (sym c);
       };
     }

@@ -12,12 +12,14 @@ use Rattle.demands.proofs.demand1.CallNumbers.{
   window-gives,
   parts-give,
   file-gives,
+  sheet-gives,
   schedule-gives,
   move-gives,
 }
 use Rattle.demands.proofs.demand1.WritingCalls.{
   run-gives,
   load-written-gives,
+  sheet-written-gives,
   room-gives,
   slots-written-give,
   c-gives,
@@ -34,6 +36,8 @@ numbers =
       check-parts = λ row r e. rw e (parts-give row .passes);
       read-load = λ bs r e. rw e (file-gives bs .passes);
       write-load = load-written-gives;
+      read-sheet = λ bs r e. rw e (sheet-gives bs .passes);
+      write-sheet = sheet-written-gives;
       place-waits-of = λ load r e. rw e (load-gives load .passes);
       answers-of = λ load r e. rw e (load-gives load .passes);
       bound-of = λ load r e. rw e (load-gives load .passes);

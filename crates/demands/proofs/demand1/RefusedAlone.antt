@@ -17,6 +17,10 @@ use Rattle.load_file.specs.Places.{loadIn}
 use Rattle.load_file.specs.Reading.{fileFault, readLoad}
 use Rattle.load_file.specs.Calls.{ReadLoad}
 use Rattle.bound.specs.declared.Answered.{Answered}
+use Rattle.sheet.specs.SheetRows.{loadInSheet}
+use Rattle.sheet.specs.Reading.{sheetFault, readSheet}
+use Rattle.sheet.specs.Writing.{sheetBytes}
+use Rattle.sheet.specs.Calls.{ReadSheet}
 use Rattle.bound.specs.declared.Bounded.{Bounded}
 use Rattle.bound.specs.declared.Margined.{Margined}
 use Rattle.bound.specs.declared.Judged.{Judged}
@@ -34,6 +38,13 @@ unfolding readLoad
 refused-load bs r refusal e h =
     ap (λ (x : Reading). x .load) e
     ∙ ifGood-refused (fileFault bs) (loadIn bs) zeroLoad refusal (ap (λ (x : Reading). x .answer) (sym e) ∙ h)
+
+refused-sheet : (bs : List ℕ) (r : Reading) (refusal : Refusal) → ReadSheet bs r → r .answer ≡ Refused refusal
+    → r .load ≡ zeroLoad
+unfolding readSheet
+refused-sheet bs r refusal e h =
+    ap (λ (x : Reading). x .load) e
+    ∙ ifGood-refused (sheetFault bs) (loadInSheet bs) zeroLoad refusal (ap (λ (x : Reading). x .answer) (sym e) ∙ h)
 
 module _ (load : Load) where
   refused-bound : (r : Bounded) (refusal : Refusal) → BoundOf load r → r .answer ≡ Refused refusal → r .bound ≡ 0
@@ -80,6 +91,9 @@ pub returned-alone : ReturnedAlone
 returned-alone =
     record {
       no-load = refused-load;
+      no-sheet-load = refused-sheet;
+      no-sheet-length = λ load out r after refusal p e.
+          p .length-is ∙ ifGood-refused (r .answer) (length (sheetBytes load)) 0 refusal e;
       no-waits = refused-waits;
       no-bound = refused-bound;
       no-margins = refused-margins;

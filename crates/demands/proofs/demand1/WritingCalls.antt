@@ -22,6 +22,8 @@ use Rattle.load_records.specs.Writing.{loadBytes}
 use Rattle.load_records.specs.Calls.{WriteLoad}
 use Rattle.load_file.specs.Places.{loadIn}
 use Rattle.load_file.specs.Reading.{fileFault, readLoad}
+use Rattle.sheet.specs.Writing.{sheetBytes}
+use Rattle.sheet.specs.Calls.{WriteSheet}
 use Rattle.rules.specs.declared.Slot.{Slot}
 use Rattle.rules.specs.Slots.{mostSlots}
 use Rattle.schedule_file.specs.ScheduleFile.{slotPlace, scheduleBytes, countFault, slotsFault, roomFault}
@@ -55,6 +57,13 @@ unfolding anyIn
 load-written-gives load out r after g =
     given-gives ofWriting (checkLoad load) (loadBytes load) out r after refl
     (with-nine ofLoad (checkLoad load) refl (load-gives load)) g
+
+pub sheet-written-gives : (load : Load) (out : List ℕ) (r : Written) (after : List ℕ) → WriteSheet load out r after
+    → OneOf ofWriting (numberGiven (r .answer))
+unfolding anyIn
+sheet-written-gives load out r after p =
+    given-gives ofWriting (checkLoad load) (sheetBytes load) out (r .answer) after refl
+    (with-nine ofLoad (checkLoad load) refl (load-gives load)) (p .given)
 
 count-gives : (n : ℕ) → Gives ofSlotWriting (countFault n)
 unfolding anyIn

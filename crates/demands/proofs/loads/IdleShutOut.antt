@@ -35,6 +35,7 @@ use Rattle.demands.specs.IdleBuilds.{fixedVerdict, inventsMargins, inven
 use Rattle.demands.specs.ShutOut.{ShutOut}
 use Rattle.demands.proofs.loads.Computing.{computing}
 use Rattle.demands.proofs.loads.LoadsHold.{a-holds, b-holds, empty-holds}
+use Rattle.demands.proofs.loads.SheetsHold.{sheets-hold}
 use Rattle.demands.proofs.Demand1Holds.{demand1}
 use Rattle.demands.proofs.Demand2Holds.{demand2}
 use Rattle.demands.proofs.Demand3Holds.{demand3}
@@ -130,6 +131,8 @@ shut-out =
     record {
       refuses-files = λ refusal m.
           good-refused _ refusal (ap (λ (r : Reading). r .answer) (m ∙ a-holds .reads)) refl;
+      refuses-sheets = λ refusal m.
+          good-refused _ refusal (ap (λ (r : Reading). r .answer) (m ∙ sheets-hold .a .reads)) refl;
       refuses-loads = λ refusal m. good-refused (Refused refusal) refusal (m ∙ a-holds .checks) refl;
       refuses-moves = λ load good run n refusal e.
           omega (

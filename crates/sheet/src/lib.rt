@@ -1,0 +1,15 @@
+// Route sheets: a load read from comma-separated lines, one a step, and written as them. A sheet is
+// refused with 18, 19 or 20, or its load with 3 to 7; a load to be written with 3 to 7 or 9.
+mod fields;
+mod line_marks;
+mod lines;
+mod reading;
+mod row_parts;
+mod rows;
+mod writing;
+
+pub use reading::read_sheet;
+pub use writing::write_sheet;
+
+// The most bytes that the sheet of an accepted load has.
+pub const MOST_SHEET_BYTES: usize = 9528;
