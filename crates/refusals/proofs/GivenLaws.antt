@@ -14,7 +14,12 @@ use Rattle.refusals.specs.declared.Checked.the-variants.{Good, Refused}
 use Rattle.refusals.specs.declared.Written.{Written}
 use Rattle.refusals.specs.FirstMet.{firstFault}
 use Rattle.refusals.specs.Given.{ifGood, written, roomFor, Given, WritesOut}
-use Rattle.refusals.proofs.FirstMetLaws.{andThen-good-first, andThen-good-second, firstMet-good-first}
+use Rattle.refusals.proofs.FirstMetLaws.{
+  andThen-good-first,
+  andThen-good-second,
+  andThen-last,
+  firstMet-good-first,
+}
 use Rattle.refusals.proofs.CallLaws.{Given-unique-finding, Given-unique-output}
 
 module _ {A : Type 0} (finding : Checked) (answer none : A) where
@@ -36,6 +41,14 @@ module _ {A : Type 0} (finding : Checked) (answer out : List A) where
   pub written-given : (after : List A) → finding ≡ Good → length answer ≤ length out → after ≡ written answer out
       → Given finding answer out Good after
   written-given after e h w = record { finding-is = rw (e, le-ltb _ _ h); output-is = w }
+
+-- where there is room for the answer, nothing else is found
+pub enough-given : {A : Type 0} (finding found : Checked) (answer out after : List A) → length answer ≤ length out
+    → Given finding answer out found after → found ≡ finding
+enough-given finding found answer out after h g =
+    let room = le-ltb (length out) (length answer) h in
+    let found-is : found ≡ firstFault (finding ∷ Good ∷ []) = rw room at (g .finding-is) in
+    found-is ∙ andThen-last finding
 
 -- an answer that is not written does not matter
 pub refused-alike : {A : Type 0} (finding : Checked) (refusal : Refusal) (answer other out : List A)

@@ -6,6 +6,7 @@ pub mod Reading
 pub mod Writing
 pub mod SheetTrip
 pub mod Calls
+pub mod Inputs
 pub mod inner
 pub mod WorkedSheets
 pub mod WorkedCases

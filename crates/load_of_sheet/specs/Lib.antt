@@ -1,0 +1,2 @@
+-- What the program makes of the bytes that it has read.
+pub mod Program
