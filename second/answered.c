@@ -49,6 +49,14 @@ void print_written(FILE *answers, const char *what, enum refusal refusal, const 
     fputc('\n', answers);
 }
 
+void print_room(FILE *answers, const char *what, enum refusal refusal, size_t written,
+                const struct asked_room *room)
+{
+    fprintf(answers, "%s %d %lu", what, (int)refusal, (unsigned long)written);
+    print_hex(answers, room->bytes, room->length);
+    fputc('\n', answers);
+}
+
 static void print_waits(FILE *answers, const struct place_w *places)
 {
     fputs("waits", answers);

@@ -11,6 +11,10 @@ void print_check_of(FILE *answers, const struct load *load, const struct asked_s
 void print_written(FILE *answers, const char *what, enum refusal refusal, const uint8_t *bytes,
                    size_t length);
 
+/* The number, the length told, and all of the room's bytes, also where the number is not 0. */
+void print_room(FILE *answers, const char *what, enum refusal refusal, size_t written,
+                const struct asked_room *room);
+
 /* Every largest W and every blame on one line, those of rows not there too. */
 void print_places(FILE *answers, const uint8_t *bytes, size_t length);
 

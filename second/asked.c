@@ -33,10 +33,16 @@ bool take_asked_file(FILE *questions, struct asked_file *file)
         && take_bytes(questions, file->bytes, file->length);
 }
 
-bool take_asked_room(FILE *questions, struct asked_room *room)
+bool take_asked_sheet(FILE *questions, struct asked_sheet *sheet)
+{
+    return take_count(questions, MOST_ASKED_SHEET, &sheet->length)
+        && take_bytes(questions, sheet->bytes, sheet->length);
+}
+
+bool take_asked_room(FILE *questions, size_t most, struct asked_room *room)
 {
     memset(room->bytes, ROOM_BYTE, sizeof room->bytes);
-    return take_count(questions, MOST_ASKED_BYTES, &room->length);
+    return take_count(questions, most, &room->length);
 }
 
 bool take_asked_slots(FILE *questions, struct asked_slots *list)

@@ -1,6 +1,6 @@
 /* One form turned into another: rows as text, load files, route sheets, schedule files. Each reads
-   the first stream to its end, writes the second, and gives the program's exit status: nothing is
-   written where it is not 0, and standard error says why. */
+   the first stream, writes the second, and gives the program's exit status. Where that is not 0
+   nothing is written, and standard error says why. */
 #ifndef CONVERSION_H
 #define CONVERSION_H
 

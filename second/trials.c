@@ -1,6 +1,7 @@
 #include "trials.h"
 
 #include "answered.h"
+#include "file_trials.h"
 #include "load_file.h"
 #include "report.h"
 
@@ -58,80 +59,6 @@ static bool answer_move_in_memory(FILE *questions, FILE *answers)
     return true;
 }
 
-static bool answer_check(FILE *questions, FILE *answers)
-{
-    struct asked_file file;
-    struct asked_slots list;
-    struct load load;
-    if (!take_asked_file(questions, &file) || !take_asked_slots(questions, &list))
-        return false;
-    enum refusal refusal = read_load(file.bytes, file.length, &load);
-    if (refusal != ACCEPTED)
-        fprintf(answers, "refused %d\n", (int)refusal);
-    else
-        print_check_of(answers, &load, &list);
-    return true;
-}
-
-static bool answer_check_in_memory(FILE *questions, FILE *answers)
-{
-    struct load load;
-    struct asked_slots list;
-    if (!take_asked_load(questions, &load) || !take_asked_slots(questions, &list))
-        return false;
-    print_check_of(answers, &load, &list);
-    return true;
-}
-
-static bool answer_load(FILE *questions, FILE *answers)
-{
-    uint8_t bytes[MOST_LOAD_BYTES];
-    size_t written;
-    struct load load;
-    if (!take_asked_load(questions, &load))
-        return false;
-    enum refusal refusal = write_load(&load, bytes, sizeof bytes, &written);
-    print_written(answers, "load", refusal, bytes, written);
-    return true;
-}
-
-static bool answer_load_in_room(FILE *questions, FILE *answers)
-{
-    size_t written;
-    struct asked_room room;
-    struct load load;
-    if (!take_asked_room(questions, &room) || !take_asked_load(questions, &load))
-        return false;
-    enum refusal refusal = write_load(&load, room.bytes, room.length, &written);
-    print_written(answers, "load", refusal, room.bytes, room.length);
-    return true;
-}
-
-static bool answer_schedule(FILE *questions, FILE *answers)
-{
-    uint8_t bytes[MOST_SCHEDULE_BYTES];
-    size_t written;
-    struct asked_slots list;
-    if (!take_asked_slots(questions, &list))
-        return false;
-    enum refusal refusal = write_schedule(list.slots, list.count, bytes, sizeof bytes, &written);
-    print_written(answers, "schedule", refusal, bytes, written);
-    return true;
-}
-
-static bool answer_schedule_in_room(FILE *questions, FILE *answers)
-{
-    size_t written;
-    struct asked_room room;
-    struct asked_slots list;
-    if (!take_asked_room(questions, &room) || !take_asked_slots(questions, &list))
-        return false;
-    enum refusal refusal = write_schedule(list.slots, list.count, room.bytes, room.length,
-                                          &written);
-    print_written(answers, "schedule", refusal, room.bytes, room.length);
-    return true;
-}
-
 static bool answer_question(int letter, FILE *questions, FILE *answers)
 {
     switch (letter) {
@@ -140,14 +67,8 @@ static bool answer_question(int letter, FILE *questions, FILE *answers)
     case 'P': return answer_file(questions, answers, print_places);
     case 'p': return answer_places_in_memory(questions, answers);
     case 'M': return answer_move(questions, answers);
-    case 'C': return answer_check(questions, answers);
-    case 'W': return answer_load(questions, answers);
-    case 'S': return answer_schedule(questions, answers);
     case 'N': return answer_move_in_memory(questions, answers);
-    case 'D': return answer_check_in_memory(questions, answers);
-    case 'w': return answer_load_in_room(questions, answers);
-    case 's': return answer_schedule_in_room(questions, answers);
-    default: return false;
+    default: return answer_file_question(letter, questions, answers);
     }
 }
 

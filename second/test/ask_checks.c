@@ -1,8 +1,9 @@
 /* Slot lists against their load, lent as a file or in memory: the run's own list with one thing
    altered. */
+#include "load_file.h"
 #include "questions.h"
 
-enum { ALTERED_LOADS = 70, ALTERED_EACH = 6, ALTERATIONS = 24 };
+enum { ALTERED_LOADS = 70, ALTERED_EACH = 6, ALTERATIONS = 24, FILES_REFUSED = 2 };
 
 static uint32_t end_before(const struct load *load, const struct asked_slots *list, size_t p)
 {
@@ -143,4 +144,21 @@ void ask_edge_lists(struct asking *asking)
 {
     ask_last_starts(asking);
     ask_counts(asking);
+}
+
+/* The file's own number comes first, whatever the list. */
+void ask_checks_of_refused_files(struct asking *asking)
+{
+    struct asked_slots none = {0};
+    struct load load;
+    unsigned found[END_DIFFERS + 1] = {0};
+    for (unsigned times = 0, all = 0; all < FILES_REFUSED * END_DIFFERS; times++) {
+        struct asked_file file = spoiled_file(&asking->dice, times);
+        enum refusal refusal = read_load(file.bytes, file.length, &load);
+        if (refusal == ACCEPTED || found[refusal] == FILES_REFUSED)
+            continue;
+        ask_check(asking, &file, &none);
+        found[refusal]++;
+        all++;
+    }
 }

@@ -74,7 +74,7 @@ static void ask_every_turn(struct asking *asking, const struct lent *lent, const
 
 static void ask_next_turn(struct asking *asking, const struct lent *lent, const struct load *load)
 {
-    ask_turn(asking, lent, load, (unsigned)asking->memory_moves);
+    ask_turn(asking, lent, load, (unsigned)asking->asked['N']);
 }
 
 /* Each line makes the load faulty in a way of its own, r being its row 2. */

@@ -9,7 +9,7 @@ static void ask_both(struct asking *asking, const struct load *load)
 {
     struct asked_file file = file_of(load);
     ask_report(asking, &file);
-    if (asking->reports % MEMORY_EVERY == 0)
+    if (asking->asked['F'] % MEMORY_EVERY == 0)
         ask_load(asking, load);
 }
 

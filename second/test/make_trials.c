@@ -1,6 +1,8 @@
-/* Writes the questions of the trials, always the same bytes. Usage: make_trials LOAD...
-   Each LOAD is a file of rows in the notation, asked first and, for its blames, again later; the
-   counts of questions by kind, and of blamed loads by theirs, go to standard error. */
+/* Writes the questions of the trials, always the same bytes.
+   Usage: make_trials TRIALS FILE_TRIALS LOAD...
+   The first two are the files that the two streams go to. Each LOAD is a file of rows in the
+   notation, asked first and, for its blames, again later; the counts of questions by letter, a line
+   for each stream, and of blamed loads by kind go to standard error. */
 #include <stdio.h>
 
 #include "notation.h"
@@ -61,29 +63,59 @@ static bool ask_each(struct asking *asking, char **names, struct asked_file *fil
     return true;
 }
 
+/* What is asked in the stream of files alone. */
+static void ask_files_and_sheets(struct asking *asking)
+{
+    ask_checks_of_refused_files(asking);
+    ask_sheets(asking);
+    ask_damaged_sheets(asking);
+    ask_exports(asking);
+}
+
+/* Both streams end with a question that is cut short. */
+static bool ask_everything(struct asking *asking, char **names)
+{
+    struct asked_file file = {0};
+    if (!ask_each(asking, names, &file, ask_all_of_file))
+        return false;
+    ask_lent_files(asking);
+    ask_lent_loads(asking);
+    if (!ask_each(asking, names, &file, ask_blame))
+        return false;
+    ask_blames(asking);
+    ask_places_in_memory(asking);
+    ask_files_and_sheets(asking);
+    ask_halves(asking, &file);
+    return true;
+}
+
+static void print_letters(const struct asking *asking, const char *letters)
+{
+    for (const char *letter = letters; *letter != '\0'; letter++)
+        fprintf(stderr, "%s%c %lu", letter == letters ? "" : " ", *letter,
+                asking->asked[(unsigned char)*letter]);
+    fputc('\n', stderr);
+}
+
 static void print_counts(const struct asking *asking)
 {
-    fprintf(stderr, "F %lu M %lu C %lu W %lu S %lu N %lu D %lu w %lu s %lu B %lu P %lu p %lu\n",
-            asking->reports, asking->moves, asking->checks, asking->loads, asking->schedules,
-            asking->memory_moves, asking->memory_checks, asking->room_loads,
-            asking->room_schedules, asking->blames, asking->blames, asking->memory_places);
+    print_letters(asking, "FMNBPp");
+    print_letters(asking, "CDWwSsREe");
     fprintf(stderr, "rows tie %lu\nplaces tie %lu\nthe cut decides %lu\njust outweighed %lu\n",
             asking->row_ties, asking->place_ties, asking->cuts, asking->outweighed);
 }
 
-int main(int count, char **names)
+int main(int count, char **words)
 {
-    struct asking asking = {.out = stdout, .dice = {UINT64_C(0x9E3779B97F4A7C15) ^ SEED}};
-    struct asked_file file = {0};
-    if (count < 2 || !ask_each(&asking, names + 1, &file, ask_all_of_file))
+    struct asking asking = {.dice = {UINT64_C(0x9E3779B97F4A7C15) ^ SEED}};
+    if (count < 4)
         return 2;
-    ask_lent_files(&asking);
-    ask_lent_loads(&asking);
-    if (!ask_each(&asking, names + 1, &file, ask_blame))
+    asking.bench_stream = fopen(words[1], "wb");
+    asking.file_stream = fopen(words[2], "wb");
+    if (asking.bench_stream == NULL || asking.file_stream == NULL
+        || !ask_everything(&asking, words + 3))
         return 2;
-    ask_blames(&asking);
-    ask_places_in_memory(&asking);
-    ask_half(&asking, &file);
     print_counts(&asking);
-    return fflush(stdout) == 0 ? 0 : 2;
+    bool written = fclose(asking.bench_stream) == 0;
+    return fclose(asking.file_stream) == 0 && written ? 0 : 2;
 }

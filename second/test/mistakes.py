@@ -1,9 +1,10 @@
 #!/usr/bin/env python3
 """Makes mistakes in copies of the program, one at a time: the trials must notice each.
 
-Usage: mistakes.py QUESTIONS ANSWERS [WORD]
-The mistakes are those of document 01's list, and for each rule the ones next to it: an end taken
-as strict, a clause left out, an order turned round. With WORD, only those whose line has it.
+Usage: mistakes.py TRIALS FILE_TRIALS [WORD]
+The first two are folders with stdin and stdout; one of them must notice. The mistakes are those of
+document 01's list, and for each rule the ones next to it: an end taken as strict, a clause left
+out, an order turned round. With WORD, only those whose line has it.
 """
 import os
 import resource
@@ -12,9 +13,12 @@ import subprocess
 import sys
 import tempfile
 
+sys.dont_write_bytecode = True
+from sheet_mistakes import SHEET_MISTAKES
+
 HERE = os.path.dirname(os.path.dirname(os.path.abspath(__file__)))
-PARTS = ("load load_file waits bound plan bench schedule report notation lent values asked"
-         " answered trials calls second")
+PARTS = ("load load_file sheet_line sheet waits bound plan bench schedule report notation lent"
+         " values conversion asked answered file_trials trials calls second")
 MOST_SECONDS = 10
 PART_BYTES = 1 << 16
 
@@ -612,7 +616,21 @@ def copy_sources(work):
             shutil.copy(os.path.join(HERE, name), work)
 
 
-def try_mistake(right_build, name, right, wrong, questions, answers):
+def are_noticed(work, streams):
+    """The last stream first: it is the shorter one to answer."""
+    return any(is_noticed(work, questions, answers) for questions, answers in reversed(streams))
+
+
+def read_streams(folders):
+    """Of each folder the path of its questions, and its answers."""
+    streams = []
+    for folder in folders:
+        with open(os.path.join(folder, "stdout"), "rb") as given:
+            streams.append((os.path.abspath(os.path.join(folder, "stdin")), given.read()))
+    return streams
+
+
+def try_mistake(right_build, name, right, wrong, streams):
     """What keeps the mistake from being noticed, or None."""
     with tempfile.TemporaryDirectory() as work:
         copy_sources(work)
@@ -625,24 +643,21 @@ def try_mistake(right_build, name, right, wrong, questions, answers):
             source.write(text.replace(right, wrong))
         if not build(work, right_build, name):
             return "does not compile"
-        return None if is_noticed(work, questions, answers) else "not noticed"
+        return None if are_noticed(work, streams) else "not noticed"
 
 
 def main():
-    questions, answers = sys.argv[1:3]
+    streams = read_streams(sys.argv[1:3])
     word = sys.argv[3] if len(sys.argv) > 3 else ""
-    questions = os.path.abspath(questions)
-    with open(answers, "rb") as given:
-        answers = given.read()
-    chosen = [line for line in MISTAKES if word in line[0] or word in line[1]]
+    chosen = [line for line in MISTAKES + SHEET_MISTAKES if word in line[0] or word in line[1]]
     missed = 0
     with tempfile.TemporaryDirectory() as right_build:
         copy_sources(right_build)
-        if not build(right_build) or is_noticed(right_build, questions, answers):
+        if not build(right_build) or are_noticed(right_build, streams):
             print("FAILED the program as it is does not give these answers")
             return 1
         for what, name, right, wrong in chosen:
-            fault = try_mistake(right_build, name, right, wrong, questions, answers)
+            fault = try_mistake(right_build, name, right, wrong, streams)
             missed += fault is not None
             if fault is not None:
                 print("FAILED %s (%s): %s" % (what, name, fault), flush=True)

@@ -1,9 +1,13 @@
 #include "questions.h"
 
+#include <string.h>
+
 #include "load_file.h"
 #include "question_parts.h"
 
 enum { MEMORY_SHARE = 24 };
+
+static const char FILE_LETTERS[] = "CDWwSsREe";
 
 struct asked_file file_of(const struct load *load)
 {
@@ -26,109 +30,133 @@ unsigned share_of(const struct asking *asking, unsigned count)
     return asking->in_memory ? (count + MEMORY_SHARE - 1) / MEMORY_SHARE : count;
 }
 
-static void write_asked(struct asking *asking, char letter, const struct asked_file *file)
+/* Counts a question and begins it in its stream. */
+static void begin(struct asking *asking, char letter)
 {
+    asking->asked[(unsigned char)letter]++;
+    asking->out = strchr(FILE_LETTERS, letter) != NULL ? asking->file_stream
+                                                       : asking->bench_stream;
     write_1(asking->out, (unsigned char)letter);
+}
+
+static void begin_with_file(struct asking *asking, char letter, const struct asked_file *file)
+{
+    begin(asking, letter);
     write_file(asking->out, file);
+}
+
+static void begin_with_load(struct asking *asking, char letter, const struct load *load)
+{
+    begin(asking, letter);
+    write_load_places(asking->out, load);
 }
 
 void ask_report(struct asking *asking, const struct asked_file *file)
 {
-    asking->reports++;
-    write_asked(asking, 'F', file);
+    begin_with_file(asking, 'F', file);
 }
 
 void ask_blame(struct asking *asking, const struct asked_file *file)
 {
-    asking->blames++;
-    write_asked(asking, 'B', file);
-    write_asked(asking, 'P', file);
+    begin_with_file(asking, 'B', file);
+    begin_with_file(asking, 'P', file);
 }
 
 void ask_places(struct asking *asking, const struct load *load)
 {
-    asking->memory_places++;
-    write_1(asking->out, 'p');
-    write_load_places(asking->out, load);
+    begin_with_load(asking, 'p', load);
 }
 
 void ask_move(struct asking *asking, const struct asked_file *file, const struct bench *state)
 {
-    asking->moves++;
-    write_asked(asking, 'M', file);
+    begin_with_file(asking, 'M', file);
     write_state(asking->out, state);
 }
 
 void ask_check(struct asking *asking, const struct asked_file *file,
                const struct asked_slots *list)
 {
-    asking->checks++;
-    write_asked(asking, 'C', file);
+    begin_with_file(asking, 'C', file);
     write_slots(asking->out, list);
 }
 
 void ask_load(struct asking *asking, const struct load *load)
 {
-    asking->loads++;
-    write_1(asking->out, 'W');
-    write_load_places(asking->out, load);
+    begin_with_load(asking, 'W', load);
 }
 
 void ask_schedule(struct asking *asking, const struct asked_slots *list)
 {
-    asking->schedules++;
-    write_1(asking->out, 'S');
+    begin(asking, 'S');
     write_slots(asking->out, list);
 }
 
-void ask_load_in_room(struct asking *asking, size_t room, const struct load *load)
+static void ask_in_room(struct asking *asking, char letter, size_t room, const struct load *load)
 {
-    asking->room_loads++;
-    write_1(asking->out, 'w');
+    begin(asking, letter);
     write_2(asking->out, (unsigned)room);
     write_load_places(asking->out, load);
 }
 
+void ask_load_in_room(struct asking *asking, size_t room, const struct load *load)
+{
+    ask_in_room(asking, 'w', room, load);
+}
+
 void ask_schedule_in_room(struct asking *asking, size_t room, const struct asked_slots *list)
 {
-    asking->room_schedules++;
-    write_1(asking->out, 's');
+    begin(asking, 's');
     write_2(asking->out, (unsigned)room);
     write_slots(asking->out, list);
 }
 
-/* The letter for a load's file and the one for the load in memory; then what is lent. */
-static void write_lent(struct asking *asking, const char *letters, const struct load *load)
+void ask_sheet(struct asking *asking, const struct asked_sheet *sheet)
 {
-    write_1(asking->out, (unsigned char)letters[asking->in_memory]);
+    begin(asking, 'R');
+    write_2(asking->out, (unsigned)sheet->length);
+    fwrite(sheet->bytes, 1, sheet->length, asking->out);
+}
+
+void ask_export(struct asking *asking, const struct load *load)
+{
+    begin_with_load(asking, 'E', load);
+}
+
+void ask_export_in_room(struct asking *asking, size_t room, const struct load *load)
+{
+    ask_in_room(asking, 'e', room, load);
+}
+
+/* The letter for a load's file or the one for the load in memory; then what is lent. */
+static void begin_with_lent(struct asking *asking, char of_file, char in_memory,
+                            const struct load *load)
+{
     if (asking->in_memory) {
-        write_load_places(asking->out, load);
+        begin_with_load(asking, in_memory, load);
         return;
     }
     struct asked_file file = file_of(load);
-    write_file(asking->out, &file);
+    begin_with_file(asking, of_file, &file);
 }
 
 void ask_move_of(struct asking *asking, const struct load *load, const struct bench *state)
 {
-    asking->moves += !asking->in_memory;
-    asking->memory_moves += asking->in_memory;
-    write_lent(asking, "MN", load);
+    begin_with_lent(asking, 'M', 'N', load);
     write_state(asking->out, state);
 }
 
 void ask_check_of(struct asking *asking, const struct load *load, const struct asked_slots *list)
 {
-    asking->checks += !asking->in_memory;
-    asking->memory_checks += asking->in_memory;
-    write_lent(asking, "CD", load);
+    begin_with_lent(asking, 'C', 'D', load);
     write_slots(asking->out, list);
 }
 
-void ask_half(struct asking *asking, const struct asked_file *file)
+void ask_halves(struct asking *asking, const struct asked_file *file)
 {
-    asking->moves++;
-    write_asked(asking, 'M', file);
+    begin_with_file(asking, 'M', file);
     write_4(asking->out, 0);
     write_1(asking->out, 0);
+    begin_with_file(asking, 'C', file);
+    write_2(asking->out, 1);
+    write_1(asking->out, 1);
 }

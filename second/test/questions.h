@@ -1,20 +1,25 @@
-/* Questions of the trials (trials.h), written and counted. */
+/* Questions of the trials (trials.h), written into their stream and counted. */
 #ifndef QUESTIONS_H
 #define QUESTIONS_H
 
 #include "asked.h"
 #include "random_load.h"
 
-/* `in_memory` says how ask_move_of and ask_check_of lend a load: as it is, or else as its file.
-   `row_ties` and so on count the blamed loads of a kind (blame_kinds.h). */
+enum { LETTERS = 128 };
+
+/* `out` is the stream of the question that is being written, one of the other two. `in_memory` says
+   how ask_move_of and ask_check_of lend a load: as it is, or else as its file. `asked` counts the
+   questions by their letter, `row_ties` and so on the blamed loads of a kind (blame_kinds.h). */
 struct asking {
-    FILE *out;
+    FILE *bench_stream, *file_stream, *out;
     struct dice dice;
     bool in_memory;
-    unsigned long reports, moves, checks, loads, schedules;
-    unsigned long memory_moves, memory_checks, room_loads, room_schedules;
-    unsigned long blames, row_ties, place_ties, cuts, outweighed, memory_places;
+    unsigned long asked[LETTERS];
+    unsigned long row_ties, place_ties, cuts, outweighed;
 };
+
+/* Asks something of a load in memory. */
+typedef void ask_of_load(struct asking *asking, const struct load *load);
 
 /* Asks something of a load that was made of the one in `lent`. */
 struct lent;
@@ -49,6 +54,11 @@ void ask_schedule(struct asking *asking, const struct asked_slots *list);
 void ask_load_in_room(struct asking *asking, size_t room, const struct load *load);
 void ask_schedule_in_room(struct asking *asking, size_t room, const struct asked_slots *list);
 
+/* R, E and e. */
+void ask_sheet(struct asking *asking, const struct asked_sheet *sheet);
+void ask_export(struct asking *asking, const struct load *load);
+void ask_export_in_room(struct asking *asking, size_t room, const struct load *load);
+
 /* M or N, and C or D. */
 void ask_move_of(struct asking *asking, const struct load *load, const struct bench *state);
 void ask_check_of(struct asking *asking, const struct load *load, const struct asked_slots *list);
@@ -56,7 +66,11 @@ void ask_check_of(struct asking *asking, const struct load *load, const struct a
 /* Asks of a sound load made faulty, in 40 ways, one at a time. */
 void ask_each_fault(struct asking *asking, ask_lent *ask);
 
-/* The parts of the stream, in order. The first asks the five questions that a load file has. */
+/* Asks of faulty loads: faults at the last places, two faults at once, and faults by chance for
+   each number from 3 to 7. */
+void ask_faults_in_order(struct asking *asking, ask_of_load *ask);
+
+/* The parts of the streams, in order. The first asks the five questions that a load file has. */
 void ask_all_of_file(struct asking *asking, const struct asked_file *file);
 void ask_sound_loads(struct asking *asking);
 void ask_damaged_files(struct asking *asking);
@@ -76,8 +90,12 @@ void ask_faulty_loads(struct asking *asking);
 void ask_rooms(struct asking *asking);
 void ask_blames(struct asking *asking);
 void ask_places_in_memory(struct asking *asking);
+void ask_checks_of_refused_files(struct asking *asking);
+void ask_sheets(struct asking *asking);
+void ask_damaged_sheets(struct asking *asking);
+void ask_exports(struct asking *asking);
 
-/* A question that stops in the middle of its state; the stream's last. */
-void ask_half(struct asking *asking, const struct asked_file *file);
+/* Questions that stop in the middle of a state and of a list; the last of their streams. */
+void ask_halves(struct asking *asking, const struct asked_file *file);
 
 #endif

@@ -58,6 +58,18 @@ bad 's, room 4,097' '' 's\001\020\0\0'
 bad 's, no count' '' 's\004\0'
 bad 's, count 257' '' 's\004\0\001\001'
 bad 's, slots cut short' '' 's\024\0\001\0\001\001\0\0\0'
+bad 'R, no length' '' 'R'
+bad 'R, half a length' '' 'R\0'
+bad 'R, length 16,385' '' 'R\001\100'
+bad 'R, sheet cut short' '' 'R\002\0\r'
+bad 'R, in lower case' '' 'r\0\0'
+bad 'R, after a good one' 'sheet 0 4c440100454e0000
+' 'R\0\0R'
+bad 'E, nothing' '' 'E'
+bad 'E, no row' '' 'E\0'
+bad 'e, half a room' '' 'e\0'
+bad 'e, room 10,241' '' 'e\001\050'
+bad 'e, no row' '' 'e\010\0\0'
 empty 'W, a byte too few' bad W 1584 ''
 empty 'N, no state' bad N 1585 ''
 empty 'N, a state cut short' bad N 1804 ''
@@ -85,6 +97,34 @@ empty 's, room 3' 'schedule 9' 's\003\0' 2 ''
 empty 's, room 4' 'schedule 0 53430000' 's\004\0' 2 ''
 empty 's, room 6' 'schedule 0 53430000a5a5' 's\006\0' 2 ''
 empty 's, 193 slots, room 0' 'schedule 3' 's\0\0\301\0' 1158 ''
+empty 'E, a byte too few' bad E 1584 ''
+empty 'E, no rows' 'export 0 ' E 1585 ''
+empty 'E, 25 rows' 'export 3' 'E\031' 1584 ''
+empty 'E, one row, and it is not there' 'export 3' 'E\001' 1584 ''
+empty 'E, row 24 not zero' 'export 3' E 1584 '\001'
+empty 'E, after a good one' "export 0 $(printf '\nbad')" E 1585 E
+empty 'e, a byte too few' bad 'e\0\0' 1584 ''
+empty 'e, room 0' 'export 0 0 ' 'e\0\0' 1585 ''
+empty 'e, room 2' 'export 0 0 a5a5' 'e\002\0' 1585 ''
+empty 'e, 25 rows, room 0' 'export 3 0 ' 'e\0\0\031' 1584 ''
+empty 'e, 25 rows, room 2' 'export 3 0 a5a5' 'e\002\0\031' 1584 ''
+empty 'e, room 10,240' "export 0 0 $(printf 'a5%.0s' $(seq 10240))" 'e\0\050' 1585 ''
+
+# Row 1 is 2 in box 3, phase 4, deadline 5, one step of cost 6; the load has one row.
+one_row='\001\002\0\0\0\003\0\0\0\004\0\0\0\005\0\0\0\001\0\006\0'
+line=322c332c342c352c362c302c0d0a
+rest=1564
+empty 'E, one line' "export 0 $line" "E$one_row" $rest ''
+empty 'e, one line, room 13' "export 9 0 $(printf 'a5%.0s' $(seq 13))" "e\015\0$one_row" $rest ''
+empty 'e, one line, room 14' "export 0 14 $line" "e\016\0$one_row" $rest ''
+empty 'e, one line, room 16' "export 0 14 ${line}a5a5" "e\020\0$one_row" $rest ''
+same 'R, one line' \
+    'sheet 0 4c44010152570200000003000000040000000500000001005354060000''00454e0100' \
+    "$(printf 'R\016\0002,3,4,5,6,0,\r\n' | "$second" answer-trials)"
+same 'R, one line without its end' 'sheet 18
+sheet 18' "$(printf 'R\014\0002,3,4,5,6,0,R\015\0002,3,4,5,6,0,\r' | "$second" answer-trials)"
+same 'R, a sheet of 16,384 bytes' 'sheet 18' \
+    "$({ printf 'R\0\100'; head -c 16384 /dev/zero; } | "$second" answer-trials)"
 same 'B, no rows' 'load 0 0 0 0 yes
 .' "$(printf 'B\010\0LD\001\0EN\0\0' | "$second" answer-trials)"
 same 'P, no rows' "$places" "$(printf 'P\010\0LD\001\0EN\0\0' | "$second" answer-trials)"

@@ -151,7 +151,8 @@ static void longest_case(struct tally *tally)
 {
     struct load load = {.row_count = MOST_ROWS}, read;
     for (unsigned row = 0; row < MOST_ROWS; row++)
-        load.rows[row] = (struct row){{4000000000u + row}, {4100000000u + row}, 86400, 1000000, 8, 4,
+        load.rows[row] = (struct row){
+            {4000000000u + row}, {4100000000u + row}, 86400, 1000000, 8, 4,
             {{600, 3600}, {600, 3600}, {600, 3600}, {600, 3600}, {600, 3600}, {600, 3600},
              {600, 3600}, {600, 0}},
             {{1, 2, 65535}, {3, 4, 65535}, {5, 6, 65535}, {7, 8, 65535}}};

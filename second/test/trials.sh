@@ -1,19 +1,20 @@
 #!/bin/sh
 # The committed trials are those that this program makes and answers, byte for byte; every number
 # of the table that they can meet is met; an altered byte is noticed.
-# Usage: trials.sh PROGRAM MAKE_TRIALS TRIALS [write]
-# TRIALS is a folder with stdin and stdout; with `write` both are written anew.
+# Usage: trials.sh PROGRAM MAKE_TRIALS TRIALS FILE_TRIALS [write]
+# TRIALS and FILE_TRIALS are folders with stdin and stdout, for the bench's letters and for those of
+# checks, files and sheets; with `write` all four files are written anew.
 . "$(dirname "$0")/same.sh"
 make_trials=$2
 trials=$3
-written=
+file_trials=$4
 order='a b b-limit-9 b-limit-7 phase-5-deadline-8 phase-5-deadline-7 short-and-long no-waits
 no-rows one-identifier one-identifier-one-box cost-0 cost-601 wait-3600 wait-3601 24-rows 25-rows
 blind-skip figure-3 figure-4 figure-5 figure-6 figure-7 figure-8'
 
-# is_as_made STDIN STDOUT: whether these are the questions made and their answers.
+# is_as_made MADE STDIN STDOUT: whether these are the questions made and their answers.
 is_as_made() {
-    cmp -s "$work/stdin" "$1" && cmp -s "$work/stdout" "$2"
+    cmp -s "$1/stdin" "$2" && cmp -s "$1/stdout" "$3"
 }
 
 # altered FILE PLACE: the file with that byte one higher.
@@ -24,10 +25,29 @@ altered() {
     tail -c +$(($2 + 2)) "$1"
 }
 
-# noticed WHAT STDIN STDOUT
+# noticed WHAT MADE STDIN STDOUT
 noticed() {
-    is_as_made "$2" "$3" && found=unnoticed || found=noticed
+    is_as_made "$2" "$3" "$4" && found=unnoticed || found=noticed
     same "$1" noticed "$found"
+}
+
+# hold NAME FOLDER: the folder's two files are as made, and a byte altered in one is noticed.
+hold() {
+    is_as_made "$work/$1" "$2/stdin" "$2/stdout" && found=yes || found=no
+    same "$1: made and answered as committed" yes "$found"
+    same "$1: the last question is cut short" bad "$(tail -n 1 "$2/stdout")"
+    length=$(wc -c < "$2/stdin")
+    for place in 0 1 $((length / 2)) $((length - 1)); do
+        altered "$2/stdin" "$place" > "$work/altered"
+        noticed "$1: byte $place of the questions altered" "$work/$1" "$work/altered" "$2/stdout"
+    done
+    length=$(wc -c < "$2/stdout")
+    for place in 0 $((length / 2)) $((length - 1)); do
+        altered "$2/stdout" "$place" > "$work/altered"
+        noticed "$1: byte $place of the answers altered" "$work/$1" "$2/stdin" "$work/altered"
+    done
+    head -c $((length - 1)) "$2/stdout" > "$work/altered"
+    noticed "$1: the last byte of the answers lost" "$work/$1" "$2/stdin" "$work/altered"
 }
 
 # met NAME COUNT: a kind of answer that must be there.
@@ -36,23 +56,26 @@ met() {
     printf ' %s %d' "$1" "$2"
 }
 
-if [ "$4" = write ]; then
-    written=$trials
-fi
+writing=${5-}
 set --
 for name in $order; do
     set -- "$@" "$loads/$name"
 done
-"$make_trials" "$@" > "$work/stdin" 2> "$work/counts" || exit 2
-"$second" answer-trials < "$work/stdin" > "$work/stdout" || exit 2
-if [ -n "$written" ]; then
-    cp "$work/stdin" "$work/stdout" "$written"
+mkdir "$work/trials" "$work/file_trials" || exit 2
+"$make_trials" "$work/trials/stdin" "$work/file_trials/stdin" "$@" 2> "$work/counts" || exit 2
+for stream in trials file_trials; do
+    "$second" answer-trials < "$work/$stream/stdin" > "$work/$stream/stdout" || exit 2
+done
+if [ "$writing" = write ]; then
+    cp "$work/trials/stdin" "$work/trials/stdout" "$trials"
+    cp "$work/file_trials/stdin" "$work/file_trials/stdout" "$file_trials"
 fi
-is_as_made "$trials/stdin" "$trials/stdout" && found=yes || found=no
-same 'trials: made and answered as committed' yes "$found"
+hold trials "$trials"
+hold file_trials "$file_trials"
 
-printf 'questions: %s\n' "$(head -n 1 "$work/counts")"
+printf 'questions: %s; %s\n' "$(sed -n 1p "$work/counts")" "$(sed -n 2p "$work/counts")"
 count() { grep -c -E "$1" "$trials/stdout"; }
+count_files() { grep -c -E "$1" "$file_trials/stdout"; }
 printf 'answers: files'
 met taken "$(count '^load [0-9]+ [0-9]+ [0-9]+ [0-9]+ (yes|no)$')"
 for number in 1 2 3 4 5 6 7 8; do
@@ -65,17 +88,20 @@ for outcome in start idle done 'refused 3' 'refused 4' 'refused 5' 'refused 6' '
 done
 printf '; checks'
 for number in 0 3 4 5 6 7 12 13 14 15 16 17; do
-    met "$number" "$(count "^check $number\$")"
+    met "$number" "$(count_files "^check $number\$")"
+done
+for number in 1 2 3 4 5 6 7 8; do
+    met "refused $number" "$(count_files "^refused $number\$")"
 done
 printf '; loads'
-met 0 "$(count '^load 0 [0-9a-f]+$')"
+met 0 "$(count_files '^load 0 [0-9a-f]+$')"
 for number in 3 4 5 6 7 9; do
-    met "$number" "$(count "^load $number\$")"
+    met "$number" "$(count_files "^load $number\$")"
 done
 printf '; schedules'
-met 0 "$(count '^schedule 0 [0-9a-f]+$')"
+met 0 "$(count_files '^schedule 0 [0-9a-f]+$')"
 for number in 3 9; do
-    met "$number" "$(count "^schedule $number\$")"
+    met "$number" "$(count_files "^schedule $number\$")"
 done
 printf '; blames'
 for kind in 'rows tie' 'places tie' 'the cut decides' 'just outweighed'; do
@@ -102,21 +128,28 @@ done
 met "A's" "$(in_memory 'waits 8:1( 0:0){6} blames( 1:1){3}( 0:0){21} margins 1 0 -1( 0){21}')"
 met 'the least margins' "$(in_memory 'waits( 0:0){7} blames( 0:0){24} margins( -806399){24}')"
 met 'the largest' "$(in_memory 'waits( 0:0){7} blames( 0:0){24} margins 999999( 0){23}')"
-printf '\n'
-same 'trials: the last question is cut short' bad "$(tail -n 1 "$trials/stdout")"
 
-length=$(wc -c < "$trials/stdin")
-for place in 0 1 $((length / 2)) $((length - 1)); do
-    altered "$trials/stdin" "$place" > "$work/altered"
-    noticed "byte $place of the questions altered" "$work/altered" "$trials/stdout"
+printf '; sheets'
+met taken "$(count_files '^sheet 0 [0-9a-f]+$')"
+for number in 3 4 5 7 18 19 20; do
+    met "$number" "$(count_files "^sheet $number\$")"
 done
-length=$(wc -c < "$trials/stdout")
-for place in 0 $((length / 2)) $((length - 1)); do
-    altered "$trials/stdout" "$place" > "$work/altered"
-    noticed "byte $place of the answers altered" "$trials/stdin" "$work/altered"
+same 'trials: a sheet never gives 6' 0 "$(count_files '^sheet 6')"
+met 'one of 24 full rows' "$(count_files '^sheet 0 [0-9a-f]{4432}$')"
+met 'the empty one' "$(count_files '^sheet 0 4c440100454e0000$')"
+printf '; exports'
+met 'the empty one' "$(count_files '^export 0 $')"
+met taken "$(count_files '^export 0 ([0-9a-f][0-9a-f])+$')"
+for number in 3 4 5 6 7; do
+    met "$number" "$(count_files "^export $number\$")"
 done
-head -c $((length - 1)) "$trials/stdout" > "$work/altered"
-noticed 'the last byte of the answers lost' "$trials/stdin" "$work/altered"
+printf '; in rooms'
+met 'an exact one' "$(count_files '^export 0 [1-9][0-9]* ([0-9a-f][0-9a-f])*0d0a$')"
+met 'a longer one' "$(count_files '^export 0 [1-9][0-9]* ([0-9a-f][0-9a-f])*0d0a(a5)+$')"
+for number in 3 4 5 6 7 9; do
+    met "$number" "$(count_files "^export $number 0 (a5)*\$")"
+done
+printf '\n'
 
 printf 'trials: %d as expected, %d not\n' "$passed" "$failed"
 [ "$failed" -eq 0 ]

@@ -6,6 +6,19 @@ loads=$(dirname "$0")/loads
 work=$(mktemp -d) || exit 2
 trap 'rm -rf "$work"' EXIT
 
+# sheet: the load's route sheet, where it has one. CR is left out, since a page has none.
+sheet() {
+    "$second" sheet-of-load < "$work/load" > "$work/sheet" 2> /dev/null || return 0
+    printf 'Sheet, %d bytes' $(($(wc -c < "$work/sheet")))
+    if [ -s "$work/sheet" ]; then
+        printf ' with CR LF at the end of each line:\n\n```\n'
+        tr -d '\r' < "$work/sheet"
+        printf '```\n\n'
+    else
+        printf '.\n\n'
+    fi
+}
+
 # part HEADING STATED NAME
 part() {
     grep -v '^#' "$loads/$3" > "$work/rows"
@@ -19,7 +32,9 @@ part() {
     fi
     printf 'File, one record a line:\n\n```\n'
     sed '/^$/,$d' "$work/values"
-    printf '```\n\nComputed:\n\n```\n'
+    printf '```\n\n'
+    sheet
+    printf 'Computed:\n\n```\n'
     sed '1,/^$/d' "$work/values"
     printf '```\n\nReport:\n\n```\n'
     "$second" report < "$work/load"
@@ -34,8 +49,9 @@ Made by `make VALUES.md`. Rows are in the notation of `second load`:
 
 Under each load, "Stated by the document" lists the values that its text gives, and `make test`
 compares those. Everything else there was computed by this program alone: the bytes (which follow
-the document's record table), row bounds, margins, verdicts, slots and ends not listed as stated.
-A refused file has a refusal number and nothing more. Slots are `start`, `row`, `step`, in order.
+the document's record table), the sheets (which follow request 2026-02), row bounds, margins,
+verdicts, slots and ends not listed as stated. A refused file has a refusal number and nothing
+more. Slots are `start`, `row`, `step`, in order.
 TEXT
 
 part 'A' \

@@ -4,9 +4,9 @@
 // answered by `refused` and its number.
 use crate::given::Given;
 use crate::given::write_refused;
+use crate::marked::write_marked;
+use crate::marked::write_signed;
 use crate::output::write_byte;
-use crate::output::write_marked;
-use crate::output::write_signed;
 use crate::output::write_text;
 use bound::blames_of;
 use bound::place_waits_of;

@@ -1,19 +1,16 @@
 // A test program, and no product: it answers a stream of questions on standard input, so that the
-// public calls can be compared from outside. A question is a letter and its bytes, with numbers
-// little-endian; the module of a letter says which bytes, and what is answered. What is no
-// question, or one cut short, is answered by `bad`, and ends the program; so does the input's end.
+// public calls that run the bench and print can be compared from outside. A question is a letter
+// and its bytes, with numbers little-endian; the module of a letter says which bytes, and what is
+// answered. What is no question, or one cut short, is answered by `bad`, and ends the program; so
+// does the input's end.
 mod blames;
-mod checks;
 mod given;
 mod input;
-mod loads;
+mod marked;
 mod memory;
 mod moves;
 mod output;
 mod reports;
-mod rooms;
-mod schedules;
-mod slots;
 
 use given::from_file;
 use given::from_memory;
@@ -30,12 +27,6 @@ fn answer_kind(letter: u8) -> bool {
         b'p' => blames::answer(from_memory(), true),
         b'M' => moves::answer(from_file()),
         b'N' => moves::answer(from_memory()),
-        b'C' => checks::answer(from_file()),
-        b'D' => checks::answer(from_memory()),
-        b'W' => loads::answer(false),
-        b'w' => loads::answer(true),
-        b'S' => schedules::answer(false),
-        b's' => schedules::answer(true),
         _ => false,
     }
 }

@@ -6,8 +6,8 @@
 use crate::given::Given;
 use crate::given::write_refused;
 use crate::input::read_whole;
+use crate::marked::write_marked;
 use crate::output::write_byte;
-use crate::output::write_marked;
 use crate::output::write_number;
 use crate::output::write_text;
 use bench::Bench;
