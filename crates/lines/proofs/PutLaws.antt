@@ -1,14 +1,14 @@
 -- Laws of a text that is gathered piece by piece: two pieces put one behind the other are put as one.
-use Prim.Native.Nat.{ℕ, suc, _+_, _-_, _≤_}
+use Prim.Native.Nat.{ℕ, suc, _+_, _≤_}
 use mathlib.Core.List.{List, _∷_, _++_}
-use mathlib.Core.Path.{_≡_, refl, ap, sym, _∙_}
+use mathlib.Core.Path.{_≡_, refl, ap, sym}
 use native.Mathlib.Omega.{arith}
-use lib.ListN.{length, take, replicate, length-append}
-use lib.Seq.{take-append-seam}
+use lib.ListN.{length, take, length-append}
 use Rattle.counting.specs.Lists.{joinTo}
 use Rattle.counting.proofs.lists.ListLaws.{joinTo-next}
 use Rattle.words.specs.declared.Word.{Word}
-use Rattle.words.specs.Calls.{wordPlaces, wordHolding}
+use Rattle.words.specs.Calls.{wordHolding}
+use Rattle.words.proofs.DecimalLaws.{word-taken}
 use Rattle.words.proofs.OverwriteLaws.{sets-more}
 use Rattle.lines.specs.inner.Puts.{Put}
 
@@ -35,11 +35,6 @@ pub put-next : {before text after : List ℕ} {at next last : ℕ} (f : ℕ → 
     → Put before at (joinTo f n) text next → Put text next (f n) after last
     → Put before at (joinTo f (n + 1)) after last
 put-next f n p q = put-same (sym (joinTo-next f n)) (put-more p q)
-
--- the bytes that a word counts are the text that it holds
-word-taken : (word : Word) (bs : List ℕ) → word ≡ wordHolding bs → take (word .length) (word .bytes) ≡ bs
-word-taken word bs e =
-    ap (λ (w : Word). take (w .length) (w .bytes)) e ∙ take-append-seam bs (replicate (wordPlaces - length bs) 0)
 
 -- a space and a word that holds a text of at most so many bytes
 pub put-held : {before after : List ℕ} {at next : ℕ} (word : Word) (bs : List ℕ) (most : ℕ)

@@ -4,15 +4,15 @@ use Prim.Native.Nat.{ℕ, _+_, _<_}
 use mathlib.Core.Bool.{true, false, _&&_, and-assoc, and-false}
 use mathlib.Core.List.{List}
 use mathlib.Core.Path.{_≡_, refl, ap, ap₂, sym, _∙_}
-use native.Mathlib.Decide.{decLt}
 use native.Mathlib.Numerals.{add-one}
 use native.Mathlib.Omega.{arith}
 use borrow.Author.Tests.{eqb-true}
 use lib.Dec.{eqb}
-use lib.ListN.{length, List·getD-eq-default}
+use lib.ListN.{length}
 use Rattle.counting.specs.Lists.{joinTo, listTo, memberAt}
 use Rattle.counting.proofs.tests.TestLaws.{and-right}
 use Rattle.words.specs.LittleEndian.{byteAt}
+use Rattle.words.proofs.DigitLaws.{byte-inside}
 use Rattle.sheet_line.specs.declared.LineRead.{LineRead}
 use Rattle.sheet_line.specs.declared.reading.MarkRead.{MarkRead}
 use Rattle.sheet_line.specs.LineText.{return, feed}
@@ -30,21 +30,13 @@ use Rattle.sheet_line.specs.Line.{
 use Rattle.sheet_line.specs.Calls.{noLine, LineAt}
 use Rattle.sheet_line.specs.inner.Fields.{fieldsTo, MarkReadAt, endsAt}
 
--- past the end stands 0
-pub byte-inside : (bs : List ℕ) (place b : ℕ) → byteAt bs place ≡ b → 0 < b → place < length bs
-byte-inside bs place b e l =
-    elim (decLt place (length bs)) [
-      | yes h ↦ h
-      | no h ↦ absurd (omega (arith, List·getD-eq-default bs 0 {n = place} (omega arith)))
-    ]
-
 -- CR LF lie inside
 pub ends-inside : (bs : List ℕ) (place : ℕ) → endsAt bs place ≡ true → place + 1 < length bs
 ends-inside bs place e =
-    byte-inside bs (place + 1) feed
-    (eqb-true (byteAt bs (place + 1)) feed
-    (and-right (eqb (byteAt bs place) return) (eqb (byteAt bs (place + 1)) feed) e))
-    (omega arith)
+    let is : byteAt bs (place + 1) ≡ feed =
+    eqb-true (byteAt bs (place + 1)) feed
+    (and-right (eqb (byteAt bs place) return) (eqb (byteAt bs (place + 1)) feed) e) in
+    byte-inside bs (place + 1) (omega arith)
 
 pub fieldPlace-zero : (bs : List ℕ) (at : ℕ) → fieldPlace bs at 0 ≡ at
 unfolding fieldPlace

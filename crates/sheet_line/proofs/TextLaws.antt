@@ -1,21 +1,19 @@
 -- A line's text, put together piece by piece: pieces one behind the other are one piece, and there is room for the
 -- line of every row that memory holds.
-use Prim.Native.Nat.{ℕ, zero, suc, _+_, _-_, _*_, _/_, _%_, _≤_, _<_}
-use mathlib.Core.Bool.{Bool, true, false}
+use Prim.Native.Nat.{ℕ, _+_, _-_, _*_, _≤_, _<_}
 use mathlib.Core.List.{List, [], _∷_, _++_}
 use mathlib.Core.Path.{_≡_, refl, ap, ap₂, sym, _∙_}
 use native.Mathlib.Omega.{arith}
-use lib.Dec.{ltb}
 use lib.ListN.{length, take, replicate, length-append}
 use lib.Seq.{take-append-seam}
 use Rattle.counting.specs.Lists.{joinTo, memberAt}
 use Rattle.counting.proofs.sums.SumLaws.{sumTo-le}
 use Rattle.counting.proofs.lists.ListLaws.{joinTo-next, joinTo-length}
 use Rattle.words.specs.declared.Word.{Word}
-use Rattle.words.specs.Decimal.{digit, decimalTo, decimal}
+use Rattle.words.specs.Decimal.{decimal}
 use Rattle.words.specs.Calls.{wordPlaces, DecimalOf}
 use Rattle.words.proofs.OverwriteLaws.{sets-append, sets-alone}
-use Rattle.words.proofs.DecimalLaws.{decimal-length-le}
+use Rattle.words.proofs.DecimalLaws.{decimal-length-le, decimal-length-most}
 use Rattle.load.specs.declared.Step.{Step}
 use Rattle.load.specs.declared.Row.{Row}
 use Rattle.load.specs.Load.{stepAt}
@@ -33,40 +31,19 @@ behind-more held xs ys =
     omega (arith, length-append xs ys) in
     ap₂ (λ n bs. record { length = n; bytes = bs }) e (sets-append (held .bytes) (held .length) xs ys)
 
-decimalTo-length-most : (most n : ℕ) → length (decimalTo most n) ≤ most
-unfolding decimalTo
-decimalTo-length-most zero n = omega arith
-decimalTo-length-most (suc most) n = go (ltb n 10) (decimalTo-length-most most (n / 10))
-  where
-    go : (t : Bool) → length (decimalTo most (n / 10)) ≤ most
-        → length {A = ℕ} (elim t [ true ↦ digit n | false ↦ decimalTo most (n / 10) ++ digit (n % 10) ])
-        ≤ suc most
-    go true h = omega arith
-    go false h = rw length-append (omega arith)
-
--- the text of any number has at most ten digits
-pub decimal-length-most : (n : ℕ) → length (decimal n) ≤ 10
-decimal-length-most n = decimalTo-length-most 10 n
-
 pub fieldBytes-length-most : (n : ℕ) → length (fieldBytes n) ≤ 11
 fieldBytes-length-most n = omega (arith, length-append (decimal n) (comma ∷ []), decimal-length-most n)
 
--- what a word holds of a number
-module _ (n : ℕ) (word : Word) (e : DecimalOf n word) where
-  pub word-taken : take (word .length) (word .bytes) ≡ decimal n
-  word-taken =
-      ap (λ (w : Word). take (w .length) (w .bytes)) e
-      ∙ take-append-seam (decimal n) (replicate (wordPlaces - length (decimal n)) 0)
-
-  pub word-inside : word .length ≤ length (word .bytes)
-  word-inside =
-      let l = decimal-length-most n in
-      omega (
-        arith,
-        ap (λ (w : Word). w .length) e,
-        ap (λ (w : Word). length (w .bytes)) e,
-        length-append (decimal n) (replicate (wordPlaces - length (decimal n)) 0),
-      )
+-- a word has a place for each digit of a number
+pub word-inside : (n : ℕ) (word : Word) → DecimalOf n word → word .length ≤ length (word .bytes)
+word-inside n word e =
+    let l = decimal-length-most n in
+    omega (
+      arith,
+      ap (λ (w : Word). w .length) e,
+      ap (λ (w : Word). length (w .bytes)) e,
+      length-append (decimal n) (replicate (wordPlaces - length (decimal n)) 0),
+    )
 
 -- so many of the numbers, each with its comma
 abbrev pub fieldsText : List ℕ → ℕ → List ℕ

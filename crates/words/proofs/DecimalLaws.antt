@@ -1,6 +1,6 @@
 -- Laws of decimal text: a number of two digits or more is its tenth with one digit behind it, and a number below
 -- 10 ^ k has at most k digits.
-use Prim.Native.Nat.{ℕ, zero, suc, _+_, _/_, _%_, _^_, _≤_, _<_}
+use Prim.Native.Nat.{ℕ, zero, suc, _+_, _-_, _/_, _%_, _^_, _≤_, _<_}
 use mathlib.Core.Bool.{Bool, true, false, cond}
 use mathlib.Core.List.{List, _++_}
 use mathlib.Core.Path.{_≡_, refl, ap, ap₂, sym, _∙_}
@@ -10,8 +10,8 @@ use native.Mathlib.Omega.{arith}
 use borrow.Author.Tests.{lt-ltb, le-ltb}
 use lib.Dec.{ltb}
 use lib.IntN.{ℤ, pos, negsuc, natAbs}
-use lib.ListN.{length, length-append, replicate, set}
-use lib.Seq.{sets}
+use lib.ListN.{length, length-append, replicate, set, take}
+use lib.Seq.{sets, take-append-seam}
 use Rattle.words.specs.declared.Word.{Word}
 use Rattle.words.specs.Decimal.{digit, decimalTo, decimal, signedDecimal}
 use Rattle.words.specs.Calls.{wordPlaces, wordHolding}
@@ -108,3 +108,23 @@ last-digit bytes at place n l h e =
 pub wordHolding-is : (bs : List ℕ) (n : ℕ) → n ≡ length bs → length bs ≤ wordPlaces
     → _≡_ {A = Word} (record { length = n; bytes = sets (replicate wordPlaces 0) 0 bs }) (wordHolding bs)
 wordHolding-is bs n e h = ap₂ (λ l w. record { length = l; bytes = w }) e (sets-alone wordPlaces 0 bs h)
+
+-- the bytes that a word counts are the text that it holds
+pub word-taken : (word : Word) (bs : List ℕ) → word ≡ wordHolding bs → take (word .length) (word .bytes) ≡ bs
+word-taken word bs e =
+    ap (λ (w : Word). take (w .length) (w .bytes)) e ∙ take-append-seam bs (replicate (wordPlaces - length bs) 0)
+
+decimalTo-length-most : (most n : ℕ) → length (decimalTo most n) ≤ most
+unfolding decimalTo
+decimalTo-length-most zero n = omega arith
+decimalTo-length-most (suc most) n = go (ltb n 10) (decimalTo-length-most most (n / 10))
+  where
+    go : (t : Bool) → length (decimalTo most (n / 10)) ≤ most
+        → length {A = ℕ} (elim t [ true ↦ digit n | false ↦ decimalTo most (n / 10) ++ digit (n % 10) ])
+        ≤ suc most
+    go true h = omega arith
+    go false h = rw length-append (omega arith)
+
+-- the text of any number has at most ten digits
+pub decimal-length-most : (n : ℕ) → length (decimal n) ≤ 10
+decimal-length-most n = decimalTo-length-most 10 n

@@ -6,7 +6,7 @@ use borrow.Author.Tests.{eq-eqb, ne-eqb}
 use lib.Dec.{eqb}
 use Rattle.words.specs.LittleEndian.{byteAt}
 use Rattle.sheet_line.specs.LineText.{return, feed}
-use Rattle.sheet_line.proofs.ReadingLaws.{byte-inside}
+use Rattle.words.proofs.DigitLaws.{byte-inside}
 use Rattle.sheet_line.proofs.reading.ends_at.Statement.{statement}
 use Rattle.sheet_line.proofs.reading.ends_at.Tie as tie
 
@@ -21,7 +21,7 @@ next-fits c =
     let read = c .before in
     let args = read .before .before .args in
     let is = sym (read .byte-at .ensures) ∙ c .if1 .left in
-    omega (arith, byte-inside (args .bytes .now) (args .place) return is (omega arith))
+    omega (arith, byte-inside (args .bytes .now) (args .place) (omega arith))
 
 second : tie.Need-returns-2
 second c =

@@ -12,7 +12,7 @@ use Rattle.words.proofs.PlainLaws.{plainAt-inside}
 use Rattle.sheet_line.specs.declared.Mark.the-variants.{Nothing, Limit}
 use Rattle.sheet_line.specs.LineText.{dash}
 use Rattle.sheet_line.specs.Line.{markAt, behindMark}
-use Rattle.sheet_line.proofs.ReadingLaws.{byte-inside}
+use Rattle.words.proofs.DigitLaws.{byte-inside}
 use Rattle.sheet_line.proofs.reading.mark_at.Statement.{statement}
 use Rattle.sheet_line.proofs.reading.mark_at.Tie as tie
 
@@ -24,7 +24,8 @@ module _ (c : tie.Then1) where
 dash-fits : tie.Need-add-t7
 dash-fits c =
     let args = c .before .before .before .args in
-    omega (arith, byte-inside (args .bytes .now) (args .place) dash (is c) (omega arith))
+    let dashed = is c in
+    omega (arith, byte-inside (args .bytes .now) (args .place) (omega arith))
 
 dashed : tie.Need-returns
 unfolding markAt behindMark

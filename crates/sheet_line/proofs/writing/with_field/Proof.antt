@@ -7,7 +7,8 @@ use Rattle.words.specs.Decimal.{decimal}
 use Rattle.sheet_line.specs.declared.LineText.{LineText}
 use Rattle.sheet_line.specs.LineText.{comma}
 use Rattle.sheet_line.specs.inner.Behind.{behind}
-use Rattle.sheet_line.proofs.TextLaws.{decimal-length-most, behind-more}
+use Rattle.words.proofs.DecimalLaws.{decimal-length-most}
+use Rattle.sheet_line.proofs.TextLaws.{behind-more}
 use Rattle.sheet_line.proofs.writing.with_field.Statement.{statement}
 use Rattle.sheet_line.proofs.writing.with_field.Tie as tie
 

@@ -7,7 +7,8 @@ use lib.ListN.{length, take}
 use lib.Seq.{length-take-le}
 use Rattle.words.specs.Decimal.{decimal}
 use Rattle.sheet_line.specs.inner.Behind.{behind}
-use Rattle.sheet_line.proofs.TextLaws.{decimal-length-most, word-taken, word-inside}
+use Rattle.words.proofs.DecimalLaws.{decimal-length-most, word-taken}
+use Rattle.sheet_line.proofs.TextLaws.{word-inside}
 use Rattle.sheet_line.proofs.writing.with_number.Statement.{statement}
 use Rattle.sheet_line.proofs.writing.with_number.Tie as tie
 
@@ -16,7 +17,7 @@ module _ (c : tie.After-decimal-of) where
   there = word-inside (c .before .args .number) _ (c .decimal-of .ensures)
 
   taken : take (c .decimal-of .result .length) (c .decimal-of .result .bytes) ≡ decimal (c .before .args .number)
-  taken = word-taken (c .before .args .number) _ (c .decimal-of .ensures)
+  taken = word-taken _ _ (c .decimal-of .ensures)
 
 few : tie.Need-with-bytes-requires
 few c κs =
