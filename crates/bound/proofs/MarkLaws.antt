@@ -9,9 +9,10 @@ use borrow.Author.Tests.{eq-eqb, ne-eqb}
 use lib.Dec.{eqb}
 use lib.ListN.{length, set, List·getD-eq-default}
 use lib.Seq.{set-out, getD-set-same, getD-set-other}
-use Rattle.counting.specs.Lists.{memberAt, isMarked}
+use Rattle.counting.specs.Lists.{isMarked}
 use Rattle.counting.proofs.tests.TestLaws.{and-right}
 use Rattle.counting.proofs.sorting.PairLaws.{pairsSmallest, pairsSmallest-ext}
+use Rattle.load.specs.declared.Load.{Load}
 use Rattle.bound.specs.inner.Marks.{isOther, Costed}
 
 module _ (marks : List Bool) (i : ℕ) where
@@ -35,17 +36,16 @@ module _ (marks : List Bool) (i : ℕ) where
         | no e ↦ getD-set-other marks i k false false e ∙ sym (ap (λ b. not b && isMarked marks k) (ne-eqb k i e))
       ]
 
-  pub Costed-others : (n : ℕ) (costs : List ℕ) → Costed n costs marks → Costed n costs (set marks i false)
-  Costed-others n costs costed =
+  pub Costed-others : (load : Load) (n j : ℕ) → Costed load n j marks → Costed load n j (set marks i false)
+  Costed-others load n j costed =
       record {
         few = costed .few;
+        between = costed .between;
         small = λ k l e. costed .small k l (and-right (not (eqb k i)) (isMarked marks k) (sym (isOther-is k) ∙ e));
       }
 
-  pub pairsSmallest-others : (here next : List ℕ) (n : ℕ)
-      → pairsSmallest (memberAt here) (memberAt next) (isMarked (set marks i false)) n
-      ≡ pairsSmallest (memberAt here) (memberAt next) (isOther marks i) n
-  pairsSmallest-others here next n =
-      pairsSmallest-ext (memberAt here) (memberAt here) (memberAt next) (memberAt next)
-      (isMarked (set marks i false)) (isOther marks i) n
-      (λ k l. refl) (λ k l. refl) (λ k l. isOther-is k)
+  pub pairsSmallest-others : (f g : ℕ → ℕ) (n : ℕ)
+      → pairsSmallest f g (isMarked (set marks i false)) n ≡ pairsSmallest f g (isOther marks i) n
+  pairsSmallest-others f g n =
+      pairsSmallest-ext f f g g (isMarked (set marks i false)) (isOther marks i) n (λ k l. refl) (λ k l. refl)
+      (λ k l. isOther-is k)

@@ -1,5 +1,5 @@
-// The numbers of one place, row by row, out of a load: costs, waits, and which rows are free there.
-// Each is an array of its own, so that the loops above copy no load.
+// What is read at a place of a load: a row's wait, and which rows are free there. Those are marked
+// in an array, so that the loops above look at no row's windows again.
 use load::Load;
 use load::MOST_ROWS;
 use load::Row;
@@ -9,8 +9,8 @@ ghost use mathlib.Core.Bool.{false, _&&_};
 ghost use mathlib.Core.Path.{_≡_};
 ghost use Prim.Native.Nat.{_+_, _≤_, _<_};
 ghost use Rattle.counting.specs.Lists.{filled};
-ghost use Rattle.load.specs.Load.{mostRows, mostSteps, rowAt, stepAt};
-ghost use Rattle.bound.specs.inner.Marks.{freeIn, freesAt};
+ghost use Rattle.load.specs.Load.{mostRows, mostSteps, rowAt};
+ghost use Rattle.bound.specs.inner.Marks.{waitAt, freeIn, freesAt};
 
 // Says whether a row has a step at a place and that step is free.
 fn free_in(row: Row, j: usize) -> bool
@@ -33,32 +33,13 @@ fn paired_in(row: Row, j: usize) -> bool
     false
 }
 
-// Gives the costs of the rows' steps at a place; 0 for rows not there.
-pub fn costs_at(load: Load, j: usize) -> [u16; MOST_ROWS]
-    requires { ⌜ load .rows ≤ mostRows ⌝ }
-    ensures { λ r. ⌜ r ≡ filled (λ i. stepAt (rowAt load i) j .cost) (load .rows) mostRows 0 ⌝ }
+// Gives the wait after a row's step at a place.
+pub fn wait_at(load: Load, i: usize, j: usize) -> u16
+    requires { ⌜ i < mostRows ⌝ }
+    ensures { λ r. ⌜ r ≡ waitAt load j i ⌝ }
 {
-    let rows = load.rows as usize;
-    let mut costs = [0u16; MOST_ROWS];
-    for i in 0..rows {
-        let step = step_at(load.row[i], j);
-        costs[i] = step.cost;
-    }
-    costs
-}
-
-// Gives the waits after the rows' steps at a place; 0 for rows not there.
-pub fn waits_at(load: Load, j: usize) -> [u16; MOST_ROWS]
-    requires { ⌜ load .rows ≤ mostRows ⌝ }
-    ensures { λ r. ⌜ r ≡ filled (λ i. stepAt (rowAt load i) j .wait) (load .rows) mostRows 0 ⌝ }
-{
-    let rows = load.rows as usize;
-    let mut waits = [0u16; MOST_ROWS];
-    for i in 0..rows {
-        let step = step_at(load.row[i], j);
-        waits[i] = step.wait;
-    }
-    waits
+    let step = step_at(load.row[i], j);
+    step.wait
 }
 
 // Marks the rows whose step at a place is there and free.

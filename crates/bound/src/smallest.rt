@@ -1,22 +1,20 @@
 // The sum of the r smallest of the 2r costs that r rows give, two each: by a cost that splits them,
-// found by halving, so that no cost is copied or moved.
+// found by halving. The costs are read where they stand in the load, row by row, and are gathered
+// nowhere.
 use load::LARGEST_COST;
+use load::Load;
 use load::MOST_ROWS;
+use load::Row;
 ghost use mathlib.Core.Path.{_≡_};
 ghost use mathlib.Core.Bool.{cond};
-ghost use Prim.Native.Nat.{_*_, _≤_};
+ghost use Prim.Native.Nat.{_+_, _≤_, _<_};
 ghost use lib.Dec.{ltb};
-ghost use Rattle.counting.specs.Sums.{countTo};
-ghost use Rattle.counting.specs.Lists.{memberAt, isMarked};
-ghost use Rattle.counting.proofs.sorting.PairLaws.{
-  pairsSmallest,
-  pairsUpTo,
-  pairsBelow,
-  pairsSumBelow,
-  Splits,
-};
-ghost use Rattle.load.specs.Load.{mostRows, largestCost};
-ghost use Rattle.bound.specs.inner.Marks.{Costed};
+ghost use Rattle.counting.specs.Sums.{bit, countTo};
+ghost use Rattle.counting.specs.Lists.{isMarked};
+ghost use Rattle.counting.proofs.sorting.PairLaws.{pairsSmallest, Splits};
+ghost use Rattle.load.specs.Load.{mostRows, largestCost, stepAt};
+ghost use Rattle.rules.specs.Bound.{mostPlaces};
+ghost use Rattle.bound.specs.inner.Marks.{costAt, Costed};
 
 // Gives how many of the first n rows are marked.
 fn count_marked(n: usize, marks: &[bool; MOST_ROWS]) -> u32
@@ -30,45 +28,15 @@ fn count_marked(n: usize, marks: &[bool; MOST_ROWS]) -> u32
     count
 }
 
-// Gives how many of the marked rows' costs are at most t.
-fn count_up_to(
-    n: usize,
-    here: &[u16; MOST_ROWS],
-    next: &[u16; MOST_ROWS],
-    marks: &[bool; MOST_ROWS],
-    t: u16,
-) -> u32
-    requires { ⌜ n ≤ mostRows ⌝ }
-    ensures { λ r. ⌜ r ≡ pairsUpTo
-        (memberAt (now (here .entry))) (memberAt (now (next .entry)))
-        (isMarked (now (marks .entry))) n t ⌝ }
+// Gives how many of a row's two costs, at a place and at the next, are below t.
+fn count_below(row: Row, j: usize, t: u16) -> u32
+    requires { ⌜ j < mostPlaces ⌝ }
+    ensures { λ r. ⌜ (r ≡ bit (ltb (stepAt row j .cost) t) + bit (ltb (stepAt row (j + 1) .cost) t))
+        × (r ≤ 2) ⌝ }
 {
-    let mut count: u32 = 0;
-    for k in 0..n {
-        if marks[k] {
-            count += (here[k] <= t) as u32 + (next[k] <= t) as u32;
-        }
-    }
-    count
-}
-
-// Gives how many of the marked rows' costs are below t.
-fn count_below(
-    n: usize,
-    here: &[u16; MOST_ROWS],
-    next: &[u16; MOST_ROWS],
-    marks: &[bool; MOST_ROWS],
-    t: u16,
-) -> u32
-    requires { ⌜ n ≤ mostRows ⌝ }
-    ensures { λ r. ⌜ r ≡ pairsBelow
-        (memberAt (now (here .entry))) (memberAt (now (next .entry)))
-        (isMarked (now (marks .entry))) n t ⌝ }
-{
-    if t == 0 {
-        return 0;
-    }
-    count_up_to(n, here, next, marks, t - 1)
+    let here = row.step[j];
+    let next = row.step[j + 1];
+    (here.cost < t) as u32 + (next.cost < t) as u32
 }
 
 // Gives a cost that is below t, and 0 for any other.
@@ -78,50 +46,38 @@ fn cost_below(cost: u16, t: u16) -> u32
     if cost < t { cost as u32 } else { 0 }
 }
 
-// Adds the marked rows' costs that are below t.
-fn sum_below(
-    n: usize,
-    here: &[u16; MOST_ROWS],
-    next: &[u16; MOST_ROWS],
-    marks: &[bool; MOST_ROWS],
-    t: u16,
-) -> u32
-    requires { ⌜ n ≤ mostRows ⌝ }
-    ensures { λ r. ⌜ (r ≡ pairsSumBelow
-        (memberAt (now (here .entry))) (memberAt (now (next .entry)))
-        (isMarked (now (marks .entry))) n t)
-        × (r ≤ 131070 * n) ⌝ }
+// Adds those of a row's two costs, at a place and at the next, that are below t.
+fn sum_below(row: Row, j: usize, t: u16) -> u32
+    requires { ⌜ j < mostPlaces ⌝ }
+    ensures { λ r. ⌜ (r ≡ cond (ltb (stepAt row j .cost) t) (stepAt row j .cost) 0
+        + cond (ltb (stepAt row (j + 1) .cost) t) (stepAt row (j + 1) .cost) 0)
+        × (r ≤ 131070) ⌝ }
 {
-    let mut sum: u32 = 0;
-    for k in 0..n {
-        if marks[k] {
-            sum += cost_below(here[k], t) + cost_below(next[k], t);
-        }
-    }
-    sum
+    let here = row.step[j];
+    let next = row.step[j + 1];
+    cost_below(here.cost, t) + cost_below(next.cost, t)
 }
 
 // Gives the cost that splits the marked rows' costs, where r rows are marked: at most r costs are
-// below it, and at least r are at most as large.
-fn splitting_cost(
-    n: usize,
-    here: &[u16; MOST_ROWS],
-    next: &[u16; MOST_ROWS],
-    marks: &[bool; MOST_ROWS],
-    r: u32,
-) -> u16
-    requires { ⌜ Costed n (now here) (now marks)
-        × (r ≡ countTo (isMarked (now marks)) n) ⌝ }
+// below it, and at least r are at most as large. The rows are counted in the loop that halves: a
+// function of its own would copy the load at each half.
+fn splitting_cost(load: Load, n: usize, j: usize, marks: &[bool; MOST_ROWS], r: u32) -> u16
+    requires { ⌜ Costed load n j (now marks) × (r ≡ countTo (isMarked (now marks)) n) ⌝ }
     ensures { λ t. ⌜ Splits
-        (memberAt (now (here .entry))) (memberAt (now (next .entry)))
-        (isMarked (now (marks .entry))) n t
+        (costAt load j) (costAt load (j + 1)) (isMarked (now (marks .entry))) n t
         × (t ≤ largestCost) ⌝ }
 {
     let mut low: u16 = 0;
     let mut high: u16 = LARGEST_COST as u16;
     while low < high {
         let half = (low + high) / 2;
-        if r <= count_up_to(n, here, next, marks, half) {
+        let mut up_to: u32 = 0;
+        for k in 0..n {
+            if marks[k] {
+                up_to += count_below(load.row[k], j, half + 1);
+            }
+        }
+        if r <= up_to {
             high = half;
         } else {
             low = half + 1;
@@ -130,20 +86,34 @@ fn splitting_cost(
     low
 }
 
-// Gives the sum of the r smallest of the 2r costs of the marked rows.
-pub fn smallest_sum(
-    n: usize,
-    here: &[u16; MOST_ROWS],
-    next: &[u16; MOST_ROWS],
-    marks: &[bool; MOST_ROWS],
-) -> u32
-    requires { ⌜ Costed n (now here) (now marks) ⌝ }
+// Gives the sum of the r smallest of the marked rows' costs by the cost t that splits them: those
+// below it, and t for each that is still missing of the r.
+fn sum_by(load: Load, n: usize, j: usize, marks: &[bool; MOST_ROWS], r: u32, t: u16) -> u32
+    requires { ⌜ Costed load n j (now marks)
+        × (r ≡ countTo (isMarked (now marks)) n) × (r ≤ n) × (t ≤ largestCost)
+        × Splits (costAt load j) (costAt load (j + 1)) (isMarked (now marks)) n t ⌝ }
+    ensures { λ s. ⌜ s ≡ pairsSmallest
+        (costAt load j) (costAt load (j + 1)) (isMarked (now (marks .entry))) n ⌝ }
+{
+    let mut below: u32 = 0;
+    let mut sum: u32 = 0;
+    for k in 0..n {
+        if marks[k] {
+            let row = load.row[k];
+            below += count_below(row, j, t);
+            sum += sum_below(row, j, t);
+        }
+    }
+    sum + (r - below) * (t as u32)
+}
+
+// Gives the sum of the r smallest of the 2r costs of the marked rows, at a place and at the next.
+pub fn smallest_sum(load: Load, n: usize, j: usize, marks: &[bool; MOST_ROWS]) -> u32
+    requires { ⌜ Costed load n j (now marks) ⌝ }
     ensures { λ r. ⌜ r ≡ pairsSmallest
-        (memberAt (now (here .entry))) (memberAt (now (next .entry)))
-        (isMarked (now (marks .entry))) n ⌝ }
+        (costAt load j) (costAt load (j + 1)) (isMarked (now (marks .entry))) n ⌝ }
 {
     let r = count_marked(n, marks);
-    let t = splitting_cost(n, here, next, marks, r);
-    let missing = r - count_below(n, here, next, marks, t);
-    sum_below(n, here, next, marks, t) + missing * (t as u32)
+    let t = splitting_cost(load, n, j, marks, r);
+    sum_by(load, n, j, marks, r, t)
 }

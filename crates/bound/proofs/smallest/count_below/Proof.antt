@@ -1,32 +1,47 @@
--- `count_below` counts up to t - 1; below 0 there is nothing.
-use Prim.Native.Nat.{ℕ, _+_, _-_}
-use mathlib.Core.Path.{_≡_, sym, _∙_, ap}
+-- `count_below` adds two tests, each of which is a bit.
+use Prim.Native.Nat.{_+_, _≤_}
+use mathlib.Core.Bool.{Bool}
 use native.Mathlib.Omega.{arith}
 use borrow.Author.Needs.{needs}
-use Rattle.counting.specs.Lists.{memberAt, isMarked}
-use Rattle.counting.proofs.sorting.PairLaws.{pairsBelow, pairsBelow-none, pairsBelow-next}
+use lib.Dec.{ltb}
+use mir.Val.{boolByte}
+use Rattle.load.specs.Load.{stepAt}
+use Rattle.bound.proofs.FlagLaws.{boolByte-bit, bit-le}
 use Rattle.bound.proofs.smallest.count_below.Statement.{statement}
 use Rattle.bound.proofs.smallest.count_below.Tie as tie
 
--- how many are below a number
-abbrev below : tie.Start → ℕ → ℕ
-below c t =
-    pairsBelow (memberAt (c .args .here .now)) (memberAt (c .args .next .now)) (isMarked (c .args .marks .now))
-    (c .args .n) t
+-- the two tests
+abbrev here-test : tie.Start → Bool
+here-test c = ltb (stepAt (c .args .t1) (c .args .j) .cost) (c .args .t)
 
-none : tie.Need-returns
-none c = sym (ap (below (c .before)) (c .if1 .taken) ∙ pairsBelow-none _ _ _ _)
+abbrev next-test : tie.Start → Bool
+next-test c = ltb (stepAt (c .args .t1) (c .args .j + 1) .cost) (c .args .t)
 
--- how many are at most the number below t
-up-to : (c : tie.After-count-up-to)
-    → c .count-up-to .result ≡ below (c .before .before) (c .before .before .args .t - 1 + 1)
-up-to c = c .count-up-to .ensures ∙ sym (pairsBelow-next _ _ _ _ _)
+-- each adds at most 1
+two-le : (a b : Bool) → boolByte a + boolByte b ≤ 2
+two-le a b = omega (arith, boolByte-bit a, boolByte-bit b, bit-le a, bit-le b)
 
-some : tie.Need-returns-2
-some c =
-    let start = c .before .before in
-    let e : start .args .t - 1 + 1 ≡ start .args .t = omega arith in
-    up-to c ∙ ap (below start) e
+add-result : tie.Need-add-result
+add-result c =
+    let start = c .before .before .before .before in omega (arith, two-le (here-test start) (next-test start))
+
+returns : tie.Need-returns
+returns c =
+    let start = c .before .before .before .before in
+    let a = here-test start in
+    let b = next-test start in
+    (omega (arith, boolByte-bit a, boolByte-bit b), omega (arith, two-le a b))
 
 pub count-below-spec : {M : Type 1} → statement M
-count-below-spec = tie.close (tie.spec none (λ c. search needs) (λ c κs. search needs) some)
+count-below-spec =
+    tie.close
+    (tie.spec
+    (λ c. search needs)
+    (λ c. search needs)
+    (λ c. search needs)
+    (λ c. search needs)
+    (λ c. search needs)
+    (λ c. search needs)
+    (λ c. search needs)
+    add-result
+    returns)

@@ -1,24 +1,23 @@
--- `place_waits` stores the largest W of one place a turn: it fills the arrays of the place and asks for the largest of
+-- `place_waits` stores the largest W of one place a turn: it marks the rows of the place and asks for the largest of
 -- what is left there, where some wait there is free.
-use Prim.Native.Nat.{ℕ, suc, _+_, _-_, _≤_}
+use Prim.Native.Nat.{ℕ, _+_, _-_, _≤_}
 use mathlib.Core.Bool.{Bool, false, _&&_}
 use mathlib.Core.List.{List}
 use mathlib.Core.Logic.{⊎-elim}
 use mathlib.Core.Path.{_≡_, sym, _∙_, ap}
-use native.Mathlib.Numerals.{add-one}
 use native.Mathlib.Omega.{arith}
 use borrow.Author.Needs.{needs}
 use Rattle.counting.specs.Sums.{anyTo}
 use Rattle.counting.specs.Lists.{filled, isMarked}
 use Rattle.counting.proofs.lists.ListLaws.{filled-none, filled-stored, filled-all}
 use Rattle.load.specs.declared.Load.{Load}
-use Rattle.load.specs.Load.{rowAt, stepAt}
+use Rattle.load.specs.Load.{rowAt}
 use Rattle.load.specs.View.{viewOf, embedded}
 use Rattle.rules.specs.Bound.{smallestCosts}
 use Rattle.rules.specs.Blame.{noneLeft, largestAt, placeWaits}
 use Rattle.bound.specs.inner.Marks.{freeIn, freesAt}
 use Rattle.bound.proofs.AcceptedLaws.{accepted-few}
-use Rattle.bound.proofs.PlaceLaws.{AtPlace, place-costed, largestAt-read, largestAt-none}
+use Rattle.bound.proofs.PlaceLaws.{AtPlace, paired-cost, largestAt-read, largestAt-none}
 use Rattle.bound.proofs.waits.place_waits.Statement.{statement}
 use Rattle.bound.proofs.waits.place_waits.Tie as tie
 
@@ -29,57 +28,38 @@ Inv-loop load rows places₀ j₀ places j =
 abbrev μ-loop : tie.MeasureT-loop
 μ-loop load rows places₀ j₀ places j = 7 - j
 
--- arrays that are filled from a load are those of the place
-module _ (load : Load) (j : ℕ) (here next : List ℕ) (pairs : List Bool) (waits : List ℕ) (frees : List Bool) where
-  placed : here ≡ filled (λ i. stepAt (rowAt load i) j .cost) (load .rows) 24 0
-      → next ≡ filled (λ i. stepAt (rowAt load i) (j + 1) .cost) (load .rows) 24 0
-      → pairs ≡ filled (λ i. freeIn (rowAt load i) j && freeIn (rowAt load i) (j + 1)) (load .rows) 24 false
-      → waits ≡ filled (λ i. stepAt (rowAt load i) j .wait) (load .rows) 24 0 → frees ≡ freesAt load (j + 1)
-      → AtPlace (viewOf load) j here next pairs waits frees
-  unfolding viewOf embedded
-  placed h n p w f =
-      let e : j + 1 ≡ suc j = add-one j in
-      record {
-        here-is = h;
-        next-is = n ∙ ap (λ k. filled (λ i. stepAt (rowAt load i) k .cost) (load .rows) 24 0) e;
-        pairs-is =
-            p ∙ ap (λ k. filled (λ i. freeIn (rowAt load i) j && freeIn (rowAt load i) k) (load .rows) 24 false) e;
-        waits-is = w;
-        frees-is = f ∙ ap (freesAt load) e;
-      }
+-- marks that are taken from a load are those of the place
+placed : (load : Load) (j : ℕ) (pairs frees : List Bool)
+    → pairs ≡ filled (λ i. freeIn (rowAt load i) j && freeIn (rowAt load i) (j + 1)) (load .rows) 24 false
+    → frees ≡ freesAt load (j + 1) → AtPlace (viewOf load) j pairs frees
+unfolding viewOf embedded
+placed load j pairs frees p f = record { pairs-is = p; frees-is = f }
 
 -- where no row's wait is free, there is no W
 unfree : (load : Load) (rows j : ℕ) (frees : List Bool) → rows ≡ load .rows → frees ≡ freesAt load (j + 1)
     → anyTo (isMarked frees) rows ≡ false → noneLeft ≡ largestAt smallestCosts (viewOf load) j
 unfolding viewOf embedded
 unfree load rows j frees e f none =
-    largestAt-none (viewOf load) j frees (f ∙ ap (freesAt load) (add-one j))
-    (ap (anyTo (isMarked frees)) (sym e) ∙ none)
+    largestAt-none (viewOf load) j frees f (ap (anyTo (isMarked frees)) (sym e) ∙ none)
 
 -- there are few rows
 few : (c : tie.In-loop Inv-loop μ-loop) → c .before .before .args .load .rows ≤ 24
 few c = accepted-few (c .before .before .args .load) (c .before .before .pre .0)
 
--- a turn whose arrays are filled
-abbrev turn : tie.After-waits-at Inv-loop μ-loop → tie.In-loop Inv-loop μ-loop
-turn c = c .before .before .before .before .before .before .before .before
-
-place : (c : tie.After-waits-at Inv-loop μ-loop)
-    → let start = turn c .before .before in
-    AtPlace (viewOf (start .args .load)) (turn c .before .loop .j) (c .before .before .before .costs-at .result)
-    (c .before .before .costs-at2 .result) (c .before .pairs-at .result) (c .waits-at .result)
-    (c .before .before .before .before .before .before .before .frees-at .result)
-place c =
-    placed _ _ _ _ _ _ _ (c .before .before .before .costs-at .ensures) (c .before .before .costs-at2 .ensures)
-    (c .before .pairs-at .ensures) (c .waits-at .ensures)
-    (c .before .before .before .before .before .before .before .frees-at .ensures)
-
 largest-left-requires : tie.Need-largest-left-requires Inv-loop μ-loop
 unfolding viewOf
 largest-left-requires c κs =
-    let filled-in = c .before .before .before .before in
-    let start = turn filled-in .before .before in
-    place-costed _ _ _ _ _ _ _ (place filled-in) _ (start .pre .1) (start .pre .0)
+    let made = c .before .before .before .before .before in
+    let turn = made .before in
+    let start = turn .before .before in
+    let j = turn .before .loop .j in
+    let place = placed (start .args .load) j _ _ (c .before .pairs-at .ensures) (made .frees-at .ensures) in
+    rw (start .pre .1)
+    (record {
+      few = few turn;
+      between = turn .loop-test .taken;
+      small = paired-cost (viewOf (start .args .load)) j _ _ place (start .pre .0);
+    })
 
 -- what is stored is the place's, whichever way the turn went
 worst : (c : tie.Joined1 Inv-loop μ-loop)
@@ -94,11 +74,10 @@ worst c =
     let j = made .before .before .loop .j in
     ⊎-elim
     (λ w.
-    w .10
-    ∙ w .9 .ensures
-    ∙ largestAt-read (viewOf load) j _ _ _ _ _
-    (placed load j _ _ _ _ _ (w .1 .ensures) (w .2 .ensures) (w .3 .ensures) (w .4 .ensures) (made .frees-at .ensures))
-    _ (start .pre .1))
+    w .4
+    ∙ w .3 .ensures
+    ∙ largestAt-read (viewOf load) j _ _ (placed load j _ _ (w .1 .ensures) (made .frees-at .ensures)) _
+    (start .pre .1))
     (λ w.
     w .1
     ∙ unfree load _ j _ (start .pre .1) (made .frees-at .ensures)
@@ -134,11 +113,7 @@ place-waits-spec =
     (λ c. search needs)
     (λ c κs. few c)
     (λ c κs. omega (arith, few (c .before .before), c .before .before .before .before .pre .1))
-    (λ c κs. few (c .before .before .before .before))
-    (λ c. search needs)
-    (λ c κs. few (c .before .before .before .before .before))
-    (λ c κs. (few (c .before .before .before .before .before .before), search needs))
-    (λ c κs. few (c .before .before .before .before .before .before .before))
+    (λ c κs. (few (c .before .before .before .before), search needs))
     largest-left-requires
     (λ c. search needs)
     (λ c. search needs)
