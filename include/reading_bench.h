@@ -60,13 +60,13 @@ extern "C" {
  *
  * Stack: so many bytes are enough for a call, from its return address down. A program that binds
  *   names at their first use needs some 4 KiB more for its loader, once.
- * Time: bound and margins together ran at most 1.2 million instructions on every load measured;
+ * Time: bound and margins together ran at most 2.5 million instructions on every load measured;
  *   the verdict runs what the margins run. The schedule ran at most 0.5 million on most full loads,
  *   and 2.1 million on the worst that is known, which is a millisecond or less.
  */
-#define BENCH_BOUND_STACK 6144
-#define BENCH_VERDICT_STACK 6144
-#define BENCH_MARGINS_STACK 6144
+#define BENCH_BOUND_STACK 5888
+#define BENCH_VERDICT_STACK 5888
+#define BENCH_MARGINS_STACK 5888
 #define BENCH_SCHEDULE_STACK 9216
 
 /* bench_bound gives the bound of the load.

@@ -13,18 +13,22 @@ use load::MOST_STEPS;
 use load::check_load;
 use refusals::Checked;
 use rules::Blame;
+use rules::LargestW;
+use rules::MOST_PLACES;
 ghost use mathlib.Core.Path.{_≡_};
 ghost use Rattle.load.specs.View.{viewOf};
 ghost use Rattle.load.specs.Acceptable.{Acceptable};
 ghost use Rattle.rules.specs.Bound.{bound};
 ghost use Rattle.rules.specs.Margins.{margins, verdict};
-ghost use Rattle.rules.specs.Blame.{blames};
+ghost use Rattle.rules.specs.Blame.{placeWaits, blames};
 ghost use Rattle.bound.specs.Calls.{AnswersOf};
 
-// Gives bound, margins, verdict and blames of an accepted load. The number of rows is handed down,
-// and only functions that index the load read it there: each that does holds a copy.
-pub fn load_answers(load: Load) -> Answered
-    requires { ⌜ Acceptable (viewOf load) ⌝ }
+// Gives bound, margins, verdict and blames of an accepted load with so many rows, by the largest W
+// of each place. Those are found beside it, so that what the two take of the stack does not add up;
+// and it reads no field of the load that it hands on: it would hold a copy of it.
+pub fn load_answers(load: Load, rows: usize, places: [LargestW; MOST_PLACES]) -> Answered
+    requires { ⌜ Acceptable (viewOf load) × (rows ≡ load .rows)
+        × (places ≡ placeWaits (viewOf load)) ⌝ }
     ensures { λ r. ⌜ r ≡ record {
       answer = Checked.Good;
       bound = bound (viewOf load);
@@ -33,8 +37,6 @@ pub fn load_answers(load: Load) -> Answered
       blames = blames (viewOf load);
     } ⌝ }
 {
-    let rows = load.rows as usize;
-    let places = place_waits(load, rows);
     let waits = waits_below(places);
     let bounds = cut_bounds(load, &waits);
     let margins = margins_by(load, &bounds);
@@ -55,7 +57,11 @@ pub fn answers_of(load: Load) -> Answered
 {
     let found = check_load(load);
     match found {
-        Checked::Good => load_answers(load),
+        Checked::Good => {
+            let rows = load.rows as usize;
+            let places = place_waits(load, rows);
+            load_answers(load, rows, places)
+        }
         Checked::Refused(refusal) => Answered {
             answer: Checked::Refused(refusal),
             bound: 0,

@@ -73,7 +73,9 @@ pub fn bound_of(load: Load) -> Bounded
     let found = check_load(load);
     match found {
         Checked::Good => {
-            let answered = load_answers(load);
+            let rows = load.rows as usize;
+            let places = place_waits(load, rows);
+            let answered = load_answers(load, rows, places);
             Bounded {
                 answer: Checked::Good,
                 bound: answered.bound,
@@ -94,7 +96,9 @@ pub fn margins_of(load: Load) -> Margined
     let found = check_load(load);
     match found {
         Checked::Good => {
-            let answered = load_answers(load);
+            let rows = load.rows as usize;
+            let places = place_waits(load, rows);
+            let answered = load_answers(load, rows, places);
             let margins = answered.margins;
             Margined {
                 answer: Checked::Good,
@@ -115,7 +119,9 @@ pub fn verdict_of(load: Load) -> Judged
     let found = check_load(load);
     match found {
         Checked::Good => {
-            let answered = load_answers(load);
+            let rows = load.rows as usize;
+            let places = place_waits(load, rows);
+            let answered = load_answers(load, rows, places);
             Judged {
                 answer: Checked::Good,
                 verdict: answered.verdict,

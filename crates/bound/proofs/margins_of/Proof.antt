@@ -1,5 +1,5 @@
 -- `bound::margins_of` checks the load; one that is not refused is acceptable, and its margins are given.
-use mathlib.Core.Path.{_≡_, sym, _∙_, ap}
+use mathlib.Core.Path.{_≡_, refl, sym, _∙_, ap}
 use borrow.Author.Needs.{needs}
 use Rattle.refusals.specs.declared.Checked.the-variants.{Good}
 use Rattle.load.specs.Check.{checkLoad}
@@ -11,12 +11,17 @@ use Rattle.bound.proofs.margins_of.Tie as tie
 good : (c : tie.After-enum-told) → checkLoad (c .before .before .before .args .load) ≡ Good
 good c = sym (c .before .before .check-load .ensures) ∙ c .enum-told .given .1
 
-requires : tie.Need-load-answers-requires
-requires c κs = check-acceptable (c .before .before .before .args .load) (good c)
+looks : tie.Need-place-waits-requires
+looks c κs = (check-acceptable (c .before .before .before .before .args .load) (good (c .before)), refl)
+
+asks : tie.Need-load-answers-requires
+asks c κs =
+    let told = c .before .before in
+    (check-acceptable (told .before .before .before .args .load) (good told), refl, c .place-waits .ensures)
 
 given : tie.Need-returns
 given c =
-    rw (good (c .before .before))
+    rw (good (c .before .before .before .before))
     (ap (λ (r : Answered). record { answer = Good; margins = r .margins }) (c .before .load-answers .ensures))
 
 refused : tie.Need-returns-2
@@ -28,7 +33,9 @@ margins-of-spec =
     (tie.spec
     (λ c κs. search needs)
     (λ c. search needs)
-    requires
+    (λ c. search needs)
+    looks
+    asks
     (λ c. search needs)
     given
     refused)

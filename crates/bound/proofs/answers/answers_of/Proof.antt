@@ -1,5 +1,5 @@
 -- `bound::answers_of` checks the load; one that is not refused is acceptable, and what one look at it tells is given.
-use mathlib.Core.Path.{_≡_, sym, _∙_}
+use mathlib.Core.Path.{_≡_, refl, sym, _∙_}
 use borrow.Author.Needs.{needs}
 use Rattle.refusals.specs.declared.Checked.the-variants.{Good}
 use Rattle.load.specs.Check.{checkLoad}
@@ -10,11 +10,16 @@ use Rattle.bound.proofs.answers.answers_of.Tie as tie
 good : (c : tie.After-enum-told) → checkLoad (c .before .before .before .args .load) ≡ Good
 good c = sym (c .before .before .check-load .ensures) ∙ c .enum-told .given .1
 
-requires : tie.Need-load-answers-requires
-requires c κs = check-acceptable (c .before .before .before .args .load) (good c)
+looks : tie.Need-place-waits-requires
+looks c κs = (check-acceptable (c .before .before .before .before .args .load) (good (c .before)), refl)
+
+asks : tie.Need-load-answers-requires
+asks c κs =
+    let told = c .before .before in
+    (check-acceptable (told .before .before .before .args .load) (good told), refl, c .place-waits .ensures)
 
 given : tie.Need-returns
-given c = rw (good (c .before)) (c .load-answers .ensures)
+given c = rw (good (c .before .before .before)) (c .load-answers .ensures)
 
 refused : tie.Need-returns-2
 refused c = rw (sym (c .before .before .before .check-load .ensures) ∙ c .before .found .given .1)
@@ -25,7 +30,9 @@ answers-of-spec =
     (tie.spec
     (λ c κs. search needs)
     (λ c. search needs)
-    requires
+    (λ c. search needs)
+    looks
+    asks
     (λ c. search needs)
     given
     refused)
