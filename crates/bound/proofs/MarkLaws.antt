@@ -1,5 +1,5 @@
 -- Rows that are marked: taking one mark away leaves the others, and the costs of those are as small.
-use Prim.Native.Nat.{ℕ}
+use Prim.Native.Nat.{ℕ, _+_}
 use mathlib.Core.Bool.{Bool, false, _&&_, not}
 use mathlib.Core.List.{List}
 use mathlib.Core.Path.{_≡_, refl, sym, ap, _∙_}
@@ -11,9 +11,13 @@ use lib.ListN.{length, set, List·getD-eq-default}
 use lib.Seq.{set-out, getD-set-same, getD-set-other}
 use Rattle.counting.specs.Lists.{isMarked}
 use Rattle.counting.proofs.tests.TestLaws.{and-right}
-use Rattle.counting.proofs.sorting.PairLaws.{pairsSmallest, pairsSmallest-ext}
+use Rattle.counting.proofs.sorting.PairLaws.{pairsBelow, pairsSmallest, pairsSmallest-ext}
 use Rattle.load.specs.declared.Load.{Load}
-use Rattle.bound.specs.inner.Marks.{isOther, Costed}
+use Rattle.bound.specs.inner.Marks.{costAt, isOther, Costed}
+
+-- how many of the costs that the first n rows give at place j and the next, where they are marked, are below t
+abbrev pub costsBelow : Load → ℕ → List Bool → ℕ → ℕ → ℕ
+costsBelow load j marks n t = pairsBelow (costAt load j) (costAt load (j + 1)) (isMarked marks) n t
 
 module _ (marks : List Bool) (i : ℕ) where
   unmarked : isMarked (set marks i false) i ≡ false

@@ -1,33 +1,26 @@
 -- `splitting_cost` halves the costs from low to high: at most r are below low, and at least r are at most high. Where
 -- the two meet is the cost. Between, one row a turn is counted.
-use Prim.Native.Nat.{ℕ, _+_, _*_, _-_, _/_, _≤_}
-use mathlib.Core.Bool.{Bool}
-use mathlib.Core.List.{List}
+use Prim.Native.Nat.{_+_, _*_, _-_, _/_, _≤_}
 use mathlib.Core.Logic.{⊎-elim}
 use mathlib.Core.Path.{_≡_, sym, _∙_, ap}
 use native.Mathlib.Omega.{arith}
 use borrow.Author.Needs.{needs}
 use Rattle.counting.specs.Lists.{isMarked}
 use Rattle.counting.proofs.sorting.PairLaws.{
-  pairsBelow,
   pairTotal-zero,
   pairTotal-next,
   pairsBelow-none,
   pairsBelow-next,
   countTo-pairsUpTo-le,
 }
-use Rattle.load.specs.declared.Load.{Load}
 use Rattle.bound.specs.inner.Marks.{costAt}
+use Rattle.bound.proofs.MarkLaws.{costsBelow}
 use Rattle.bound.proofs.smallest.splitting_cost.Statement.{statement}
 use Rattle.bound.proofs.smallest.splitting_cost.Tie as tie
 
--- how many of the first n rows' costs are below t
-abbrev below : Load → ℕ → List Bool → ℕ → ℕ → ℕ
-below load j marks n t = pairsBelow (costAt load j) (costAt load (j + 1)) (isMarked marks) n t
-
 abbrev Inv-loop2 : tie.InvT-loop2
 Inv-loop2 n j marks r load low high half up-to₀ k₀ up-to k =
-    (k ≤ n) × (up-to ≡ below load j marks k (half + 1)) × (up-to ≤ 2 * k)
+    (k ≤ n) × (up-to ≡ costsBelow load j marks k (half + 1)) × (up-to ≤ 2 * k)
 
 abbrev μ-loop2 : tie.MeasureT-loop2
 μ-loop2 n j marks r load low high half up-to₀ k₀ up-to k = n - k
@@ -36,8 +29,8 @@ abbrev Inv-loop : tie.InvT-loop
 Inv-loop n j marks r load low₀ high₀ low high =
     (low ≤ high)
     × (high ≤ 600)
-    × (below load j marks n low ≤ r)
-    × (r ≤ below load j marks n (high + 1))
+    × (costsBelow load j marks n low ≤ r)
+    × (r ≤ costsBelow load j marks n (high + 1))
 
 abbrev μ-loop : tie.MeasureT-loop
 μ-loop n j marks r load low₀ high₀ low high = high - low
@@ -62,13 +55,13 @@ loop2-again c = (
 counted : (c : tie.After-loop2 Inv-loop2 μ-loop2 Inv-loop μ-loop)
     → let loop = c .before .before .before .loop in
     let a = c .before .before .before .before .args in
-    c .before .loop2 .up-to ≡ below (a .t1) (a .j) (a .marks .now) (a .n) ((loop .low + loop .high) / 2 + 1)
+    c .before .loop2 .up-to ≡ costsBelow (a .t1) (a .j) (a .marks .now) (a .n) ((loop .low + loop .high) / 2 + 1)
 counted c =
     let loop = c .before .before .before .loop in
     let a = c .before .before .before .before .args in
     let e : c .before .loop2 .k ≡ a .n = omega arith in
     c .before .loop2 .inv .1
-    ∙ ap (λ k. below (a .t1) (a .j) (a .marks .now) k ((loop .low + loop .high) / 2 + 1)) e
+    ∙ ap (λ k. costsBelow (a .t1) (a .j) (a .marks .now) k ((loop .low + loop .high) / 2 + 1)) e
 
 lower : tie.Need-loop-again Inv-loop2 μ-loop2 Inv-loop μ-loop
 lower c =

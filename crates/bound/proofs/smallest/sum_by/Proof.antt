@@ -10,7 +10,6 @@ use native.Mathlib.Omega.{arith}
 use borrow.Author.Needs.{needs}
 use Rattle.counting.specs.Lists.{isMarked}
 use Rattle.counting.proofs.sorting.PairLaws.{
-  pairsBelow,
   pairsSumBelow,
   pairTotal-zero,
   pairTotal-next,
@@ -18,21 +17,19 @@ use Rattle.counting.proofs.sorting.PairLaws.{
 }
 use Rattle.load.specs.declared.Load.{Load}
 use Rattle.bound.specs.inner.Marks.{costAt}
+use Rattle.bound.proofs.MarkLaws.{costsBelow}
 use Rattle.bound.proofs.smallest.sum_by.Statement.{statement}
 use Rattle.bound.proofs.smallest.sum_by.Tie as tie
 
--- how many of the first n rows' costs are below t, and their sum
-abbrev counted : Load → ℕ → List Bool → ℕ → ℕ → ℕ
-counted load j marks t n = pairsBelow (costAt load j) (costAt load (j + 1)) (isMarked marks) n t
-
+-- the sum of the first n rows' costs that are below t
 abbrev added : Load → ℕ → List Bool → ℕ → ℕ → ℕ
-added load j marks t n = pairsSumBelow (costAt load j) (costAt load (j + 1)) (isMarked marks) n t
+added load j marks n t = pairsSumBelow (costAt load j) (costAt load (j + 1)) (isMarked marks) n t
 
 abbrev Inv-loop : tie.InvT-loop
 Inv-loop n j marks r t load below₀ sum₀ k₀ below sum k =
     (k ≤ n)
-    × (below ≡ counted load j marks t k)
-    × (sum ≡ added load j marks t k)
+    × (below ≡ costsBelow load j marks k t)
+    × (sum ≡ added load j marks k t)
     × (below ≤ 2 * k)
     × (sum ≤ 131070 * k)
 
@@ -54,14 +51,14 @@ loop-again c = (
 all-added : (c : tie.After-loop Inv-loop μ-loop)
     → let loop = c .before .loop in
     let a = c .before .before .args in
-    (loop .below ≡ counted (a .t1) (a .j) (a .marks .now) (a .t) (a .n))
-    × (loop .sum ≡ added (a .t1) (a .j) (a .marks .now) (a .t) (a .n))
+    (loop .below ≡ costsBelow (a .t1) (a .j) (a .marks .now) (a .n) (a .t))
+    × (loop .sum ≡ added (a .t1) (a .j) (a .marks .now) (a .n) (a .t))
 all-added c =
     let loop = c .before .loop in
     let a = c .before .before .args in
     let e : loop .k ≡ a .n = omega arith in (
-      loop .inv .1 ∙ ap (counted (a .t1) (a .j) (a .marks .now) (a .t)) e,
-      loop .inv .2 ∙ ap (added (a .t1) (a .j) (a .marks .now) (a .t)) e,
+      loop .inv .1 ∙ ap (λ k. costsBelow (a .t1) (a .j) (a .marks .now) k (a .t)) e,
+      loop .inv .2 ∙ ap (λ k. added (a .t1) (a .j) (a .marks .now) k (a .t)) e,
     )
 
 -- at most r are below t
