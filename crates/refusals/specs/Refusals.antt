@@ -28,10 +28,11 @@ numberOf refusal.RowLate = 17
 numberOf refusal.LineMalformed = 18
 numberOf refusal.RowDiffers = 19
 numberOf refusal.WindowDash = 20
+numberOf refusal.FactoryIdentifier = 21
 
 -- the table's last number
 abbrev pub lastNumber : ℕ
-lastNumber = 20
+lastNumber = 21
 
 -- the number of what a check finds: 0 where it refuses nothing
 abbrev pub numberGiven : Checked → ℕ

@@ -50,4 +50,6 @@ table =
     ∷ refusal.RowDiffers
     -- a dash has no window before it; or, found at the next line or the end, a window has one step
     ∷ refusal.WindowDash
+    -- the identifier is the factory's, which the newer loggers report after a battery swap
+    ∷ refusal.FactoryIdentifier
     ∷ []

@@ -23,6 +23,7 @@ pub enum Refusal {
     LineMalformed,
     RowDiffers,
     WindowDash,
+    FactoryIdentifier,
 }
 
 // What a check finds: nothing to refuse, or the refusal that comes first.
@@ -63,6 +64,7 @@ pub fn number_of(refusal: Refusal) -> u32
         Refusal::LineMalformed => 18,
         Refusal::RowDiffers => 19,
         Refusal::WindowDash => 20,
+        Refusal::FactoryIdentifier => 21,
     }
 }
 
