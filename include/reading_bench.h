@@ -14,10 +14,11 @@
 extern "C" {
 #endif
 
-/* The version of this header and of the archive beside it. A later MINOR only adds to this one. */
+/* The version of this header and of the archive beside it. A later MINOR has every call, size and
+ * number of this one. 1.1 has number 21 besides, for files that 1.0 answered. */
 #define BENCH_VERSION_MAJOR 1
-#define BENCH_VERSION_MINOR 0
-#define BENCH_VERSION "1.0"
+#define BENCH_VERSION_MINOR 1
+#define BENCH_VERSION "1.1"
 
 /* Duties and promises of every call
  *
@@ -36,7 +37,7 @@ extern "C" {
  *   their own may run at the same time.
  */
 
-/* The numbers that these calls give, in the order of document 01's table. */
+/* The numbers that these calls give, in the order of the documents' table. */
 #define BENCH_GOOD 0              /* the answer is written */
 #define BENCH_FILE_SHORT 1        /* the file ends before or inside a record that is due */
 #define BENCH_MARK_DIFFERS 2      /* a mark differs, or the version is not 1 */
@@ -47,6 +48,7 @@ extern "C" {
 #define BENCH_LIMIT_BELOW_CHAIN 7 /* a window's limit is below its chain */
 #define BENCH_END_DIFFERS 8       /* the end count is wrong, or bytes follow */
 #define BENCH_OUTPUT_SHORT 9      /* `out_len` is below the length of this answer */
+#define BENCH_FACTORY_IDENTIFIER 21 /* the identifier is 4,294,967,295, which is the factory's */
 
 /* Sizes in bytes. */
 #define BENCH_BOUND_BYTES 4
@@ -72,7 +74,7 @@ extern "C" {
 /* bench_bound gives the bound of the load.
  *
  * Answer: 4 bytes, a number from 0 to 806,400, little-endian.
- * Numbers: 1 to 8 by the first faulty record of the file, then 9 where `out_len` is below 4.
+ * Numbers: 1 to 8 or 21 by the first faulty record of the file, then 9 where `out_len` is below 4.
  * Example: load A gives 13 00 00 00, which is 19.
  */
 uint32_t bench_bound(const uint8_t *load, size_t load_len, uint8_t *out, size_t out_len);
@@ -80,7 +82,7 @@ uint32_t bench_bound(const uint8_t *load, size_t load_len, uint8_t *out, size_t 
 /* bench_verdict says whether no margin of the load is negative.
  *
  * Answer: 1 byte, 1 for yes and 0 for no.
- * Numbers: 1 to 8 by the first faulty record of the file, then 9 where `out_len` is 0.
+ * Numbers: 1 to 8 or 21 by the first faulty record of the file, then 9 where `out_len` is 0.
  * Example: load A gives 00: the margin of row 3 is -1.
  */
 uint32_t bench_verdict(const uint8_t *load, size_t load_len, uint8_t *out, size_t out_len);
@@ -89,7 +91,7 @@ uint32_t bench_verdict(const uint8_t *load, size_t load_len, uint8_t *out, size_
  *
  * Answer: 96 bytes, 4 to a row, little-endian two's complement, from -806,399 to 999,999. The
  *   margin of row n stands at 4 * (n - 1). Those of rows that the load does not have are 0.
- * Numbers: 1 to 8 by the first faulty record of the file, then 9 where `out_len` is below 96.
+ * Numbers: 1 to 8 or 21 by the first faulty record of the file, then 9 where `out_len` is below 96.
  * Example: load A gives 01 00 00 00, 00 00 00 00, FF FF FF FF and 84 bytes 00: 1, 0 and -1.
  */
 uint32_t bench_margins(const uint8_t *load, size_t load_len, uint8_t *out, size_t out_len);
@@ -99,8 +101,8 @@ uint32_t bench_margins(const uint8_t *load, size_t load_len, uint8_t *out, size_
  * Answer: 53 43 and the number of slots (2 bytes), then per slot 53 4C, row (1), step (1) and start
  *   (4); little-endian, rows and steps from 1. BENCH_SCHEDULE_BYTES(slots) bytes, a slot for each
  *   step of the load, so that BENCH_SCHEDULE_BYTES_MAX is always enough.
- * Numbers: 1 to 8 by the first faulty record of the file, then 9 where `out_len` is below the
- *   length of this schedule file.
+ * Numbers: 1 to 8 or 21 by the first faulty record of the file, then 9 where `out_len` is below
+ *   the length of this schedule file.
  * Example: load A gives 52 bytes, the first 53 43 06 00 53 4C 01 01 00 00 00 00: 6 slots, and
  *   step 1 of row 1 starts at 0.
  */

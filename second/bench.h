@@ -29,7 +29,7 @@ struct slot {
 
 enum outcome { NO_MOVE, START, IDLE, DONE };
 
-/* `slot` is all zero unless the outcome is START. A refused move (3 to 7, 10, 11) has outcome
+/* `slot` is all zero unless the outcome is START. A refused move (3 to 7 or 21, 10, 11) has outcome
    NO_MOVE, the state it was given, and lamp word and count 0. */
 struct move {
     enum refusal refusal;

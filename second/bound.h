@@ -13,7 +13,8 @@ uint32_t all_costs(const struct load *load);
 uint32_t largest_phase(const struct load *load);
 uint32_t all_embedded_waits(const struct load *load);
 
-/* Beside a refusal (3 to 7) each of these gives 0, or no for the verdict. Rows not there have 0. */
+/* Beside a refusal (3 to 7 or 21) each of these gives 0, or no for the verdict. Rows not there have
+   0. */
 enum refusal bound_of(const struct load *load, uint32_t *bound);
 enum refusal row_bounds_of(const struct load *load, uint32_t bounds[MOST_ROWS]);
 enum refusal margins_of(const struct load *load, int32_t margins[MOST_ROWS]);

@@ -1,7 +1,7 @@
 /* What a C host gets, by plain calls over a load file's bytes, for comparing and for measuring.
-   Each gives 0 or the number the load is refused with (1 to 8), then 9 when the output is shorter
-   than this answer. A refusal writes nothing; bytes past the answer stay as they were. The load is
-   not altered, nothing is allocated and nothing is kept between calls. */
+   Each gives 0 or the number the load is refused with (1 to 8 or 21), then 9 when the output is
+   shorter than this answer. A refusal writes nothing; bytes past the answer stay as they were. The
+   load is not altered, nothing is allocated and nothing is kept between calls. */
 #ifndef CALLS_H
 #define CALLS_H
 

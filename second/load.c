@@ -94,6 +94,8 @@ enum refusal check_row_record(const struct load *load, unsigned row)
 {
     if (!are_row_numbers_in_range(row_of(load, row)))
         return OUT_OF_RANGE;
+    if (row_of(load, row)->identifier.number == FACTORY_NUMBER)
+        return FACTORY_IDENTIFIER;
     if (is_identifier_taken(load, row))
         return IDENTIFIER_TAKEN;
     if (is_box_taken(load, row))

@@ -1,4 +1,5 @@
-/* A load held in memory, its check (3 to 7), and what is asked of a row: embedded, free, chain.
+/* A load held in memory, its check (3 to 7 and 21), and what is asked of a row: embedded, free,
+   chain.
    Rows, steps and windows are numbered from 1 in every call, as the document numbers them. */
 #ifndef LOAD_H
 #define LOAD_H
@@ -18,6 +19,10 @@ enum {
     MOST_WAIT = 3600,
     LAST_MOMENT = 1000000
 };
+
+/* The identifier that loggers report after a battery swap (2026-04). It is in its range, but is
+   refused even when alone: two of them, of different days, would meet in the archive. */
+static const uint32_t FACTORY_NUMBER = UINT32_MAX;
 
 /* The two registers are separate: a type each, so that one cannot stand for the other. */
 struct identifier {
@@ -75,13 +80,13 @@ const struct window *window_to(const struct row *row, unsigned step);
 /* All costs of the window and the waits between them. */
 uint32_t chain_of(const struct row *row, const struct window *window);
 
-/* One record's own questions, given the records before it: a row asks 3, 4, 5, a step 3,
-   a window 3, 6, 7. Reading a file and checking a load put the same questions. */
+/* One record's own questions, given the records before it: a row asks 3, 21, 4, 5, a step
+   3, a window 3, 6, 7. Reading a file and checking a load put the same questions. */
 enum refusal check_row_record(const struct load *load, unsigned row);
 enum refusal check_step_record(const struct row *row, unsigned step);
 enum refusal check_window_record(const struct row *row, unsigned window);
 
-/* The whole load: 3 to 7 in row order, unused places after the used ones of their list. */
+/* The whole load: 3 to 7 and 21 in row order, unused places after the used ones of their list. */
 enum refusal check_load(const struct load *load);
 
 #endif

@@ -24,7 +24,8 @@ enum refusal {
     ROW_LATE = 17,
     LINE_MALFORMED = 18,
     ROW_DIFFERS = 19,
-    WINDOW_ALONE = 20
+    WINDOW_ALONE = 20,
+    FACTORY_IDENTIFIER = 21
 };
 
 #endif

@@ -17,7 +17,7 @@ enum {
 enum refusal write_schedule(const struct slot *slots, size_t count, uint8_t *bytes, size_t room,
                             size_t *written);
 
-/* 3 to 7 for the load, 12 for the count, then slot by slot 13 to 17. */
+/* 3 to 7 or 21 for the load, 12 for the count, then slot by slot 13 to 17. */
 enum refusal check_schedule(const struct load *load, const struct slot *slots, size_t count);
 
 #endif

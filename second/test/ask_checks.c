@@ -155,7 +155,7 @@ void ask_checks_of_refused_files(struct asking *asking)
     for (unsigned times = 0, all = 0; all < FILES_REFUSED * END_DIFFERS; times++) {
         struct asked_file file = spoiled_file(&asking->dice, times);
         enum refusal refusal = read_load(file.bytes, file.length, &load);
-        if (refusal == ACCEPTED || found[refusal] == FILES_REFUSED)
+        if (refusal == ACCEPTED || refusal > END_DIFFERS || found[refusal] == FILES_REFUSED)
             continue;
         ask_check(asking, &file, &none);
         found[refusal]++;

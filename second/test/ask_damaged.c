@@ -1,4 +1,5 @@
-/* Damaged load files: every refusal from 1 to 8 at every kind of record, and every range's ends. */
+/* Damaged load files: every refusal from 1 to 8 at every kind of record, and every range's ends;
+   among those of the identifier is 21. */
 #include "little_endian.h"
 #include "load_file.h"
 #include "questions.h"
@@ -25,7 +26,7 @@ static const size_t RECORD_BYTES[] = {HEADER_BYTES, ROW_BYTES, STEP_BYTES, WINDO
 static const struct field FIELDS[] = {
     {HEADER, 2, 1, 3, {0, 2, 255}},
     {HEADER, 3, 1, 7, {0, 1, 2, 4, 24, 25, 255}},
-    {ROW, 2, 4, 3, {0, 1, UINT32_MAX}},
+    {ROW, 2, 4, 4, {0, 1, UINT32_MAX - 1, UINT32_MAX}},
     {ROW, 6, 4, 3, {0, 1, UINT32_MAX}},
     {ROW, 10, 4, 6, {0, 1, 86399, 86400, 86401, UINT32_MAX}},
     {ROW, 14, 4, 6, {0, 1, 999999, 1000000, 1000001, UINT32_MAX}},

@@ -62,6 +62,8 @@ static void nothing_to_blame_cases(struct tally *tally)
     nothing_blamed(tally, "A with a box twice", &faulty, BOX_TAKEN);
     faulty.rows[2].identifier = faulty.rows[1].identifier;
     nothing_blamed(tally, "A with an identifier twice", &faulty, IDENTIFIER_TAKEN);
+    faulty.rows[1].identifier.number = UINT32_MAX;
+    nothing_blamed(tally, "A with the factory identifier", &faulty, FACTORY_IDENTIFIER);
     faulty.rows[0].steps[0].wait = MOST_WAIT + 1;
     nothing_blamed(tally, "A with wait 3,601", &faulty, OUT_OF_RANGE);
 }

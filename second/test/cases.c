@@ -30,6 +30,7 @@ int main(void)
 {
     struct tally tally = {0, 0};
     load_cases(&tally);
+    factory_cases(&tally);
     sheet_cases(&tally);
     bound_cases(&tally);
     blame_cases(&tally);

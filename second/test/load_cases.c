@@ -1,4 +1,4 @@
-/* Load files and loads in memory: 1 to 9. */
+/* Load files and loads in memory: 1 to 9; 21 in factory_cases.c. */
 #include <string.h>
 
 #include "cases.h"
@@ -90,7 +90,8 @@ static void row_cases(struct tally *tally)
     struct load base = load_b();
     SPOILED(0, (void)l);
     SPOILED(3, l.rows[0].identifier.number = 0);
-    SPOILED(0, l.rows[0].identifier.number = UINT32_MAX);
+    SPOILED(0, l.rows[0].identifier.number = UINT32_MAX - 1);
+    SPOILED(21, l.rows[0].identifier.number = UINT32_MAX);
     SPOILED(3, l.rows[0].box.number = 0);
     SPOILED(0, l.rows[0].box.number = UINT32_MAX);
     SPOILED(0, l.rows[0].phase = 86400);

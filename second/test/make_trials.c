@@ -24,6 +24,7 @@ static void ask_lent_files(struct asking *asking)
 {
     ask_sound_loads(asking);
     ask_damaged_files(asking);
+    ask_factory_files(asking);
     ask_twins(asking);
     ask_moves(asking);
     ask_refused_files(asking);
@@ -47,6 +48,7 @@ static void ask_lent_loads(struct asking *asking)
     ask_altered_lists(asking);
     ask_faulty_loads(asking);
     ask_rooms(asking);
+    ask_factory_loads(asking);
 }
 
 /* Asks of each load in turn; the last of them stays in `file`. */
@@ -70,6 +72,7 @@ static void ask_files_and_sheets(struct asking *asking)
     ask_sheets(asking);
     ask_damaged_sheets(asking);
     ask_exports(asking);
+    ask_factory_exports(asking);
 }
 
 /* Both streams end with a question that is cut short. */
@@ -84,6 +87,7 @@ static bool ask_everything(struct asking *asking, char **names)
         return false;
     ask_blames(asking);
     ask_places_in_memory(asking);
+    ask_factory_places(asking);
     ask_files_and_sheets(asking);
     ask_halves(asking, &file);
     return true;

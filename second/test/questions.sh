@@ -118,6 +118,31 @@ empty 'E, one line' "export 0 $line" "E$one_row" $rest ''
 empty 'e, one line, room 13' "export 9 0 $(printf 'a5%.0s' $(seq 13))" "e\015\0$one_row" $rest ''
 empty 'e, one line, room 14' "export 0 14 $line" "e\016\0$one_row" $rest ''
 empty 'e, one line, room 16' "export 0 14 ${line}a5a5" "e\020\0$one_row" $rest ''
+
+# The same row with the factory identifier: 21, whatever else is lent.
+factory='\001\377\377\377\377\003\0\0\0\004\0\0\0\005\0\0\0\001\0\006\0'
+factory_file='\042\0LD\001\001RW\377\377\377\377\003\0\0\0\004\0\0\0\005\0\0\0\001\0'
+factory_file="${factory_file}ST\006\0\0\0EN\001\0"
+empty 'p, the factory identifier' 'refused 21' "p$factory" $rest ''
+empty 'N, the factory identifier' "refused 21 lamps 0 count 0 clock 0$rows" "N$factory" 1784 ''
+empty 'N, and a clock of 4,278,190,080' \
+    "refused 21 lamps 0 count 0 clock 4278190080$rows" "N$factory" 1567 "\\377$(zeros 216)"
+empty 'D, the factory identifier, no slots' 'check 21' "D$factory" 1566 ''
+empty 'W, the factory identifier' 'load 21' "W$factory" $rest ''
+empty 'w, the factory identifier, room 0' 'load 21' "w\0\0$factory" $rest ''
+empty 'E, the factory identifier' 'export 21' "E$factory" $rest ''
+empty 'e, the factory identifier, room 2' 'export 21 0 a5a5' "e\002\0$factory" $rest ''
+empty 'F, the factory identifier' "refused 21
+." "F$factory_file" 0 ''
+empty 'B, the factory identifier' "refused 21
+." "B$factory_file" 0 ''
+empty 'P, the factory identifier' 'refused 21' "P$factory_file" 0 ''
+empty 'M, the factory identifier' 'refused 21' "M$factory_file" 220 ''
+empty 'C, the factory identifier, no slots' 'refused 21' "C$factory_file" 2 ''
+same 'R, the factory identifier' 'sheet 21
+sheet 3' "$(printf 'R\027\0004294967295,1,0,9,1,0,\r\nR\027\0004294967296,1,0,9,1,0,\r\n' \
+    | "$second" answer-trials)"
+
 same 'R, one line' \
     'sheet 0 4c44010152570200000003000000040000000500000001005354060000''00454e0100' \
     "$(printf 'R\016\0002,3,4,5,6,0,\r\n' | "$second" answer-trials)"

@@ -1,4 +1,4 @@
-/* Route sheets, read and written: 18, 19, 20, and 3 to 7 and 9 as they meet them. */
+/* Route sheets, read and written: 18, 19, 20, and 3 to 7, 9 and 21 as they meet them. */
 #include <string.h>
 
 #include "cases.h"
@@ -181,6 +181,7 @@ static void faulty_load_cases(struct tally *tally)
     SPOILED(OUT_OF_RANGE, l.rows[1].steps[0].cost = 0);
     SPOILED(OUT_OF_RANGE, l.rows[1].step_count = 9);
     SPOILED(OUT_OF_RANGE, l.rows[3].phase = 1);
+    SPOILED(FACTORY_IDENTIFIER, l.rows[1].identifier.number = UINT32_MAX);
     SPOILED(IDENTIFIER_TAKEN, l.rows[1].identifier.number = 101);
     SPOILED(BOX_TAKEN, l.rows[2].box.number = 202);
     SPOILED(WINDOW_STEPS, l.rows[2].windows[0].last = 3);

@@ -1,5 +1,6 @@
 /* Random loads and damaged sheets: an exported sheet reads back as the same load, and an accepted
-   sheet exports to the same bytes. */
+   sheet exports to the same bytes; with the factory identifier in any row a load is refused alike
+   in memory, as a file and as a sheet. */
 #include <stdio.h>
 #include <string.h>
 
@@ -40,6 +41,18 @@ static bool exports_alike(const struct asked_sheet *sheet, const struct load *re
         && length == sheet->length && memcmp(bytes, sheet->bytes, length) == 0;
 }
 
+static bool is_factory_refused(struct load load, unsigned row)
+{
+    uint8_t bytes[MOST_LOAD_BYTES];
+    struct load read;
+    load.rows[row - 1].identifier.number = UINT32_MAX;
+    size_t length = (size_t)(put_load(bytes, &load) - bytes);
+    struct asked_sheet sheet = sheet_of(&load);
+    return check_load(&load) == FACTORY_IDENTIFIER
+        && read_load(bytes, length, &read) == FACTORY_IDENTIFIER
+        && read_sheet(sheet.bytes, sheet.length, &read) == FACTORY_IDENTIFIER;
+}
+
 /* What is wrong is told with the sheet that shows it. */
 static void tell(struct found *found, const char *what, const struct asked_sheet *sheet)
 {
@@ -67,6 +80,9 @@ static void try_load(struct found *found, struct dice *dice, unsigned times)
     struct asked_sheet sheet = sheet_of(&load);
     if (!reads_back(&load))
         tell(found, "an exported sheet is not read back", &sheet);
+    for (unsigned row = 1; row <= load.row_count; row++)
+        if (!is_factory_refused(load, row))
+            tell(found, "the factory identifier in some row of this is not refused alike", &sheet);
     for (unsigned damaged = 0; damaged < DAMAGED_EACH; damaged++)
         try_damaged(found, dice, &sheet);
 }

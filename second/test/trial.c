@@ -135,7 +135,8 @@ static bool any_bytes_are_read(struct dice *dice, const struct load *load)
         bytes[spoiled] = (uint8_t)throw_dice(dice);
         size_t part = times % 2 ? length : throw_dice(dice) % length;
         enum refusal refusal = read_load(bytes, part, &read);
-        if (refusal > END_DIFFERS || (refusal == ACCEPTED && check_load(&read) != ACCEPTED))
+        if ((refusal > END_DIFFERS && refusal != FACTORY_IDENTIFIER)
+            || (refusal == ACCEPTED && check_load(&read) != ACCEPTED))
             return fails(load, "any bytes", ACCEPTED, refusal);
     }
     return true;

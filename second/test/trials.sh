@@ -78,24 +78,24 @@ count() { grep -c -E "$1" "$trials/stdout"; }
 count_files() { grep -c -E "$1" "$file_trials/stdout"; }
 printf 'answers: files'
 met taken "$(count '^load [0-9]+ [0-9]+ [0-9]+ [0-9]+ (yes|no)$')"
-for number in 1 2 3 4 5 6 7 8; do
+for number in 1 2 3 4 5 6 7 8 21; do
     met "refused $number" "$(count "^refused $number\$")"
 done
 printf '; moves'
 for outcome in start idle done 'refused 3' 'refused 4' 'refused 5' 'refused 6' 'refused 7' \
-    'refused 10' 'refused 11'; do
+    'refused 10' 'refused 11' 'refused 21'; do
     met "$outcome" "$(count "^$outcome .*lamps ")"
 done
 printf '; checks'
-for number in 0 3 4 5 6 7 12 13 14 15 16 17; do
+for number in 0 3 4 5 6 7 12 13 14 15 16 17 21; do
     met "$number" "$(count_files "^check $number\$")"
 done
-for number in 1 2 3 4 5 6 7 8; do
+for number in 1 2 3 4 5 6 7 8 21; do
     met "refused $number" "$(count_files "^refused $number\$")"
 done
 printf '; loads'
 met 0 "$(count_files '^load 0 [0-9a-f]+$')"
-for number in 3 4 5 6 7 9; do
+for number in 3 4 5 6 7 9 21; do
     met "$number" "$(count_files "^load $number\$")"
 done
 printf '; schedules'
@@ -120,9 +120,9 @@ asked=$(sed -n '1s/.* p //p' "$work/counts")
 in_memory() { tail -n $((asked + 1)) "$trials/stdout" | grep -c -E "^($1)\$"; }
 printf '; blames in memory'
 sound='waits( [0-9]+:[0-9]+){7} blames( [0-7]:[0-9]+){24} margins( -?[0-9]+){24}'
-same 'trials: each p has its line' "$asked" "$(in_memory "refused [3-7]|$sound")"
+same 'trials: each p has its line' "$asked" "$(in_memory "refused ([3-7]|21)|$sound")"
 met taken "$(in_memory "$sound")"
-for number in 3 4 5 6 7; do
+for number in 3 4 5 6 7 21; do
     met "refused $number" "$(in_memory "refused $number")"
 done
 met "A's" "$(in_memory 'waits 8:1( 0:0){6} blames( 1:1){3}( 0:0){21} margins 1 0 -1( 0){21}')"
@@ -131,7 +131,7 @@ met 'the largest' "$(in_memory 'waits( 0:0){7} blames( 0:0){24} margins 999999( 
 
 printf '; sheets'
 met taken "$(count_files '^sheet 0 [0-9a-f]+$')"
-for number in 3 4 5 7 18 19 20; do
+for number in 3 4 5 7 18 19 20 21; do
     met "$number" "$(count_files "^sheet $number\$")"
 done
 same 'trials: a sheet never gives 6' 0 "$(count_files '^sheet 6')"
@@ -140,13 +140,13 @@ met 'the empty one' "$(count_files '^sheet 0 4c440100454e0000$')"
 printf '; exports'
 met 'the empty one' "$(count_files '^export 0 $')"
 met taken "$(count_files '^export 0 ([0-9a-f][0-9a-f])+$')"
-for number in 3 4 5 6 7; do
+for number in 3 4 5 6 7 21; do
     met "$number" "$(count_files "^export $number\$")"
 done
 printf '; in rooms'
 met 'an exact one' "$(count_files '^export 0 [1-9][0-9]* ([0-9a-f][0-9a-f])*0d0a$')"
 met 'a longer one' "$(count_files '^export 0 [1-9][0-9]* ([0-9a-f][0-9a-f])*0d0a(a5)+$')"
-for number in 3 4 5 6 7 9; do
+for number in 3 4 5 6 7 9 21; do
     met "$number" "$(count_files "^export $number 0 (a5)*\$")"
 done
 printf '\n'

@@ -1,4 +1,4 @@
-/* Too many rows, which comes first of 3 to 7; too many steps, at the row's step count. */
+/* Too many rows, which comes before 3 to 7 and 21; too many steps, at the row's step count. */
 #include "worked_sheets.h"
 
 /* Steps and whole windows of row 101; the wait before the next is 1. */
@@ -62,5 +62,6 @@ const struct worked_sheet WORKED_COUNTS[] = {
 };
 
 const struct worked_sheet *const WORKED_SHEETS[] = {
-    WORKED_LINES, WORKED_ORDERS, WORKED_MARKS, WORKED_RANGES, WORKED_WIDE, WORKED_COUNTS, NULL,
+    WORKED_LINES, WORKED_ORDERS, WORKED_MARKS, WORKED_RANGES, WORKED_WIDE, WORKED_COUNTS,
+    WORKED_FACTORY, NULL,
 };

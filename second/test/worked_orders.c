@@ -1,5 +1,5 @@
 /* 18, 19 and 20 on one line and on neighbouring ones: in line order, on one line in this order, and
-   all before 3 to 7. */
+   all before 3 to 7 and 21. */
 #include "worked_sheets.h"
 
 /* The second line of row 101, with another box; and that line malformed. */

@@ -1,10 +1,11 @@
-/* Numbers at the ends of their ranges and beyond (3), twins (4, 5), and which comes first. */
+/* Numbers at the ends of their ranges and beyond (3; 21), twins (4, 5), and which comes first. */
 #include "worked_sheets.h"
 
 const struct worked_sheet WORKED_RANGES[] = {
     {3, "identifier 0", LINE("0,201,0,9,1,0,")},
     {0, "identifier 1", LINE("1,201,0,9,1,0,")},
-    {0, "identifier 4,294,967,295", LINE("4294967295,201,0,9,1,0,")},
+    {0, "identifier 4,294,967,294", LINE("4294967294,201,0,9,1,0,")},
+    {21, "identifier 4,294,967,295", LINE("4294967295,201,0,9,1,0,")},
     {3, "identifier 4,294,967,296", LINE("4294967296,201,0,9,1,0,")},
     {3, "box 0", LINE("101,0,0,9,1,0,")},
     {0, "box 4,294,967,295", LINE("101,4294967295,0,9,1,0,")},

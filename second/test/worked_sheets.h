@@ -18,6 +18,7 @@ extern const struct worked_sheet WORKED_MARKS[];
 extern const struct worked_sheet WORKED_RANGES[];
 extern const struct worked_sheet WORKED_WIDE[];
 extern const struct worked_sheet WORKED_COUNTS[];
+extern const struct worked_sheet WORKED_FACTORY[];
 
 /* All of these lists, and behind them none. */
 extern const struct worked_sheet *const WORKED_SHEETS[];

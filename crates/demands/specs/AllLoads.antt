@@ -1,5 +1,5 @@
--- "Loads to try": those marked P, "gathered as a single statement over the whole list". To be read
--- after LoadsToTry.
+-- "Loads to try": those marked P, "gathered as a single statement over the whole list", and with
+-- them the load of request 2026-04. To be read after LoadsToTry.
 use mathlib.Core.List.{List, [], _∷_, map}
 use mathlib.Core.Path.{_≡_}
 use Rattle.refusals.specs.declared.Checked.the-variants.{Good, Refused}
@@ -26,7 +26,7 @@ use Rattle.demands.specs.LoadB.{loadB}
 use Rattle.demands.specs.LoadB9.{loadB9}
 use Rattle.demands.specs.LoadPhase.{loadPhase8, loadPhase7}
 use Rattle.demands.specs.SmallLoads.{loadUnequal, loadWaits0, loadEmpty}
-use Rattle.demands.specs.FaultyLoads.{loadB7, loadTwins, loadTwinsInOneBox}
+use Rattle.demands.specs.FaultyLoads.{loadB7, loadTwins, loadTwinsInOneBox, loadFactory}
 use Rattle.demands.specs.Notation.{bytesOf, linesOf}
 
 -- what is claimed of an acceptable load
@@ -62,12 +62,12 @@ pub record FaultyHolds (e : Faulty) : Type 0 where
   pub prints : printed (bytesOf (e .file)) ≡ linesOf (e .lines)
   pub prints-blames : printedBlamed (bytesOf (e .file)) ≡ linesOf (e .lines)
 
--- a load marked P
+-- a load to try
 pub data Entry : Type 0 where
   sound : Sound → Entry
   faulty : Faulty → Entry
 
--- the loads marked P
+-- the loads marked P, and the factory identifier's
 abbrev pub loadsToTry : List Entry
 loadsToTry =
     sound loadA
@@ -81,9 +81,10 @@ loadsToTry =
     ∷ sound loadEmpty
     ∷ faulty loadTwins
     ∷ faulty loadTwinsInOneBox
+    ∷ faulty loadFactory
     ∷ []
 
--- what is claimed of a load marked P
+-- what is claimed of a load to try
 abbrev pub Holds : Entry → Type 0
 Holds (sound e) = SoundHolds e
 Holds (faulty e) = FaultyHolds e

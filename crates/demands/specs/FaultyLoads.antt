@@ -1,9 +1,13 @@
 -- "Loads to try", those refused: B with limit 7, and two rows with one identifier, with two boxes
--- and with one.
+-- and with one. And the factory identifier, "even when alone" (2026-04).
 use Prim.Native.Nat.{ℕ}
 use Prim.Native.String.{String}
 use mathlib.Core.List.{List, [], _∷_}
-use Rattle.refusals.specs.declared.Refusal.the-variants.{IdentifierTaken, LimitBelowChain}
+use Rattle.refusals.specs.declared.Refusal.the-variants.{
+  IdentifierTaken,
+  LimitBelowChain,
+  FactoryIdentifier,
+}
 use Rattle.load.specs.declared.Load.{Load}
 use Rattle.load.specs.Load.{lastMoment}
 use Rattle.load.specs.Notation.{_w_, rowWith, loadOf}
@@ -60,4 +64,20 @@ loadTwinsInOneBox =
       refusal = IdentifierTaken;
       number = 4;
       lines = "refused 4" ∷ [];
+    }
+
+-- one row with the factory identifier: refusal 21
+unfoldable pub loadFactory : Faulty
+loadFactory =
+    record {
+      file =
+          "4C44 01 01"
+          ∷ "5257 FFFFFFFF C9000000 00000000 40420F00 01 00"
+          ∷ "5354 0100 0000"
+          ∷ "454E 0100"
+          ∷ [];
+      load = loadOf (rowWith 4294967295 201 0 lastMoment (1 w 0 ∷ []) [] ∷ []);
+      refusal = FactoryIdentifier;
+      number = 21;
+      lines = "refused 21" ∷ [];
     }

@@ -17,11 +17,19 @@ pub record InTable (n : ℕ) : Type 0 where
 abbrev pub OneOf : List ℕ → ℕ → Type 0
 OneOf numbers n = anyIn (eqb n) (0 ∷ numbers) ≡ true
 
--- 3 to 7: a load in memory
-abbrev pub ofLoad : List ℕ
-ofLoad = 3 ∷ 4 ∷ 5 ∷ 6 ∷ 7 ∷ []
+-- 3: a number out of its range
+abbrev pub ofRange : List ℕ
+ofRange = 3 ∷ []
 
--- 1 to 8: a file
+-- 3 and 21: a row's own fields
+abbrev pub ofFields : List ℕ
+ofFields = ofRange ++ 21 ∷ []
+
+-- 3, 21 and 4 to 7: a load in memory, and so "the load's own numbers"
+abbrev pub ofLoad : List ℕ
+ofLoad = ofFields ++ 4 ∷ 5 ∷ 6 ∷ 7 ∷ []
+
+-- 1 to 8 and 21: a file, and so "the file's own numbers"
 abbrev pub ofFile : List ℕ
 ofFile = 1 ∷ 2 ∷ ofLoad ++ 8 ∷ []
 
@@ -29,9 +37,9 @@ ofFile = 1 ∷ 2 ∷ ofLoad ++ 8 ∷ []
 abbrev pub ofLines : List ℕ
 ofLines = 18 ∷ 19 ∷ 20 ∷ []
 
--- 3, 4, 5, 7 and 18 to 20: a sheet, which is never given 6
+-- 3, 21, 4, 5, 7 and 18 to 20: a sheet, which is never given 6
 abbrev pub ofSheet : List ℕ
-ofSheet = 3 ∷ 4 ∷ 5 ∷ 7 ∷ ofLines
+ofSheet = ofFields ++ 4 ∷ 5 ∷ 7 ∷ ofLines
 
 -- 12 to 17: slots
 abbrev pub ofSlots : List ℕ
@@ -40,10 +48,6 @@ ofSlots = 12 ∷ 13 ∷ 14 ∷ 15 ∷ 16 ∷ 17 ∷ []
 -- 17: a row that ends late
 abbrev pub ofLateRow : List ℕ
 ofLateRow = 17 ∷ []
-
--- 3: a number out of its range
-abbrev pub ofRange : List ℕ
-ofRange = 3 ∷ []
 
 -- 3, 6 and 7: a window, and the parts of a row
 abbrev pub ofWindow : List ℕ
@@ -57,11 +61,11 @@ ofState = 10 ∷ 11 ∷ []
 abbrev pub ofOutput : List ℕ
 ofOutput = 9 ∷ []
 
--- 1 to 9: a call for C
+-- the file's own and 9: a call for C
 abbrev pub ofC : List ℕ
 ofC = ofFile ++ ofOutput
 
--- 3 to 7 and 9: a load that is written
+-- the load's own and 9: a load that is written
 abbrev pub ofWriting : List ℕ
 ofWriting = ofLoad ++ ofOutput
 
@@ -69,10 +73,10 @@ ofWriting = ofLoad ++ ofOutput
 abbrev pub ofSlotWriting : List ℕ
 ofSlotWriting = ofRange ++ ofOutput
 
--- 3 to 7, then 12 to 17: a schedule that is checked
+-- the load's own, then 12 to 17: a schedule that is checked
 abbrev pub ofSchedule : List ℕ
 ofSchedule = ofLoad ++ ofSlots
 
--- 3 to 7, 10 and 11: a move
+-- the load's own, 10 and 11: a move
 abbrev pub ofMove : List ℕ
 ofMove = ofLoad ++ ofState

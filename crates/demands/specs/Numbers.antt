@@ -29,11 +29,12 @@ use Rattle.bench.specs.declared.Ran.{Ran}
 use Rattle.bench.specs.Calls.{NextMove, Runs, WriteRun}
 use Rattle.reading_bench.specs.Calls.{BenchBound, BenchVerdict, BenchMargins, BenchSchedule}
 use Rattle.lines.specs.Calls.{PrintLines, PrintBlames}
-use Rattle.demands.specs.NumberLists.{OneOf, ofLoad, ofFile, ofSheet, ofRange, ofWindow}
+use Rattle.demands.specs.NumberLists.{OneOf, ofRange, ofFields, ofWindow}
+use Rattle.demands.specs.NumberLists.{ofLoad, ofFile, ofSheet}
 use Rattle.demands.specs.NumberLists.{ofOutput, ofC, ofWriting, ofSlotWriting}
 use Rattle.demands.specs.NumberLists.{ofSchedule, ofMove}
 
--- a call for C gives 1 to 9 alone
+-- a call for C gives the file's own numbers and 9 alone
 abbrev pub NumbersForC : (List ℕ → List ℕ → ℕ → List ℕ → Type 0) → Type 0
 NumbersForC call =
     (bs out : List ℕ) (r : ℕ) (after : List ℕ) → call bs out r after → OneOf ofC r
@@ -42,7 +43,7 @@ NumbersForC call =
 pub record Numbers : Type 0 where
   -- a load in memory, and its parts
   pub check-load : (load : Load) (r : Checked) → CheckLoad load r → OneOf ofLoad (numberGiven r)
-  pub check-fields : (row : Row) (r : Checked) → CheckFields row r → OneOf ofRange (numberGiven r)
+  pub check-fields : (row : Row) (r : Checked) → CheckFields row r → OneOf ofFields (numberGiven r)
   pub check-step : (row : Row) (j : ℕ) (r : Checked) → CheckStep row j r
       → OneOf ofRange (numberGiven r)
   pub check-window : (row : Row) (k : ℕ) (r : Checked) → CheckWindow row k r

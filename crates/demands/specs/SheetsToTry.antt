@@ -1,5 +1,5 @@
--- "Loads to try", as route sheets: those marked P, each with its lines. To be read after AllLoads
--- and sheet's WorkedSheets.
+-- "Loads to try", as route sheets: those that are proved, each with its lines. To be read after
+-- AllLoads and sheet's WorkedSheets.
 use Prim.Native.Nat.{ℕ}
 use Prim.Native.String.{String}
 use mathlib.Core.List.{List, [], _∷_}
@@ -45,7 +45,7 @@ pub record Exported (load : Load) (sheet : List ℕ) : Type 0 where
   -- which are read as that load
   pub reads : readSheet sheet ≡ accepted load
 
--- the loads marked P, as sheets
+-- the loads to try, as sheets
 pub record SheetsToTry : Type 0 where
   pub a : Exported (loadA .load) sheetA
   pub b : Exported (loadB .load) (sheetOf (linesB "101,201,0,1000000,2,4,8"))
@@ -72,6 +72,8 @@ pub record SheetsToTry : Type 0 where
   pub no-rows : Exported (loadEmpty .load) []
   -- B with limit 7 is refused with 7
   pub b7 : numberGiven (sheetFault (sheetOf (linesB "101,201,0,1000000,2,4,7"))) ≡ 7
+  -- the factory identifier is refused with 21
+  pub factory : numberGiven (sheetFault (sheetOf ("4294967295,201,0,1000000,1,0," ∷ []))) ≡ 21
   -- adjacent lines with one identifier are one row: two loggers that share one are told by box,
   -- phase or deadline, and where all three agree the lines are steps of one logger
   pub twins :

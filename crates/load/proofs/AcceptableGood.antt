@@ -59,6 +59,7 @@ module _ (load : Load) (ok : Acceptable (viewOf load)) (reg : Registered load) (
           within-outside 1 _ _ (ok .deadline-least i l) (ok .deadline-most i l),
           within-outside 1 _ _ (ok .steps-least i l) (ok .steps-most i l),
           le-ltb mostWindows (rowAt load i .windows) windows-le,
+          ne-eqb _ _ (reg .not-factory i l),
         )
       where
         windows-le : rowAt load i .windows ≤ mostWindows

@@ -181,6 +181,7 @@ module _ (load : Load) (e : checkLoad load ≡ Good) where
         identifier-most = λ i l. outside-most 1 _ _ (field i l 0);
         box-least = λ i l. outside-least 1 _ _ (field i l 1);
         box-most = λ i l. outside-most 1 _ _ (field i l 1);
+        not-factory = λ i l. eqb-false _ _ (field i l 6);
         identifiers-differ = λ i k h l. eqb-false _ _ (anyTo-false _ k (taken k l 0) i h);
         boxes-differ = λ i k h l. eqb-false _ _ (anyTo-false _ k (taken k l 1) i h);
       }

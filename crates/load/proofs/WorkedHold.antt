@@ -11,6 +11,7 @@ use Rattle.load.specs.Check.{checkParts, rowFault, checkLoad}
 use Rattle.load.specs.WorkedRanges.{numbersOf, five, WorkedRanges}
 use Rattle.load.specs.WorkedWindows.{WorkedWindows}
 use Rattle.load.specs.WorkedCases.{notZero, WorkedCases}
+use Rattle.load.specs.WorkedFactory.{WorkedFactory}
 use Rattle.load.specs.WorkedParts.{numbersOfParts, WorkedParts}
 
 -- to open this is to open all that its line names
@@ -71,6 +72,20 @@ cases-hold =
       unused-steps = refl;
       unused-windows = refl;
       unused-rows = refl;
+    }
+
+pub factory-hold : WorkedFactory
+unfolding computing five
+factory-hold =
+    record {
+      alone = refl;
+      twice = refl;
+      beside = refl;
+      fields-first = refl;
+      parts-later = refl;
+      box-later = refl;
+      row-before = refl;
+      rows-first = refl;
     }
 
 pub parts-hold : WorkedParts

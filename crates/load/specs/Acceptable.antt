@@ -1,8 +1,9 @@
--- "A load", as facts: what holds of a load that 3 to 7 do not refuse. The first record is of the
--- view, and is all that the rules need; the other two are of what the view does not hold. To be
--- read after Check.
+-- "A load", as facts: what holds of a load that its check does not refuse. The first record is of
+-- the view, and is all that the rules need; the other two are of what the view does not hold. To be
+-- read after Check. Rests on D91.
 use Prim.Native.Nat.{ℕ, _-_, _≤_, _<_}
 use mathlib.Core.Bool.{true}
+use mathlib.Core.Logic.{_≢_}
 use mathlib.Core.Path.{_≡_}
 use lib.ListN.{length, getD}
 use Rattle.load.specs.declared.Window.{Window}
@@ -12,6 +13,7 @@ use Rattle.load.specs.Load.{
   mostSteps,
   mostWindows,
   largestNumber,
+  factoryIdentifier,
   latestPhase,
   lastMoment,
   largestCost,
@@ -80,6 +82,11 @@ pub record Acceptable (L : View) : Type 0 where
   -- the limit is at least the chain
   pub limit-chain : EveryWindow L (λ i p. chainIn L i (windowOf L i p) ≤ windowOf L i p .limit)
 
+-- no row has the factory identifier
+abbrev pub WithoutFactory : Load → Type 0
+WithoutFactory load =
+    (i : ℕ) → i < load .rows → rowAt load i .identifier .0 ≢ factoryIdentifier
+
 -- identifiers and box numbers, which come from separate registers
 pub record Registered (load : Load) : Type 0 where
   -- an identifier, 1 to 4,294,967,295, and a box number in the same range
@@ -87,6 +94,8 @@ pub record Registered (load : Load) : Type 0 where
   pub identifier-most : (i : ℕ) → i < load .rows → rowAt load i .identifier .0 ≤ largestNumber
   pub box-least : (i : ℕ) → i < load .rows → 1 ≤ rowAt load i .«box_number» .0
   pub box-most : (i : ℕ) → i < load .rows → rowAt load i .«box_number» .0 ≤ largestNumber
+  -- no identifier is the factory's, so that no two racks of the archive meet under it (2026-04)
+  pub not-factory : WithoutFactory load
   -- identifiers differ between rows; so do box numbers
   pub identifiers-differ : (i k : ℕ) → i < k → k < load .rows
       → rowAt load i .identifier .0 ≡ rowAt load k .identifier .0 → ⊥

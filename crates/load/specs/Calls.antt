@@ -18,7 +18,7 @@ use Rattle.load.specs.Load.{mostRows, rowAt, stepAt, windowAt, zeroRow, 
 use Rattle.load.specs.View.{viewOf, rowWindows, chainBetween, embeddedAmong, stepsInAll}
 use Rattle.load.specs.Check.{checkFields, checkStep, checkWindow, checkParts, checkLoad}
 
--- check_load(load): the first of 3 to 7, or Good
+-- check_load(load): the first of the load's own numbers, or Good
 abbrev pub CheckLoad : Load → Checked → Type 0
 CheckLoad load r = r ≡ checkLoad load
 

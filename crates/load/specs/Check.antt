@@ -1,5 +1,6 @@
 -- "Numbers given back": "Calls that take a load in memory check 3 to 7 in the same row order; the
--- unused places of a part come after its used ones." To be read after Faults. Rests on D9.
+-- unused places of a part come after its used ones." Since 2026-04 the load's own numbers are 3, 21
+-- and 4 to 7. To be read after Faults. Rests on D9.
 use Prim.Native.Nat.{ℕ}
 use mathlib.Core.Bool.{Bool, _&&_, not}
 use mathlib.Core.List.{[], _∷_}

@@ -1,6 +1,6 @@
--- "Numbers given back", 3 to 7: the tests of each record kind, in the order in which they are
--- asked. The file and the load in memory share them. To be read after Load and View. Rests on D2 to
--- D5.
+-- "Numbers given back", 3 to 7 and "21 factory identifier, after 3 and before 4" (2026-04): the
+-- tests of each record kind, in the order in which they are asked. The file and the load in memory
+-- share them. To be read after Load and View. Rests on D2 to D5 and D91.
 use Prim.Native.Nat.{ℕ, zero, suc, _-_}
 use mathlib.Core.Bool.{Bool, cond, _||_}
 use mathlib.Core.List.{List, [], _∷_}
@@ -9,6 +9,7 @@ use Rattle.counting.specs.Sums.{anyTo}
 use Rattle.refusals.specs.declared.Refusal.{Refusal}
 use Rattle.refusals.specs.declared.Refusal.the-variants.{
   OutOfRange,
+  FactoryIdentifier,
   IdentifierTaken,
   BoxTaken,
   WindowSteps,
@@ -23,6 +24,7 @@ use Rattle.load.specs.Load.{
   mostSteps,
   mostWindows,
   largestNumber,
+  factoryIdentifier,
   latestPhase,
   lastMoment,
   largestCost,
@@ -48,6 +50,7 @@ rowTests row =
     ∷ (outside 1 lastMoment (row .deadline), OutOfRange)
     ∷ (outside 1 mostSteps (row .steps), OutOfRange)
     ∷ (ltb mostWindows (row .windows), OutOfRange)
+    ∷ (eqb (row .identifier .0) factoryIdentifier, FactoryIdentifier)
     ∷ []
 
 -- the identifier stands in a row before place i

@@ -9,4 +9,5 @@ pub mod Notation
 pub mod WorkedRanges
 pub mod WorkedWindows
 pub mod WorkedCases
+pub mod WorkedFactory
 pub mod WorkedParts

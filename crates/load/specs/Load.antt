@@ -23,6 +23,10 @@ mostWindows = 4
 abbrev pub largestNumber : ℕ
 largestNumber = 4294967295
 
+-- what "after a battery swap the newer loggers report" as their identifier (2026-04)
+abbrev pub factoryIdentifier : ℕ
+factoryIdentifier = 4294967295
+
 -- a phase is 0 to 86,400
 abbrev pub latestPhase : ℕ
 latestPhase = 86400

@@ -33,9 +33,9 @@ five = window 1 2 2 ∷ window 3 4 2 ∷ window 5 6 2 ∷ window 7 8 2 ∷ windo
 
 -- each range, by its ends
 pub record WorkedRanges : Type 0 where
-  -- identifiers 0, 1 and 4,294,967,295
+  -- identifiers 0, 1 and 4,294,967,294
   pub identifiers :
-      numbersOf (λ n. one (rowWith n 201 0 1000000 step1 [])) (0 ∷ 1 ∷ 4294967295 ∷ [])
+      numbersOf (λ n. one (rowWith n 201 0 1000000 step1 [])) (0 ∷ 1 ∷ 4294967294 ∷ [])
       ≡ 3 ∷ 0 ∷ 0 ∷ []
   -- boxes 0, 1 and 4,294,967,295
   pub boxes :

@@ -137,7 +137,7 @@ fn check_rows(load: Load) -> Checked
     Checked::Good
 }
 
-// Checks a load; refuses with the first of 3 to 7 that is met.
+// Checks a load; refuses with the first of its own numbers that is met.
 pub fn check_load(load: Load) -> Checked
     ensures { λ r. ⌜ CheckLoad load r ⌝ }
 {

@@ -4,6 +4,7 @@ use crate::Row;
 use crate::chains::chain_between;
 use crate::parts::step_at;
 use crate::parts::window_at;
+use crate::ranges::FACTORY_IDENTIFIER;
 use crate::ranges::LARGEST_COST;
 use crate::ranges::LARGEST_LIMIT;
 use crate::ranges::LARGEST_NUMBER;
@@ -28,7 +29,8 @@ fn is_outside(least: u32, most: u32, n: u32) -> bool
     most < n
 }
 
-// Checks a row's own fields, beside its steps and windows; refuses the first that is out of range.
+// Checks a row's own fields, beside its steps and windows; refuses the first that is out of range,
+// and then the factory identifier.
 pub fn check_fields(row: Row) -> Checked
     ensures { λ r. ⌜ CheckFields row r ⌝ }
 {
@@ -49,6 +51,9 @@ pub fn check_fields(row: Row) -> Checked
     }
     if MOST_WINDOWS < row.windows as usize {
         return Checked::Refused(Refusal::OutOfRange);
+    }
+    if row.identifier.0 == FACTORY_IDENTIFIER {
+        return Checked::Refused(Refusal::FactoryIdentifier);
     }
     Checked::Good
 }

@@ -30,7 +30,7 @@ pub use taken::box_taken;
 pub use taken::identifier_taken;
 pub use windows::embedded_at;
 
-// A logger's identifier, 1 to 4,294,967,295.
+// A logger's identifier, 1 to 4,294,967,295; the last is the factory's, and no row may have it.
 pub struct Identifier(pub u32);
 
 // A box's number, 1 to 4,294,967,295.

@@ -12,6 +12,9 @@ pub const MOST_WINDOWS: usize = 4;
 // An identifier is 1 to 4,294,967,295, a box number in the same range.
 pub const LARGEST_NUMBER: u32 = 4294967295;
 
+// After a battery swap the newer loggers report this identifier.
+pub const FACTORY_IDENTIFIER: u32 = 4294967295;
+
 // A phase is 0 to 86,400.
 pub const LATEST_PHASE: u32 = 86400;
 

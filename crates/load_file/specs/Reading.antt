@@ -1,6 +1,6 @@
 -- "Reading goes front to back and the first faulty record decides; inside a record 1, 2, 3 in field
--- order, then 4, 5 for a row, 6, 7 for a window." To be read after Places. Rests on D1 to D8, D25
--- and D29.
+-- order, then 4, 5 for a row, 6, 7 for a window", with 21 "after 3 and before 4" (2026-04). To be
+-- read after Places. Rests on D1 to D8, D25, D29 and D91.
 use Prim.Native.Nat.{ℕ, _+_}
 use mathlib.Core.Bool.{Bool, not}
 use mathlib.Core.List.{List, [], _∷_, _++_}

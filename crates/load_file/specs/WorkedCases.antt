@@ -1,4 +1,4 @@
--- "Numbers given back", 1 to 8, worked: what reading small files gives. The answers are the
+-- "Numbers given back", 1 to 8 and 21, worked: what reading small files gives. The answers are the
 -- document's, taken by hand, and were asked of the second program too. To be read after Calls, and
 -- after load_records' WorkedFile. Rests on D1, D6 to D8, D25 and D29.
 use Prim.Native.Nat.{ℕ}
@@ -97,14 +97,16 @@ pub record WorkedCases : Type 0 where
       ∷ [])
       ≡ 0 ∷ 8 ∷ 8 ∷ 8 ∷ 8 ∷ 8 ∷ []
   -- a second row with the first's identifier is 4, before the 1 of its steps; with its box alone
-  -- 5; with its identifier and 9 steps 3
+  -- 5; with its identifier and 9 steps 3; with its box and the factory identifier 21, as alone
   pub shared :
       numbersRead
       ((header 2 ∷ row ∷ steps ∷ windows ∷ row ∷ [])
       ∷ (header 2 ∷ row ∷ steps ∷ windows ∷ (take 2 row ++ 9 ∷ drop 3 row) ∷ [])
       ∷ (header 2 ∷ row ∷ steps ∷ windows ∷ (take 18 row ++ 9 ∷ 1 ∷ []) ∷ [])
+      ∷ (header 2 ∷ row ∷ steps ∷ windows ∷ (take 2 row ++ replicate 4 0xFF ++ drop 6 row) ∷ [])
+      ∷ (header 1 ∷ (take 2 row ++ replicate 4 0xFF ++ drop 6 row) ∷ [])
       ∷ [])
-      ≡ 4 ∷ 5 ∷ 3 ∷ []
+      ≡ 4 ∷ 5 ∷ 3 ∷ 21 ∷ 21 ∷ []
   -- the first faulty record decides: a cost of 0 before a window's mark, a window's 6 and 7 before
   -- a wrong end count
   pub front-to-back :

@@ -73,5 +73,6 @@ ranges-hold =
       out-of-range = refl;
       of-the-load = refl;
       first-row = refl;
+      factory = refl;
       rows = refl;
     }

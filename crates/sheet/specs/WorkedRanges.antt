@@ -72,6 +72,24 @@ pub record WorkedRanges : Type 0 where
       ∷ ("101,201,0,1000000,2,4,7" ∷ follows ∷ replicate 9 "102,202,0,9,1,0,")
       ∷ [])
       ≡ 7 ∷ 7 ∷ []
+  -- 21: the factory identifier, alone, on two lines of a row, with cost 0, and in a second row with
+  -- the first's box; one more is wider than its field, and one less is accepted, in a box of that
+  -- number; deadline 0 and nine steps are 3, a row's 7 comes before a later row's 21, and a line
+  -- that differs is 19
+  pub factory :
+      numbersRead
+      (("4294967295,1,0,9,1,0," ∷ [])
+      ∷ ("4294967295,1,0,9,1,0," ∷ "4294967295,1,0,9,1,0," ∷ [])
+      ∷ ("4294967295,1,0,9,0,0," ∷ [])
+      ∷ ("101,201,0,9,1,0," ∷ "4294967295,201,0,9,1,0," ∷ [])
+      ∷ ("4294967296,1,0,9,1,0," ∷ [])
+      ∷ ("4294967294,4294967295,0,9,1,0," ∷ [])
+      ∷ ("4294967295,1,0,0,1,0," ∷ [])
+      ∷ replicate 9 "4294967295,1,0,9,1,0,"
+      ∷ ("101,201,0,1000000,2,4,7" ∷ follows ∷ "4294967295,202,0,9,1,0," ∷ [])
+      ∷ ("4294967295,1,0,9,1,0," ∷ "4294967295,2,0,9,1,0," ∷ [])
+      ∷ [])
+      ≡ 21 ∷ 21 ∷ 21 ∷ 21 ∷ 3 ∷ 0 ∷ 3 ∷ 3 ∷ 7 ∷ 19 ∷ []
   -- too many rows come first: 25, of which the first has a limit below its chain
   pub rows :
       numberGiven

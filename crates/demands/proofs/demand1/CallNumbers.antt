@@ -73,6 +73,7 @@ use Rattle.demands.specs.NumberLists.{
   ofFile,
   ofSheet,
   ofRange,
+  ofFields,
   ofWindow,
   ofSchedule,
   ofMove,
@@ -88,9 +89,9 @@ use Rattle.demands.proofs.demand1.NumberLaws.{
 }
 
 -- the parts of a load
-pub fields-give : (row : Row) → Gives ofRange (checkFields row)
+pub fields-give : (row : Row) → Gives ofFields (checkFields row)
 unfolding rowTests anyIn
-fields-give row = tests-give ofRange (rowTests row) refl
+fields-give row = tests-give ofFields (rowTests row) refl
 
 pub step-gives : (row : Row) (j : ℕ) → Gives ofRange (checkStep row j)
 unfolding stepTests anyIn
@@ -119,7 +120,7 @@ parts-give row =
 row-gives : (load : Load) (i : ℕ) (row : Row) → Gives ofLoad (rowFault load i row)
 unfolding rowFault takenTests anyIn
 row-gives load i row =
-    then-gives ofLoad _ _ (Gives-more ofRange ofLoad refl (checkFields row) (fields-give row))
+    then-gives ofLoad _ _ (Gives-more ofFields ofLoad refl (checkFields row) (fields-give row))
     (then-gives ofLoad _ _ (tests-give ofLoad (takenTests load i row) refl)
     (last-gives ofLoad _ (Gives-more ofWindow ofLoad refl (checkParts row) (parts-give row))))
 

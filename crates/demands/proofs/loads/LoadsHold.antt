@@ -1,4 +1,4 @@
--- The loads marked P hold: every claim is decided by computing, from the bytes of the file on.
+-- The loads to try hold: every claim is decided by computing, from the bytes of the file on.
 use mathlib.Core.Path.{refl}
 use Rattle.demands.specs.LoadsToTry.{answersFor, glimpseAfter}
 use Rattle.demands.specs.LoadA.{loadA}
@@ -6,7 +6,7 @@ use Rattle.demands.specs.LoadB.{loadB}
 use Rattle.demands.specs.LoadB9.{loadB9}
 use Rattle.demands.specs.LoadPhase.{loadPhase8, loadPhase7}
 use Rattle.demands.specs.SmallLoads.{loadUnequal, loadWaits0, loadEmpty}
-use Rattle.demands.specs.FaultyLoads.{loadB7, loadTwins, loadTwinsInOneBox}
+use Rattle.demands.specs.FaultyLoads.{loadB7, loadTwins, loadTwinsInOneBox, loadFactory}
 use Rattle.demands.specs.AllLoads.{SoundHolds, FaultyHolds, LoadsHold}
 use Rattle.demands.proofs.loads.Computing.{computing}
 
@@ -142,6 +142,10 @@ one-box-holds : FaultyHolds loadTwinsInOneBox
 unfolding computing loadTwinsInOneBox
 one-box-holds = record { reads = refl; checks = refl; numbered = refl; prints = refl; prints-blames = refl }
 
+factory-holds : FaultyHolds loadFactory
+unfolding computing loadFactory
+factory-holds = record { reads = refl; checks = refl; numbered = refl; prints = refl; prints-blames = refl }
+
 -- all of them, in the list's order
 pub loads-hold : LoadsHold
 loads-hold = (
@@ -154,7 +158,10 @@ loads-hold = (
         b7-holds,
         (
           phase8-holds,
-          (phase7-holds, (unequal-holds, (waits0-holds, (empty-holds, (twins-holds, (one-box-holds, tt)))))),
+          (
+            phase7-holds,
+            (unequal-holds, (waits0-holds, (empty-holds, (twins-holds, (one-box-holds, (factory-holds, tt)))))),
+          ),
         ),
       ),
     ),

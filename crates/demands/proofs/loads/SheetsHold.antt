@@ -1,4 +1,4 @@
--- The loads marked P hold as sheets: every claim is decided by computing.
+-- The loads to try hold as sheets: every claim is decided by computing.
 use mathlib.Core.Path.{refl}
 use Rattle.sheet.proofs.WorkedHold.{computing as computingSheets}
 use Rattle.demands.specs.LoadA.{loadA}
@@ -22,6 +22,7 @@ sheets-hold =
       waits0 = record { exports = refl; reads = refl };
       no-rows = record { exports = refl; reads = refl };
       b7 = refl;
+      factory = refl;
       twins = refl;
       twins-apart = refl;
     }

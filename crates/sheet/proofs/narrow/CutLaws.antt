@@ -1,14 +1,15 @@
--- A number cut to its field: where it fits it stays, and a test against a range that the field holds finds the same,
--- for 0 is below each range that begins with 1, and the longest number is above each that begins with 0. So the tests
--- of a step, and those of a window's first, last and limit, are those of the step and the window that were cut.
+-- A number cut to its field: where it fits it stays, and a test against a range or a number that the field holds finds
+-- the same, for 0 is below each range that begins with 1, and the longest number is above each that begins with 0. So
+-- the tests of a step, and those of a window's first, last and limit, are those of the step and the window that were
+-- cut.
 use Prim.Native.Nat.{ℕ, min, _≤_, _<_}
 use mathlib.Core.Bool.{true, cond}
 use mathlib.Core.Path.{_≡_, ap, ap₂, sym, _∙_}
 use native.Mathlib.Decide.{decLt}
 use native.Mathlib.Nat.{min-eq-left}
 use native.Mathlib.Omega.{arith}
-use borrow.Author.Tests.{lt-ltb, le-ltb, le-leb, lt-leb}
-use lib.Dec.{ltb}
+use borrow.Author.Tests.{lt-ltb, le-ltb, le-leb, lt-leb, ne-eqb}
+use lib.Dec.{eqb, ltb}
 use Rattle.load.specs.declared.Step.{Step}
 use Rattle.load.specs.declared.Window.{Window}
 use Rattle.load.specs.Faults.{outside}
@@ -31,6 +32,17 @@ module _ (most n : ℕ) where
     where
       wide : most < n → outside 1 last n ≡ true
       wide h = rw (le-ltb n 1 (omega arith), lt-ltb last n (omega arith))
+
+  -- one number that the field holds, and that is not 0
+  pub equal-cut : (one : ℕ) → 1 ≤ one → one ≤ most → eqb (orZero most n) one ≡ eqb n one
+  equal-cut one least fits =
+      elim (decLt most n) [
+        | no h ↦ ap (λ x. eqb x one) (orZero-fits (omega arith))
+        | yes h ↦
+            ap (λ x. eqb x one) (orZero-wide h)
+            ∙ ne-eqb 0 one (λ e. omega arith)
+            ∙ sym (ne-eqb n one (λ e. omega arith))
+      ]
 
   -- a range from 0 on
   pub above-cut : (last : ℕ) → last < most → ltb last (min n most) ≡ ltb last n

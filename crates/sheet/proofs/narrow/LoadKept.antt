@@ -37,7 +37,7 @@ pub data Kept (row kept : Row) : Type 0 where
   cut : Unused row → kept ≡ narrowRow row → Kept row kept
   long : mostSteps < row .steps → kept ≡ zeroRow → Kept row kept
 
--- a row of more than eight steps; all tests of a row's own fields have one number
+-- a row of more than eight steps; the tests before that of the steps have its number
 fields-long : (row : Row) → mostSteps < row .steps → checkFields row ≡ Refused OutOfRange
 unfolding rowTests
 fields-long row l =

@@ -24,6 +24,7 @@ use Rattle.load.specs.Load.{
   mostSteps,
   mostWindows,
   largestNumber,
+  factoryIdentifier,
   latestPhase,
   lastMoment,
   largestCost,
@@ -49,6 +50,7 @@ use Rattle.load.proofs.RangeLaws.{outside-most}
 use Rattle.sheet.specs.inner.Narrow.{most16, most32, narrowStep, narrowWindow, narrowRow}
 use Rattle.sheet.proofs.narrow.CutLaws.{
   outside-cut,
+  equal-cut,
   above-cut,
   narrowStep-fits,
   narrowWindow-fits,
@@ -108,6 +110,7 @@ module _ (row : Row) where
         outside-cut most32 (row .«box_number» .0) largestNumber (omega arith),
         above-cut most32 (row .phase) latestPhase (omega arith),
         outside-cut most32 (row .deadline) lastMoment (omega arith),
+        equal-cut most32 (row .identifier .0) factoryIdentifier (omega arith) (omega arith),
       )
 
   -- what a wait may be fits its field

@@ -1,5 +1,6 @@
--- With which numbers a sheet is refused: 18 to 20 for its lines, 3, 4, 5 and 7 for its load, and never 6. Lines that 18
--- to 20 do not refuse spell windows of two steps or more that stand one behind the other and end inside their row.
+-- With which numbers a sheet is refused: 18 to 20 for its lines, 3, 21, 4, 5 and 7 for its load, and never 6. Lines
+-- that 18 to 20 do not refuse spell windows of two steps or more that stand one behind the other and end inside their
+-- row.
 use Prim.Native.Nat.{ℕ, _<_}
 use mathlib.Core.Bool.{Bool, true, not}
 use mathlib.Core.List.{List, [], _∷_}
@@ -46,7 +47,7 @@ use Rattle.refusals.proofs.FoundLaws.{
 
 -- the numbers of a refused sheet
 abbrev pub numbersInSheet : List ℕ
-numbersInSheet = 3 ∷ 4 ∷ 5 ∷ 7 ∷ 18 ∷ 19 ∷ 20 ∷ []
+numbersInSheet = 3 ∷ 21 ∷ 4 ∷ 5 ∷ 7 ∷ 18 ∷ 19 ∷ 20 ∷ []
 
 -- what is found has one of these numbers, or 0
 abbrev inSheet : Checked → Bool

@@ -4,40 +4,58 @@ use Prim.Native.Nat.{ℕ}
 use mathlib.Core.Path.{_≡_, sym, _∙_}
 use lib.ListN.{drop}
 use borrow.Author.Needs.{needs}
-use borrow.Author.Tests.{lt-ltb, le-ltb}
+use borrow.Author.Tests.{eq-eqb, ne-eqb, lt-ltb, le-ltb}
 use Rattle.refusals.specs.FirstMet.{firstMet}
-use Rattle.load.specs.declared.Row.{Row}
 use Rattle.load.specs.Faults.{rowTests}
 use Rattle.load.proofs.faults.check_fields.Statement.{statement}
 use Rattle.load.proofs.faults.check_fields.Tie as tie
 
--- the first k tests are not met
-abbrev Passed : Row → ℕ → Type 0
-Passed row k = firstMet (rowTests row) ≡ firstMet (drop k (rowTests row))
+-- the call, from behind a test
+abbrev call1 : tie.Else1 → tie.Start
+call1 c = c .before .before
 
-passed1 : (c : tie.Else1) → Passed (c .before .before .args .row) 1
+abbrev call2 : tie.Else2 → tie.Start
+call2 c = call1 (c .before .before)
+
+abbrev call3 : tie.Else3 → tie.Start
+call3 c = call2 (c .before .before)
+
+abbrev call4 : tie.Else4 → tie.Start
+call4 c = call3 (c .before .before)
+
+abbrev call5 : tie.Else5 → tie.Start
+call5 c = call4 (c .before .before .before)
+
+abbrev call6 : tie.Else6 → tie.Start
+call6 c = call5 (c .before .before)
+
+-- the first k tests of the row in hand are not met
+abbrev Passed : tie.Start → ℕ → Type 0
+Passed c k = let tests = rowTests (c .args .row) in firstMet tests ≡ firstMet (drop k tests)
+
+passed1 : (c : tie.Else1) → Passed (call1 c) 1
 unfolding rowTests
 passed1 c = simp (sym (c .before .is-outside .ensures) ∙ c .if1 .left)
 
-passed2 : (c : tie.Else2) → Passed (c .before .before .before .before .args .row) 2
+passed2 : (c : tie.Else2) → Passed (call2 c) 2
 unfolding rowTests
 passed2 c = passed1 (c .before .before) ∙ simp (sym (c .before .is-outside2 .ensures) ∙ c .if2 .left)
 
-passed3 : (c : tie.Else3) → let at2 = c .before .before in Passed (at2 .before .before .before .before .args .row) 3
+passed3 : (c : tie.Else3) → Passed (call3 c) 3
 unfolding rowTests
 passed3 c = passed2 (c .before .before) ∙ simp (le-ltb _ _ (c .if3 .left))
 
-passed4 : (c : tie.Else4)
-    → let at2 = c .before .before .before .before in Passed (at2 .before .before .before .before .args .row) 4
+passed4 : (c : tie.Else4) → Passed (call4 c) 4
 unfolding rowTests
 passed4 c = passed3 (c .before .before) ∙ simp (sym (c .before .is-outside3 .ensures) ∙ c .if4 .left)
 
-passed5 : (c : tie.Else5)
-    → let at4 = c .before .before .before in
-    let at2 = at4 .before .before .before .before in
-    Passed (at2 .before .before .before .before .args .row) 5
+passed5 : (c : tie.Else5) → Passed (call5 c) 5
 unfolding rowTests
 passed5 c = passed4 (c .before .before .before) ∙ simp (sym (c .before .is-outside4 .ensures) ∙ c .if5 .left)
+
+passed6 : (c : tie.Else6) → Passed (call6 c) 6
+unfolding rowTests
+passed6 c = passed5 (c .before .before) ∙ simp (le-ltb _ _ (c .if6 .left))
 
 identifier : tie.Need-returns
 unfolding rowTests
@@ -63,9 +81,13 @@ windows : tie.Need-returns-6
 unfolding rowTests
 windows c = sym (passed5 (c .before .before) ∙ simp (lt-ltb _ _ (c .if6 .taken)))
 
-good : tie.Need-returns-7
+factory : tie.Need-returns-7
 unfolding rowTests
-good c = sym (passed5 (c .before .before) ∙ simp (le-ltb _ _ (c .if6 .left)))
+factory c = sym (passed6 (c .before .before) ∙ simp (eq-eqb _ _ (c .if7 .taken)))
+
+good : tie.Need-returns-8
+unfolding rowTests
+good c = sym (passed6 (c .before .before) ∙ simp (ne-eqb _ _ (c .if7 .left)))
 
 pub check-fields-spec : {M : Type 1} → statement M
 check-fields-spec =
@@ -84,4 +106,5 @@ check-fields-spec =
     steps
     (λ c. search needs)
     windows
+    factory
     good)
