@@ -13,6 +13,7 @@ use Rattle.refusals.specs.Given.{Given, roomFor}
 use Rattle.refusals.proofs.FirstMetLaws.{andThen-good-first}
 use Rattle.load.specs.declared.Load.{Load}
 use Rattle.load.specs.Check.{checkLoad}
+use Rattle.load.proofs.AcceptableLaws.{check-registered}
 use Rattle.load_records.specs.Writing.{loadBytes}
 use Rattle.load_records.specs.Calls.{WriteLoad}
 use Rattle.load_file.specs.declared.Reading.{Reading}
@@ -34,20 +35,23 @@ use Rattle.bound.proofs.GoodLaws.{
   AnswersOf-blames,
 }
 use Rattle.schedule.proofs.CheckExactly.{checkSchedule-exactly}
+use Rattle.demands.specs.NoFactory.{NoFactory}
 use Rattle.demands.specs.Demand2.{fileIn, Demand2}
 use Rattle.demands.proofs.moves.MovesHeld.{next-same}
 use Rattle.demands.proofs.demand2.HostHolds.{host-answers}
-use Rattle.demands.proofs.demand2.SheetHolds.{sheet-answers}
+use Rattle.demands.proofs.demand2.SheetHolds.{sheet-back, sheet-answers}
 use Rattle.demands.proofs.demand2.TwinsHold.{twins-answered}
 
 -- a file that is not refused, written back
-pub file-back : (bs : List ℕ) → Bytes bs → readLoad bs .answer ≡ Good → WrittenLoad (readLoad bs .load) bs
-file-back bs b e = round-trip .read-write bs (readLoad bs .load) (round-trip .some-load bs b e)
+pub file-back : (bs : List ℕ) (r : Reading) → Bytes bs → ReadLoad bs r → r .answer ≡ Good → WrittenLoad (r .load) bs
+file-back bs r b e g =
+    let good : readLoad bs .answer ≡ Good = ap (λ (x : Reading). x .answer) (sym e) ∙ g in
+    rw e (round-trip .read-write bs (readLoad bs .load) (round-trip .some-load bs b good))
 
 reads-writes : (bs : List ℕ) (r : Reading) → Bytes bs → ReadLoad bs r → r .answer ≡ Good → (out : List ℕ)
     (found : Checked) (after : List ℕ) → WriteLoad (r .load) out found after → Given Good bs out found after
 reads-writes bs r b e g out found after h =
-    let w : WrittenLoad (r .load) bs = rw e (file-back bs b (ap (λ (x : Reading). x .answer) (sym e) ∙ g)) in
+    let w : WrittenLoad (r .load) bs = file-back bs r b e g in
     let told : Given (checkLoad (r .load)) (loadBytes (r .load)) out found after = h in
     rw (w .good, ← w .file) at told
 
@@ -61,6 +65,15 @@ writes-reads load held out after h r e =
     ∙ take-append-seam (loadBytes load) (drop (length (loadBytes load)) out) in
     e ∙ ap readLoad front ∙ write-read load held good
 
+-- a load that is accepted, in memory or as what a file or a sheet reads to, has its facts
+no-factory : NoFactory
+no-factory =
+    record {
+      in-memory = λ load e. check-registered load (sym e) .not-factory;
+      in-files = λ bs r b e g. check-registered (r .load) (file-back bs r b e g .good) .not-factory;
+      in-sheets = λ bs r b e g. check-registered (r .load) (sheet-back bs r b e g .good) .not-factory;
+    }
+
 pub demand2 : Demand2
 demand2 =
     record {
@@ -69,6 +82,7 @@ demand2 =
       read-write = reads-writes;
       write-read = writes-reads;
       sheets = sheet-answers;
+      no-factory = no-factory;
       bounds = BoundOf-good;
       margins-are = MarginsOf-good;
       margins-written = λ load r e g bytes h. h ∙ ap bytesOfMargins (MarginsOf-good load r e g);

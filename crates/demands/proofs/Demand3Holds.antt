@@ -13,7 +13,6 @@ use Rattle.load.specs.declared.Load.{Load}
 use Rattle.load.specs.View.{viewOf}
 use Rattle.load.specs.Check.{checkLoad}
 use Rattle.load.proofs.AcceptableLaws.{check-acceptable}
-use Rattle.load_file.specs.declared.Reading.{Reading}
 use Rattle.load_file.proofs.CallLaws.{ReadLoad-load}
 use Rattle.rules.specs.declared.Slot.{Slot}
 use Rattle.rules.specs.Outcomes.{toldBy}
@@ -87,7 +86,7 @@ demand3 =
     record {
       of-loads = λ load good run. run-kept load (sym good) run;
       of-files = λ bs b r e g run.
-          run-kept (r .load) (rw e (file-back bs b (ap (λ (x : Reading). x .answer) (sym e) ∙ g) .good)) run;
+          run-kept (r .load) (file-back bs r b e g .good) run;
       of-sheets = λ bs b r e g run. run-kept (r .load) (sheet-back bs r b e g .good) run;
       runs-of-files = λ bs b r e g out after w.
           w .output-is ∙ ap (λ load. written (scheduleBytes (schedule (viewOf load))) out) (sym

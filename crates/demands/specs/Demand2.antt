@@ -47,6 +47,7 @@ use Rattle.bench.specs.Held.{stateOf, HeldBench}
 use Rattle.bench.specs.Calls.{NextMove}
 use Rattle.demands.specs.HostAnswers.{HostAnswers}
 use Rattle.demands.specs.SheetAnswers.{SheetAnswers}
+use Rattle.demands.specs.NoFactory.{NoFactory}
 use Rattle.demands.specs.Twins.{Twins}
 
 -- the file of a load that was written into an output: so many bytes from its front
@@ -83,6 +84,8 @@ pub record Demand2 : Type 0 where
       → (r : Reading) → ReadLoad (fileIn load after) r → r ≡ accepted load
   -- and so it is with route sheets
   pub sheets : SheetAnswers
+  -- and nothing that is accepted has the factory identifier (2026-04)
+  pub no-factory : NoFactory
   -- the bound equals document 01's definition
   pub bounds : (load : Load) (r : Bounded) → BoundOf load r → r .answer ≡ Good
       → r .bound ≡ bound (viewOf load)

@@ -18,6 +18,7 @@ pub mod ReturnedAlone
 pub mod Demand1
 pub mod HostAnswers
 pub mod SheetAnswers
+pub mod NoFactory
 pub mod Twins
 pub mod Demand2
 pub mod Demand3
