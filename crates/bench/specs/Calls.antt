@@ -31,8 +31,8 @@ NextMove load bench r = r ≡ nextMove load bench
 abbrev pub Runs : Load → Ran → Type 0
 Runs load r = r ≡ ranWith (forBench load) (scheduleOr load)
 
--- write_run(bytes, out): the file's number, 1 to 8, then 9, or Good with the schedule file of the
--- run in the output
+-- write_run(bytes, out): the file's own numbers, then 9, or Good with the schedule file of the run
+-- in the output
 abbrev pub WriteRun : List ℕ → List ℕ → Checked → List ℕ → Type 0
 WriteRun bs out r after =
     Given (fileForBench bs) (scheduleBytes (schedule (viewOf (loadIn bs)))) out r after

@@ -70,7 +70,7 @@ abbrev pub refusedWith : Bench → Refusal → Moved
 refusedWith bench refusal =
     record { bench = bench; outcome = Refused refusal; lamps = 0; count = 0 }
 
--- one move: the load's 3 to 7 come first, then the move of the rules, with 10 and 11
+-- one move: the load's own numbers come first, then the move of the rules, with 10 and 11
 unfoldable pub nextMove : Load → Bench → Moved
 nextMove load bench =
     elim (forBench load) [

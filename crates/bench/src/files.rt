@@ -18,7 +18,7 @@ use words::overwrite;
 ghost use Rattle.bench.specs.Calls.{WriteRun};
 
 // Reads a load file, runs its load from fresh to Done, and writes the schedule file of the run. A
-// file that is out of order is refused with its number, 1 to 8; then an output that is too short,
+// file that is out of order is refused with its own number; then an output that is too short,
 // with 9. A refusal alters no byte, and bytes past the file stay. The load that was read stands in
 // this function alone, and so do both loops over its rows: handed on it would be copied, which
 // takes more of the stack than a host may have.

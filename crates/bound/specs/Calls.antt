@@ -1,6 +1,6 @@
 -- What each public call's contract says: one relation a call, over what it takes and what it gives.
--- Calls that take a load check it first, 3 to 7; a refusal comes with bound 0, with all margins 0,
--- with the verdict no, with nobody blamed, or with no W. Rests on D84.
+-- Calls that take a load check it first; a refusal comes with bound 0, with all margins 0, with the
+-- verdict no, with nobody blamed, or with no W. Rests on D84.
 use Prim.Native.Nat.{ℕ}
 use mathlib.Core.Bool.{false}
 use mathlib.Core.List.{List}

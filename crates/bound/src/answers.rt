@@ -50,8 +50,8 @@ pub fn load_answers(load: Load, rows: usize, places: [LargestW; MOST_PLACES]) ->
     }
 }
 
-// Gives bound, margins, verdict and blames of a load, or the first of 3 to 7 with 0, margins that
-// are all 0, no, and blames that are all 0 and 0.
+// Gives bound, margins, verdict and blames of a load, or what the load is refused for with 0,
+// margins that are all 0, no, and blames that are all 0 and 0.
 pub fn answers_of(load: Load) -> Answered
     ensures { λ r. ⌜ AnswersOf load r ⌝ }
 {

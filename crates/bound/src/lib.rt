@@ -66,7 +66,7 @@ pub struct Answered {
     pub blames: [Blame; MOST_ROWS],
 }
 
-// Gives the bound of a load, or the first of 3 to 7 with bound 0.
+// Gives the bound of a load, or what the load is refused for with bound 0.
 pub fn bound_of(load: Load) -> Bounded
     ensures { λ r. ⌜ BoundOf load r ⌝ }
 {
@@ -88,8 +88,8 @@ pub fn bound_of(load: Load) -> Bounded
     }
 }
 
-// Gives all margins of a load, those of rows not there 0; or the first of 3 to 7 with margins that
-// are all 0.
+// Gives all margins of a load, those of rows not there 0; or what the load is refused for with
+// margins that are all 0.
 pub fn margins_of(load: Load) -> Margined
     ensures { λ r. ⌜ MarginsOf load r ⌝ }
 {
@@ -112,7 +112,8 @@ pub fn margins_of(load: Load) -> Margined
     }
 }
 
-// Gives the verdict of a load: yes when no margin is negative; or the first of 3 to 7 with no.
+// Gives the verdict of a load: yes when no margin is negative; or what the load is refused for with
+// no.
 pub fn verdict_of(load: Load) -> Judged
     ensures { λ r. ⌜ VerdictOf load r ⌝ }
 {
@@ -135,8 +136,8 @@ pub fn verdict_of(load: Load) -> Judged
 }
 
 // Gives whom each row of a load blames, the place and row with the largest W of its cut load, and
-// the margins beside them, those of rows not there 0; or the first of 3 to 7 with zeros everywhere.
-// No call for C asks for it, so it need not spare the stack as the calls above do.
+// the margins beside them, those of rows not there 0; or what the load is refused for with zeros
+// everywhere. No call for C asks for it, so it need not spare the stack as the calls above do.
 pub fn blames_of(load: Load) -> Blamed
     ensures { λ r. ⌜ BlamesOf load r ⌝ }
 {
@@ -152,7 +153,7 @@ pub fn blames_of(load: Load) -> Blamed
 }
 
 // Gives the largest W of each place of a load, nothing cut, with the lowest row that has it, and 0
-// and 0 where every W is 0; or the first of 3 to 7 with 0 and 0 everywhere.
+// and 0 where every W is 0; or what the load is refused for with 0 and 0 everywhere.
 pub fn place_waits_of(load: Load) -> PlaceWaits
     ensures { λ r. ⌜ PlaceWaitsOf load r ⌝ }
 {

@@ -1,4 +1,4 @@
-// Reading a load file: the load that its bytes spell, or the first refusal, 1 to 8.
+// Reading a load file: the load that its bytes spell, or the first refusal, 1 to 8 or 21.
 mod read;
 mod read_parts;
 mod read_row;

@@ -1,4 +1,4 @@
-// Reading a load file, front to back: the first faulty record decides, with 1 to 8. A refused
+// Reading a load file, front to back: the first faulty record decides, with 1 to 8 or 21. A refused
 // reading gives the all-zero load.
 use crate::Reading;
 use crate::read_parts::check_due;
@@ -133,8 +133,8 @@ fn read_rows(bytes: &[u8], rows: u8) -> Reading
     Reading { answer, load }
 }
 
-// Reads a load file: gives the first refusal that is met, 1 to 8, and the all-zero load, or Good
-// and the load.
+// Reads a load file: gives the first refusal that is met, and the all-zero load, or Good and the
+// load.
 pub fn read_load(bytes: &[u8]) -> Reading
     ensures { λ r. ⌜ ReadLoad (now (bytes .entry)) r ⌝ }
 {

@@ -33,7 +33,7 @@ pub struct RowReading {
     pub row: Row,
 }
 
-// Checks the own fields of row i: 3 in field order, then 4 and 5 against the identifiers and the
+// Checks the own fields of row i: 3 in field order, 21, then 4 and 5 against the identifiers and
 // boxes of the rows before it. The steps and the windows are not asked.
 fn check_own(
     row: Row,
@@ -125,8 +125,8 @@ fn no_row(refusal: Refusal) -> RowReading
     }
 }
 
-// Reads row i at a place, with its steps and then its windows: gives the first refusal of 1 to 7
-// that is met and the row of zeros, or Good and the row.
+// Reads row i at a place, with its steps and then its windows: gives the first refusal that is met
+// and the row of zeros, or Good and the row.
 pub fn read_row(
     bytes: &[u8],
     at: usize,

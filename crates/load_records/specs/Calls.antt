@@ -26,7 +26,7 @@ RowRecordsOf row r = r ≡ recordsHolding (rowBytes (countedRow row))
 abbrev pub FileSize : Load → ℕ → Type 0
 FileSize load r = r ≡ ifGood (checkLoad load) (length (loadBytes load)) 0
 
--- write_load(load, out): 3 to 7, then 9, and the output as it was; or Good, and the file at the
--- output's front
+-- write_load(load, out): the load's own numbers, then 9, and the output as it was; or Good, and the
+-- file at the output's front
 abbrev pub WriteLoad : Load → List ℕ → Checked → List ℕ → Type 0
 WriteLoad load out r after = Given (checkLoad load) (loadBytes load) out r after

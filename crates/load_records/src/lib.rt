@@ -1,5 +1,5 @@
 // The records of a load file: those of a row, and writing a load as its file. A load to be written
-// is refused with 3 to 7 or 9.
+// is refused with its own numbers or 9.
 mod records;
 mod rows;
 mod writing;

@@ -74,8 +74,8 @@ fn write_file(out: &mut [u8], load: Load)
     words::overwrite(out, at, &end);
 }
 
-// Writes a load as its file. Refuses, in this order, a load that its check refuses (3 to 7) and an
-// output that is shorter than the file (9); a refusal alters no byte. Bytes past the file stay.
+// Writes a load as its file. Refuses, in this order, a load that its check refuses and an output
+// that is shorter than the file (9); a refusal alters no byte. Bytes past the file stay.
 pub fn write_load(load: Load, out: &mut [u8]) -> Checked
     ensures { λ r. ⌜ WriteLoad load (now (out .entry)) r (now (out .exit)) ⌝ }
 {

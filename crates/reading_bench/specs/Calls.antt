@@ -23,8 +23,8 @@ pub record Numbered (finding : Checked) (answer out : List ℕ) (r : ℕ) (after
   pub given : Given finding answer out found after
   pub number-is : r ≡ numberGiven found
 
--- what the file is refused for, 1 to 8, then 9, and the output as it was; or 0, and the answer for
--- the load that the bytes spell at the output's front
+-- what the file is refused for, 1 to 8 or 21, then 9, and the output as it was; or 0, and the
+-- answer for the load that the bytes spell at the output's front
 abbrev pub ForC : (View → List ℕ) → List ℕ → List ℕ → ℕ → List ℕ → Type 0
 ForC answer bs out r after = Numbered (fileForBench bs) (answer (viewOf (loadIn bs))) out r after
 

@@ -1,6 +1,7 @@
 // The calls for C. Each is lent the bytes of a load file and an output, and gives one number: what
-// is wrong with the file, 1 to 8; then 9, where the output is shorter than the answer; else 0. A
-// refusal alters no byte, and bytes past the answer stay. A refused file is looked at no further.
+// is wrong with the file, 1 to 8 or 21; then 9, where the output is shorter than the answer; else
+// 0. A refusal alters no byte, and bytes past the answer stay. A refused file is looked at no
+// further.
 use bench::write_run;
 use bound::bound_of;
 use bound::margin_bytes;

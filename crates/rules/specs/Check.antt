@@ -87,6 +87,6 @@ checkSlots L slots =
     ∷ firstFaultTo (slotFault L slots) (length slots)
     ∷ [])
 
--- the schedule check: 3 to 7, then 12, then 13 to 17; it says yes when none is met
+-- the schedule check: the load's own numbers, then 12, then 13 to 17; it says yes when none is met
 unfoldable pub checkSchedule : Load → List Slot → Checked
 checkSchedule load slots = firstFault (checkLoad load ∷ checkSlots (viewOf load) slots ∷ [])

@@ -1,4 +1,4 @@
--- The schedule check says yes exactly when none of 3 to 7 is given and the rules of a schedule hold.
+-- The schedule check says yes exactly when the load is not refused and the rules of a schedule hold.
 use mathlib.Core.List.{List}
 use mathlib.Core.Path.{_≡_, refl}
 use Rattle.refusals.specs.declared.Checked.the-variants.{Good}

@@ -17,7 +17,8 @@ firstSlots slots n = take (min n slotPlaces) slots
 abbrev pub AtMostPlaces : ℕ → ℕ → Type 0
 AtMostPlaces n r = r ≡ min n slotPlaces
 
--- check_schedule(load, slots): the first of 3 to 7, then 12, then slot by slot 13 to 17, or Good
+-- check_schedule(load, slots): the first of the load's own numbers, then 12, then slot by slot 13
+-- to 17, or Good
 abbrev pub CheckSchedule : Load → List Slot → Checked → Type 0
 CheckSchedule load slots r = r ≡ checkSchedule load slots
 

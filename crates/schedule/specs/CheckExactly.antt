@@ -11,7 +11,7 @@ use Rattle.rules.specs.declared.Slot.{Slot}
 use Rattle.rules.specs.Check.{checkSchedule}
 use Rattle.rules.specs.ScheduleRules.{ScheduleRules}
 
--- a load for which none of 3 to 7 is given, and slots that keep the rules
+-- a load that is not refused, and slots that keep the rules
 pub record KeepsRules (load : Load) (slots : List Slot) : Type 0 where
   pub accepted : checkLoad load ≡ Good
   pub rules : ScheduleRules (viewOf load) slots

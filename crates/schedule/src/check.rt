@@ -26,8 +26,8 @@ fn check_at(load: Load, slots: &[Slot], i: usize, seen: Seen) -> Seen
     check_slot(load, seen, slot.row, slot.step, slot.start)
 }
 
-// Checks the slots of a schedule against its load; refuses with the first of 3 to 7, then 12, then
-// slot by slot 13 to 17 that is met.
+// Checks the slots of a schedule against its load; refuses with the first of the load's own
+// numbers, then 12, then slot by slot 13 to 17 that is met.
 pub fn check_schedule(load: Load, slots: &[Slot]) -> Checked
     ensures { λ r. ⌜ CheckSchedule load (now (slots .entry)) r ⌝ }
 {

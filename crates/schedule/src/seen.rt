@@ -33,7 +33,7 @@ fn count_found(load: Load, n: usize) -> Checked
     Checked::Good
 }
 
-// Finds 3 to 7, then 12.
+// Finds the load's own numbers, then 12.
 fn found_first(load: Load, n: usize) -> Checked
     ensures { λ r. ⌜ r ≡ begun load n .found ⌝ }
 {
@@ -44,7 +44,7 @@ fn found_first(load: Load, n: usize) -> Checked
     }
 }
 
-// Begins a check of n slots: 3 to 7 and 12 are found here.
+// Begins a check of n slots: the load's own numbers and 12 are found here.
 pub fn begin(load: Load, n: usize) -> Seen
     ensures { λ r. ⌜ r ≡ begun load n ⌝ }
 {

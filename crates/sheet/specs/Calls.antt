@@ -11,12 +11,12 @@ use Rattle.load_file.specs.declared.Reading.{Reading}
 use Rattle.sheet.specs.Reading.{readSheet}
 use Rattle.sheet.specs.Writing.{sheetBytes}
 
--- read_sheet(bytes): 18 to 20, then 3 to 7, with the all-zero load; or Good with the load that the
--- sheet spells
+-- read_sheet(bytes): 18 to 20, then the load's own numbers, with the all-zero load; or Good with
+-- the load that the sheet spells
 abbrev pub ReadSheet : List ℕ → Reading → Type 0
 ReadSheet bs r = r ≡ readSheet bs
 
--- write_sheet(load, out): 3 to 7, then 9, and the output as it was; or Good, the sheet at the
--- output's front, and its length
+-- write_sheet(load, out): the load's own numbers, then 9, and the output as it was; or Good, the
+-- sheet at the output's front, and its length
 abbrev pub WriteSheet : Load → List ℕ → Written → List ℕ → Type 0
 WriteSheet load out r after = WritesOut (checkLoad load) (sheetBytes load) out r after

@@ -81,8 +81,8 @@ fn read_rows(bytes: &[u8]) -> Reading
     }
 }
 
-// Reads a sheet: gives the first refusal that is met, 18 to 20 and then 3 to 7, and the all-zero
-// load, or Good and the load.
+// Reads a sheet: gives the first refusal that is met, 18 to 20 and then the load's own, and the
+// all-zero load, or Good and the load.
 pub fn read_sheet(bytes: &[u8]) -> Reading
     ensures { λ r. ⌜ ReadSheet (now (bytes .entry)) r ⌝ }
 {

@@ -46,8 +46,8 @@ fn write_rows(out: &mut [u8], load: Load) -> usize
 }
 
 // Writes a load as its sheet at the output's front, and gives the length. Refuses, in this order, a
-// load that its check refuses (3 to 7) and an output that is shorter than the sheet (9); a refusal
-// alters no byte. Bytes past the sheet stay.
+// load that its check refuses and an output that is shorter than the sheet (9); a refusal alters no
+// byte. Bytes past the sheet stay.
 pub fn write_sheet(load: Load, out: &mut [u8]) -> Written
     ensures { λ r. ⌜ WriteSheet load (now (out .entry)) r (now (out .exit)) ⌝ }
 {

@@ -29,7 +29,7 @@ use Rattle.schedule.specs.declared.seen.Seen.{Seen}
 abbrev pub counted : Load → ℕ → Checked
 counted load n = firstMet ((not (eqb n (stepsInAll (viewOf load))), SlotCount) ∷ [])
 
--- before the first slot: 3 to 7, then 12
+-- before the first slot: the load's own numbers, then 12
 unfoldable pub begun : Load → ℕ → Seen
 begun load n =
     record {
