@@ -14,6 +14,7 @@ import sys
 import tempfile
 
 sys.dont_write_bytecode = True
+from factory_mistakes import FACTORY_MISTAKES
 from sheet_mistakes import SHEET_MISTAKES
 
 HERE = os.path.dirname(os.path.dirname(os.path.abspath(__file__)))
@@ -649,7 +650,8 @@ def try_mistake(right_build, name, right, wrong, streams):
 def main():
     streams = read_streams(sys.argv[1:3])
     word = sys.argv[3] if len(sys.argv) > 3 else ""
-    chosen = [line for line in MISTAKES + SHEET_MISTAKES if word in line[0] or word in line[1]]
+    made = MISTAKES + SHEET_MISTAKES + FACTORY_MISTAKES
+    chosen = [line for line in made if word in line[0] or word in line[1]]
     missed = 0
     with tempfile.TemporaryDirectory() as right_build:
         copy_sources(right_build)
