@@ -116,6 +116,19 @@ same 'no shape' '10 refused lamps 0 0' \
 same 'clock full' '11 refused lamps 0 0' \
     "$(echo 1000000 2 15 0 2 9 0 1 5 0 | "$second" move "$work/a" | head -n 1)"
 
+# The factory identifier, alone in a file that is good besides.
+echo '4294967295 201 0 1000000 : 1' | "$second" load > "$work/factory"
+same 'its file' 4c4401015257ffffffffc90000000000000040420f000100535401000000454e0100 \
+    "$(od -An -v -tx1 "$work/factory" | tr -d ' \n')"
+same 'its report' 'refused 21' "$("$second" report < "$work/factory")"
+same 'its blames' 'refused 21' "$("$second" blame < "$work/factory")"
+same 'its terms' 'refused 21' "$("$second" terms < "$work/factory")"
+same 'its answers' 21 "$("$second" answers "$work/factory")"
+same 'its check, with no slot' 21 "$("$second" check "$work/factory" < /dev/null)"
+same 'its move, from no shape' '21 refused lamps 0 0' \
+    "$(echo 1000001 | "$second" move "$work/factory" | head -n 1)"
+fails 'its schedule' "$second" schedule < "$work/factory"
+
 echo '101 201 0 : 1' > "$work/fault"
 fails 'a row without deadline' "$second" load < "$work/fault"
 echo '101 201 0 9 : 65536' > "$work/fault"

@@ -50,6 +50,8 @@ for rows in "$loads"/*; do
     fi
 done
 refused 1 sheet-of-load /dev/null
+echo '4294967295 201 0 1000000 : 1' | "$second" load > "$work/factory"
+refused 21 sheet-of-load "$work/factory"
 { cat "$work/a"; head -c 100000 /dev/zero; } > "$work/long"
 refused 8 sheet-of-load "$work/long"
 sed '1s/,8/,7/' "$work/b.csv" > "$work/limit-7"
