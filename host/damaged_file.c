@@ -94,10 +94,18 @@ static void alter_end_count(struct dice *dice, struct damaged_file *file)
     file->bytes[file->length - 2] = (uint8_t)throw_dice(dice);
 }
 
+static void factory_identifier(struct dice *dice, struct damaged_file *file)
+{
+    size_t at = any_record(dice, file, "RW") + 2;
+    if (at + sizeof(uint32_t) <= file->length)
+        memset(file->bytes + at, UINT8_MAX, sizeof(uint32_t));
+}
+
 typedef void damage(struct dice *dice, struct damaged_file *file);
 
-static damage *const DAMAGES[] = {cut_short,       alter_byte,       append,         alter_mark,
-                                  alter_row_count, alter_part_count, alter_end_count};
+static damage *const DAMAGES[] = {cut_short,       alter_byte,       append,
+                                  alter_mark,      alter_row_count,  alter_part_count,
+                                  alter_end_count, factory_identifier};
 
 enum { DAMAGE_COUNT = sizeof DAMAGES / sizeof *DAMAGES, SPOILED = DAMAGE_COUNT };
 

@@ -52,6 +52,7 @@ static int32_t margin_at(const uint8_t *bytes)
     return word <= INT32_MAX ? (int32_t)word : -(int32_t)(UINT32_MAX - word) - 1;
 }
 
+/* Numbers that no call for C gives have no words. */
 static const char *reason_of(uint32_t number)
 {
     static const char *const reasons[] = {
@@ -64,8 +65,10 @@ static const char *reason_of(uint32_t number)
         [BENCH_LIMIT_BELOW_CHAIN] = "a window's limit is below its chain",
         [BENCH_END_DIFFERS] = "the end count is wrong, or bytes follow",
         [BENCH_OUTPUT_SHORT] = "the output is too short",
+        [BENCH_FACTORY_IDENTIFIER] = "an identifier is 4,294,967,295, which is the factory's",
     };
-    return number < sizeof reasons / sizeof *reasons ? reasons[number] : "no such number";
+    const char *reason = number < sizeof reasons / sizeof *reasons ? reasons[number] : NULL;
+    return reason != NULL ? reason : "no such number";
 }
 
 /* What the file is refused for, or 0 and every answer. */

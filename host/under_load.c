@@ -31,6 +31,24 @@ _Static_assert(BENCH_WINDOW_STEPS == WINDOW_STEPS, "6");
 _Static_assert(BENCH_LIMIT_BELOW_CHAIN == LIMIT_BELOW_CHAIN, "7");
 _Static_assert(BENCH_END_DIFFERS == END_DIFFERS, "8");
 _Static_assert(BENCH_OUTPUT_SHORT == OUTPUT_SHORT, "9");
+_Static_assert(BENCH_FACTORY_IDENTIFIER == FACTORY_IDENTIFIER, "21");
+
+/* The numbers that a call for C gives, 0 first. */
+static const uint32_t NUMBERS[] = {
+    BENCH_GOOD,
+    BENCH_FILE_SHORT,
+    BENCH_MARK_DIFFERS,
+    BENCH_OUT_OF_RANGE,
+    BENCH_IDENTIFIER_TAKEN,
+    BENCH_BOX_TAKEN,
+    BENCH_WINDOW_STEPS,
+    BENCH_LIMIT_BELOW_CHAIN,
+    BENCH_END_DIFFERS,
+    BENCH_OUTPUT_SHORT,
+    BENCH_FACTORY_IDENTIFIER,
+};
+
+enum { NUMBER_COUNT = sizeof NUMBERS / sizeof *NUMBERS };
 
 typedef uint32_t answer_call(const uint8_t *load, size_t load_len, uint8_t *out, size_t out_len);
 
@@ -64,7 +82,7 @@ struct lent_room {
 struct tally {
     uint64_t answers;
     uint64_t altered;
-    uint64_t by_number[BENCH_OUTPUT_SHORT + 1];
+    uint64_t by_number[BENCH_FACTORY_IDENTIFIER + 1];
 };
 
 static void fill(struct dice *dice, uint8_t *bytes, size_t length)
@@ -168,8 +186,8 @@ static int compare_files(struct tally *tally, uint64_t files)
 static bool all_met(const struct tally *tally)
 {
     bool met = true;
-    for (unsigned number = 0; number <= BENCH_OUTPUT_SHORT; number++)
-        met = met && tally->by_number[number] > 0;
+    for (unsigned at = 0; at < NUMBER_COUNT; at++)
+        met = met && tally->by_number[NUMBERS[at]] > 0;
     return met;
 }
 
@@ -184,8 +202,9 @@ int main(int count, char **words)
     int found = compare_files(&tally, files);
     printf("under load: %" PRIu64 " files, %" PRIu64 " answers compared, by number", files,
            tally.answers);
-    for (unsigned number = 0; number <= BENCH_OUTPUT_SHORT; number++)
-        printf(" %" PRIu64, tally.by_number[number]);
-    puts(found == SAME ? ": no difference" : ": a difference");
+    for (unsigned at = 0; at < NUMBER_COUNT; at++)
+        printf("%s %" PRIu32 ": %" PRIu64, at > 0 ? "," : "", NUMBERS[at],
+               tally.by_number[NUMBERS[at]]);
+    puts(found == SAME ? "; no difference" : "; a difference");
     return found == SAME && !all_met(&tally) ? CANNOT : found;
 }
