@@ -2,6 +2,7 @@
 
 #include <stddef.h>
 
+#include "lamps.h"
 #include "plan.h"
 
 const struct progress *progress_of(const struct bench *state, unsigned row)
@@ -128,23 +129,6 @@ static bool find_start(const struct load *load, const struct bench *state, struc
         }
     }
     return false;
-}
-
-static uint32_t lamps_of(const struct load *load, const struct bench *state)
-{
-    uint32_t lamps = 0;
-    for (unsigned row = 1; row <= load->row_count; row++)
-        if (open_window(row_of(load, row), progress_of(state, row)->finished) != NULL)
-            lamps |= UINT32_C(1) << (row - 1);
-    return lamps;
-}
-
-static uint32_t ones_of(uint32_t word)
-{
-    uint32_t ones = 0;
-    for (; word != 0; word >>= 1)
-        ones += word & 1;
-    return ones;
 }
 
 /* A move on a good load and a shaped state; the lamps are added by its caller. */

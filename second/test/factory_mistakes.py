@@ -140,7 +140,7 @@ FACTORY_MISTAKES = [
     ("factory: not asked in a file", "load_file.c",
      "    return check_row_record(load, row);",
      "    refusal = check_row_record(load, row);\n" + PASSED + "    return refusal;"),
-    ("factory: 9 before it, in a load's room", "load_file.c",
+    ("factory: 9 before it, in a load's room", "load_writing.c",
      CHECK,
      CHECK +
      "    if (refusal == FACTORY_IDENTIFIER && room < load_bytes(load))\n"
@@ -165,7 +165,7 @@ FACTORY_MISTAKES = [
      "    if (refusal == ACCEPTED && !is_shaped",
      PASSED + "    if (refusal == ACCEPTED && !is_shaped"),
     ("factory: a list is checked with it", "schedule.c", CHECK, CHECK + PASSED),
-    ("factory: a file is written with it", "load_file.c", CHECK, CHECK + PASSED),
+    ("factory: a file is written with it", "load_writing.c", CHECK, CHECK + PASSED),
     ("factory: a sheet is written with it", "sheet.c", CHECK, CHECK + PASSED),
     ("factory: bounds with it", "bound.c",
      *passed_by("enum refusal row_bounds_of(const struct load *load, uint32_t bounds[MOST_ROWS])")),

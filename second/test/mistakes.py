@@ -18,8 +18,8 @@ from factory_mistakes import FACTORY_MISTAKES
 from sheet_mistakes import SHEET_MISTAKES
 
 HERE = os.path.dirname(os.path.dirname(os.path.abspath(__file__)))
-PARTS = ("load load_file sheet_line sheet waits bound plan bench schedule report notation lent"
-         " values conversion asked answered file_trials trials calls second")
+PARTS = ("load load_file load_writing sheet_line sheet waits bound plan lamps bench schedule report"
+         " notation lent values conversion asked answered file_trials trials calls second")
 MOST_SECONDS = 10
 PART_BYTES = 1 << 16
 
@@ -230,7 +230,7 @@ MISTAKES = [
     ("planned at the candidate's start", "bench.c",
      "struct bench at_end = with_step(load, *state, slot);",
      "struct bench at_end = *state;"),
-    ("lamps of row 1 at bit 1", "bench.c", "UINT32_C(1) << (row - 1)", "UINT32_C(1) << row"),
+    ("lamps of row 1 at bit 1", "lamps.c", "UINT32_C(1) << (row - 1)", "UINT32_C(1) << row"),
     ("one lamp counted", "bench.c",
      "move.lamp_count = ones_of(move.lamps);",
      "move.lamp_count = move.lamps != 0;"),
@@ -399,26 +399,26 @@ MISTAKES = [
     ("the load not asked by the check", "schedule.c",
      "enum refusal refusal = check_load(load);",
      "enum refusal refusal = ACCEPTED;"),
-    ("the room asked before the load", "load_file.c",
+    ("the room asked before the load", "load_writing.c",
      "enum refusal refusal = check_load(load);",
      "enum refusal refusal = load->row_count <= MOST_ROWS && room < load_bytes(load)\n"
      "        ? OUTPUT_SHORT : check_load(load);"),
-    ("no room asked before the load", "load_file.c",
+    ("no room asked before the load", "load_writing.c",
      "enum refusal refusal = check_load(load);",
      "enum refusal refusal = room == 0 ? OUTPUT_SHORT : check_load(load);"),
-    ("a load's exact room is short", "load_file.c",
+    ("a load's exact room is short", "load_writing.c",
      "room < load_bytes(load)",
      "room <= load_bytes(load) && room < MOST_LOAD_BYTES"),
-    ("a room one short is enough for a load", "load_file.c",
+    ("a room one short is enough for a load", "load_writing.c",
      "room < load_bytes(load)",
      "room + 1 < load_bytes(load)"),
-    ("room for the largest load is asked", "load_file.c",
+    ("room for the largest load is asked", "load_writing.c",
      "room < load_bytes(load)",
      "room < MOST_LOAD_BYTES"),
-    ("bytes past a load's file set to 0", "load_file.c",
+    ("bytes past a load's file set to 0", "load_writing.c",
      "    *written = load_bytes(load);\n",
      "    *written = load_bytes(load);\n    memset(bytes + *written, 0, room - *written);\n"),
-    ("a load's file at the room's end", "load_file.c",
+    ("a load's file at the room's end", "load_writing.c",
      "    put_load(bytes, load);\n",
      "    put_load(bytes + room - load_bytes(load), load);\n"),
     ("the room asked before 193 slots", "schedule.c",

@@ -4,12 +4,10 @@
    where SIZES takes the first so many sizes of load alone, the quick ones. */
 #include <stdio.h>
 #include <stdlib.h>
-#include <string.h>
 
 #include "blame_fault.h"
 #include "bound.h"
-#include "load_file.h"
-#include "random_load.h"
+#include "file_fault.h"
 #include "schedule.h"
 
 enum { DEFAULT_COUNT = 600, DEFAULT_SEED = 1, PERTURBED = 20 };
@@ -92,56 +90,6 @@ static bool moves_are_the_run(const struct load *load)
     return count == run.slot_count || fails(load, "starts", run.slot_count, count);
 }
 
-/* Writing and reading give the load again, byte for byte. */
-static bool reads_as_written(const struct load *load)
-{
-    uint8_t bytes[MOST_LOAD_BYTES], again[MOST_LOAD_BYTES];
-    size_t length = 0, length_again = 0;
-    struct load read;
-    enum refusal refusal = write_load(load, bytes, sizeof bytes, &length);
-    if (refusal == ACCEPTED)
-        refusal = read_load(bytes, length, &read);
-    if (refusal == ACCEPTED)
-        refusal = write_load(&read, again, sizeof again, &length_again);
-    if (refusal != ACCEPTED || length != length_again || memcmp(bytes, again, length) != 0)
-        return fails(load, "read as written", ACCEPTED, refusal);
-    return true;
-}
-
-/* A file and a load in memory put the same questions in the same order. */
-static bool file_is_refused_as_load(struct dice *dice, const struct load *load)
-{
-    struct load spoiled = *load, read;
-    uint8_t bytes[MOST_LOAD_BYTES];
-    for (unsigned times = 0; times < PERTURBED; times++) {
-        spoil(dice, &spoiled);
-        size_t length = (size_t)(put_load(bytes, &spoiled) - bytes);
-        enum refusal by_file = read_load(bytes, length, &read);
-        enum refusal by_load = check_load(&spoiled);
-        if (by_file != by_load)
-            return fails(&spoiled, "file refused as the load is", by_load, by_file);
-    }
-    return true;
-}
-
-/* Any bytes are read to an end; the sanitized build watches the places. */
-static bool any_bytes_are_read(struct dice *dice, const struct load *load)
-{
-    struct load read;
-    uint8_t bytes[MOST_LOAD_BYTES];
-    size_t length = (size_t)(put_load(bytes, load) - bytes);
-    for (unsigned times = 0; times < PERTURBED; times++) {
-        size_t spoiled = throw_dice(dice) % length;
-        bytes[spoiled] = (uint8_t)throw_dice(dice);
-        size_t part = times % 2 ? length : throw_dice(dice) % length;
-        enum refusal refusal = read_load(bytes, part, &read);
-        if ((refusal > END_DIFFERS && refusal != FACTORY_IDENTIFIER)
-            || (refusal == ACCEPTED && check_load(&read) != ACCEPTED))
-            return fails(load, "any bytes", ACCEPTED, refusal);
-    }
-    return true;
-}
-
 /* From any state: a shaped one moves on to a shaped one unless the clock is full, and any other
    is handed back. */
 static bool any_state_is_moved(struct dice *dice, const struct load *load)
@@ -160,9 +108,8 @@ static bool any_state_is_moved(struct dice *dice, const struct load *load)
     return true;
 }
 
-static bool blames_rightly(const struct load *load)
+static bool has_no_fault(const struct load *load, const char *fault)
 {
-    const char *fault = blame_fault(load);
     return fault == NULL || fails(load, fault, 0, 1);
 }
 
@@ -188,9 +135,9 @@ int main(int count, char **words)
         set_deadlines(&dice, &load, bounds);
         verdict_of(&load, &verdict);
         yes += verdict;
-        if (!keeps_demands(&load) || !moves_are_the_run(&load) || !reads_as_written(&load)
-            || !file_is_refused_as_load(&dice, &load) || !any_bytes_are_read(&dice, &load)
-            || !any_state_is_moved(&dice, &load) || !blames_rightly(&load))
+        if (!keeps_demands(&load) || !moves_are_the_run(&load)
+            || !has_no_fault(&load, file_fault(&dice, &load)) || !any_state_is_moved(&dice, &load)
+            || !has_no_fault(&load, blame_fault(&load)))
             return 1;
     }
     printf("trial: %lu random loads, %lu of them with verdict yes, no counterexample\n", loads,
