@@ -8,7 +8,8 @@ enum {
     PROGRESS_BYTES = 9,
     ASKED_STATE_BYTES = 4 + MOST_ROWS * PROGRESS_BYTES,
     ASKED_SLOT_BYTES = 6,
-    ASKED_ROW_BYTES = 18 + 4 * MOST_STEPS + 4 * MOST_WINDOWS,
+    ASKED_FIELDS_BYTES = 20,
+    ASKED_ROW_BYTES = ASKED_FIELDS_BYTES + 4 * MOST_STEPS + 4 * MOST_WINDOWS,
     ASKED_LOAD_BYTES = 1 + MOST_ROWS * ASKED_ROW_BYTES
 };
 
@@ -74,8 +75,8 @@ bool take_asked_state(FILE *questions, struct bench *state)
 static struct row row_in(const uint8_t *at)
 {
     struct row row = {{get_4(at)}, {get_4(at + 4)}, get_4(at + 8), get_4(at + 12), at[16], at[17],
-                      {{0, 0}}, {{0, 0, 0}}};
-    at += 18;
+                      at[18], at[19], {{0, 0}}, {{0, 0, 0}}};
+    at += ASKED_FIELDS_BYTES;
     for (unsigned step = 1; step <= MOST_STEPS; step++, at += 4)
         row.steps[step - 1] = (struct step){get_2(at), get_2(at + 2)};
     for (unsigned window = 1; window <= MOST_WINDOWS; window++, at += 4)

@@ -71,7 +71,9 @@ static bool are_row_numbers_in_range(const struct row *row)
         && row->phase <= MOST_PHASE
         && row->deadline >= 1 && row->deadline <= MOST_DEADLINE
         && row->step_count >= 1 && row->step_count <= MOST_STEPS
-        && row->window_count <= MOST_WINDOWS;
+        && row->window_count <= MOST_WINDOWS
+        && row->class <= MOST_CLASS
+        && row->head == ONLY_HEAD;
 }
 
 static bool is_identifier_taken(const struct load *load, unsigned row)
@@ -180,6 +182,7 @@ static bool is_row_unused(const struct row *row)
     return row->identifier.number == 0 && row->box.number == 0
         && row->phase == 0 && row->deadline == 0
         && row->step_count == 0 && row->window_count == 0
+        && row->class == 0 && row->head == 0
         && check_steps(row) == ACCEPTED && check_windows(row) == ACCEPTED;
 }
 

@@ -17,6 +17,8 @@ enum {
     MOST_DEADLINE = 1000000,
     MOST_COST = 600,
     MOST_WAIT = 3600,
+    MOST_CLASS = 3,
+    ONLY_HEAD = 1,
     LAST_MOMENT = 1000000
 };
 
@@ -44,6 +46,8 @@ struct window {
     uint16_t limit;
 };
 
+/* Class and head are those of 2026-05: the higher class goes first among equals, and there is one
+   reader head so far. */
 struct row {
     struct identifier identifier;
     struct box box;
@@ -51,6 +55,8 @@ struct row {
     uint32_t deadline;
     uint8_t step_count;
     uint8_t window_count;
+    uint8_t class;
+    uint8_t head;
     struct step steps[MOST_STEPS];
     struct window windows[MOST_WINDOWS];
 };

@@ -53,6 +53,8 @@ static enum refusal read_row_record(struct reader *reader, struct load *load, un
     place->deadline = get_4(fields + 12);
     place->step_count = fields[16];
     place->window_count = fields[17];
+    place->class = 0;
+    place->head = ONLY_HEAD;
     return check_row_record(load, row);
 }
 

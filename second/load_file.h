@@ -1,5 +1,5 @@
-/* Load files: bytes to a load or a number (1 to 8 or 21), and a load to bytes (3 to 7 or 21,
-   then 9). */
+/* Load files: bytes to a load or a number (1 to 8 or 21), and a load to bytes (3 to 7 or 21, then
+   22, then 9). A file has no class and no head: its rows are read as class 0 and head 1. */
 #ifndef LOAD_FILE_H
 #define LOAD_FILE_H
 

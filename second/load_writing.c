@@ -4,6 +4,7 @@
 
 #include "little_endian.h"
 #include "load_marks.h"
+#include "plain.h"
 
 size_t load_bytes(const struct load *load)
 {
@@ -17,7 +18,7 @@ size_t load_bytes(const struct load *load)
 enum refusal write_load(const struct load *load, uint8_t *bytes, size_t room, size_t *written)
 {
     *written = 0;
-    enum refusal refusal = check_load(load);
+    enum refusal refusal = check_plain(load);
     if (refusal != ACCEPTED)
         return refusal;
     if (room < load_bytes(load))

@@ -25,7 +25,8 @@ enum refusal {
     LINE_MALFORMED = 18,
     ROW_DIFFERS = 19,
     WINDOW_ALONE = 20,
-    FACTORY_IDENTIFIER = 21
+    FACTORY_IDENTIFIER = 21,
+    NOT_CARRIED = 22
 };
 
 #endif

@@ -3,6 +3,7 @@
 #include <stdio.h>
 #include <string.h>
 
+#include "plain.h"
 #include "sheet_line.h"
 
 /* What stands before the first line and after the last: its identifier is that of no line, since
@@ -51,12 +52,15 @@ static uint32_t held(uint64_t number, uint32_t most, uint32_t out_of_range)
     return number <= most ? (uint32_t)number : out_of_range;
 }
 
+/* A sheet has no class and no head: a row is of class 0, and read by the one head. */
 static void begin_row(struct row *row, const struct line *line)
 {
     row->identifier.number = held(line->identifier, UINT32_MAX, 0);
     row->box.number = held(line->box, UINT32_MAX, 0);
     row->phase = held(line->phase, UINT32_MAX, UINT32_MAX);
     row->deadline = held(line->deadline, UINT32_MAX, 0);
+    row->class = 0;
+    row->head = ONLY_HEAD;
 }
 
 static void add_mark(struct row *row, const struct line *line)
@@ -166,7 +170,7 @@ enum refusal write_sheet(const struct load *load, uint8_t *bytes, size_t room, s
 {
     uint8_t sheet[MOST_SHEET_BYTES + 1];
     *written = 0;
-    enum refusal refusal = check_load(load);
+    enum refusal refusal = check_plain(load);
     if (refusal != ACCEPTED)
         return refusal;
     size_t length = (size_t)(put_sheet(sheet, load) - sheet);

@@ -1,5 +1,6 @@
 /* Route sheets (2026-02): a load as comma-separated lines, one a step, read (18, 19, 20, then 3 for
-   too many rows, then 3, 21, 4, 5, 7) and written (3 to 7 or 21, then 9).
+   too many rows, then 3, 21, 4, 5, 7) and written (3 to 7 or 21, then 22, then 9). A sheet has no
+   class and no head: its rows are read as class 0 and head 1.
 
    A line is IDENTIFIER,BOX,PHASE,DEADLINE,COST,WAIT,LIMIT and CR LF. The limit stands on a window's
    first step, `-` on its other steps, nothing elsewhere. Load B:

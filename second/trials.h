@@ -23,8 +23,8 @@
                                         `refused N` for a refused file; else `check N`, 0 for yes
    D  a load as in W, count and slots as in C
                                         `check N`, N being the load's number where it is faulty
-   W  rows (1), 24 x [identifier (4) box (4) phase (4) deadline (4) steps (1) windows (1),
-      8 x (cost (2) wait (2)), 4 x (first (1) last (1) limit (2))]
+   W  rows (1), 24 x [identifier (4) box (4) phase (4) deadline (4) steps (1) windows (1)
+      class (1) head (1), 8 x (cost (2) wait (2)), 4 x (first (1) last (1) limit (2))]
                                         `load N`, and where N is 0 the written file in hex
    w  room (2), a load as in W          `load N`, and where N is 0 all the room's bytes in hex
    S  count (2), slots as in C          `schedule N`, and where N is 0 the file in hex

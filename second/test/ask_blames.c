@@ -22,7 +22,7 @@ static void ask_blame_of(struct asking *asking, const struct load *load)
 static struct row close_row(struct dice *dice, unsigned number, unsigned steps, unsigned rows)
 {
     struct row row = {.identifier = {1000 - number}, .box = {number}, .deadline = MOST_DEADLINE,
-                      .step_count = (uint8_t)steps};
+                      .step_count = (uint8_t)steps, .head = ONLY_HEAD};
     for (unsigned step = 1; step <= steps; step++) {
         uint32_t wait = step < steps ? between(dice, rows - 1, rows + 2) : 0;
         row.steps[step - 1] = (struct step){(uint16_t)between(dice, 1, 2), (uint16_t)wait};

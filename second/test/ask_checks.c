@@ -88,8 +88,8 @@ static void ask_some_alterations(struct asking *asking, const struct load *load)
 /* One row 1 w0 1, and one row 1, at the last moments. */
 static void ask_last_starts(struct asking *asking)
 {
-    struct load two = {1, {{{1}, {1}, 0, LAST_MOMENT, 2, 0, {{1, 0}, {1, 0}}, {{0, 0, 0}}}}};
-    struct load one = {1, {{{1}, {1}, 0, LAST_MOMENT, 1, 0, {{1, 0}}, {{0, 0, 0}}}}};
+    struct load two = {1, {{{1}, {1}, 0, LAST_MOMENT, 2, 0, 0, 1, {{1, 0}, {1, 0}}, {{0, 0, 0}}}}};
+    struct load one = {1, {{{1}, {1}, 0, LAST_MOMENT, 1, 0, 0, 1, {{1, 0}}, {{0, 0, 0}}}}};
     for (uint32_t start = LAST_MOMENT - 3; start <= LAST_MOMENT + 1; start++) {
         struct asked_slots list = {1, {{1, 1, start}}};
         ask_check_of(asking, &one, &list);

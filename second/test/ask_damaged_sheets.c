@@ -27,8 +27,8 @@ static const char *const NUMBERS[FIELDS][MOST_NUMBERS] = {
 
 /* 3 w1 2 w2 1 (window 1 to 2) and 1 w4 2 w0 1 (window 2 to 3). */
 static const struct load TWO_ROWS = {2, {
-    {{101}, {201}, 7, 90, 3, 1, {{3, 1}, {2, 2}, {1, 0}}, {{1, 2, 8}}},
-    {{102}, {202}, 0, 90, 3, 1, {{1, 4}, {2, 0}, {1, 0}}, {{2, 3, 5}}},
+    {{101}, {201}, 7, 90, 3, 1, 0, 1, {{3, 1}, {2, 2}, {1, 0}}, {{1, 2, 8}}},
+    {{102}, {202}, 0, 90, 3, 1, 0, 1, {{1, 4}, {2, 0}, {1, 0}}, {{2, 3, 5}}},
 }};
 
 /* On one line of a row, and on all of them. */

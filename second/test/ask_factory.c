@@ -5,14 +5,14 @@
 
 /* One row of one step. */
 static const struct load ONE_ROW = {1, {
-    {{UINT32_MAX}, {201}, 0, MOST_DEADLINE, 1, 0, {{1, 0}}, {{0, 0, 0}}},
+    {{UINT32_MAX}, {201}, 0, MOST_DEADLINE, 1, 0, 0, 1, {{1, 0}}, {{0, 0, 0}}},
 }};
 
 /* 2 w4 2 (window 1 to 2) / 3 / 2 w1 1 (window 1 to 2): row 2 has it. */
 static const struct load THREE_ROWS = {3, {
-    {{101}, {201}, 0, MOST_DEADLINE, 2, 1, {{2, 4}, {2, 0}}, {{1, 2, 8}}},
-    {{UINT32_MAX}, {202}, 0, MOST_DEADLINE, 1, 0, {{3, 0}}, {{0, 0, 0}}},
-    {{103}, {203}, 0, MOST_DEADLINE, 2, 1, {{2, 1}, {1, 0}}, {{1, 2, 6}}},
+    {{101}, {201}, 0, MOST_DEADLINE, 2, 1, 0, 1, {{2, 4}, {2, 0}}, {{1, 2, 8}}},
+    {{UINT32_MAX}, {202}, 0, MOST_DEADLINE, 1, 0, 0, 1, {{3, 0}}, {{0, 0, 0}}},
+    {{103}, {203}, 0, MOST_DEADLINE, 2, 1, 0, 1, {{2, 1}, {1, 0}}, {{1, 2, 6}}},
 }};
 
 /* Each line alters a load, a, b and c being its rows. */

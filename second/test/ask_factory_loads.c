@@ -6,8 +6,8 @@ enum { FEW = 9 };
 
 /* 2 w4 2 (window 1 to 2) / 2 w1 1 (window 1 to 2): row 2 has it. */
 static const struct load TWO_ROWS = {2, {
-    {{101}, {201}, 0, 99, 2, 1, {{2, 4}, {2, 0}}, {{1, 2, 8}}},
-    {{UINT32_MAX}, {202}, 0, 99, 2, 1, {{2, 1}, {1, 0}}, {{1, 2, 6}}},
+    {{101}, {201}, 0, 99, 2, 1, 0, 1, {{2, 4}, {2, 0}}, {{1, 2, 8}}},
+    {{UINT32_MAX}, {202}, 0, 99, 2, 1, 0, 1, {{2, 1}, {1, 0}}, {{1, 2, 6}}},
 }};
 
 /* Each line alters a load, a being its row 1, b its row 2 and z its row 24. */

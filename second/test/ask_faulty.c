@@ -17,8 +17,8 @@ struct lent {
 static struct lent sound_lent(void)
 {
     struct lent lent = {.load = {2, {
-        {{3}, {4}, 2, 99, 3, 1, {{2, 1}, {1, 3}, {2, 0}}, {{1, 2, 9}}},
-        {{5}, {6}, 0, 99, 4, 2, {{1, 2}, {2, 0}, {1, 1}, {3, 0}}, {{1, 2, 20}, {3, 4, 20}}},
+        {{3}, {4}, 2, 99, 3, 1, 0, 1, {{2, 1}, {1, 3}, {2, 0}}, {{1, 2, 9}}},
+        {{5}, {6}, 0, 99, 4, 2, 0, 1, {{1, 2}, {2, 0}, {1, 1}, {3, 0}}, {{1, 2, 20}, {3, 4, 20}}},
     }}};
     for (unsigned played = 0; played < PLAYED; played++)
         lent.state = move_of(&lent.load, lent.state).state;

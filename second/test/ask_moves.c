@@ -31,7 +31,7 @@ static void ask_lamps(struct asking *asking)
     struct load load = {.row_count = MOST_ROWS};
     struct bench state = {.clock = 24};
     for (unsigned row = 1; row <= MOST_ROWS; row++)
-        load.rows[row - 1] = (struct row){{row}, {row}, 0, 999, 2, 1, {{1, 30}, {1, 0}},
+        load.rows[row - 1] = (struct row){{row}, {row}, 0, 999, 2, 1, 0, 1, {{1, 30}, {1, 0}},
                                           {{1, 2, UINT16_MAX}}};
     struct move move = {0};
     for (unsigned played = 0; played < 40; played++) {

@@ -20,7 +20,7 @@ static struct load late_load(void)
 {
     struct load load = {.row_count = MOST_ROWS};
     for (unsigned row = 1; row <= MOST_ROWS; row++) {
-        struct row late = {{row}, {row}, MOST_PHASE, 1, MOST_STEPS, 1, {{0, 0}},
+        struct row late = {{row}, {row}, MOST_PHASE, 1, MOST_STEPS, 1, 0, 1, {{0, 0}},
                            {{1, MOST_STEPS, UINT16_MAX}}};
         for (unsigned step = 1; step <= MOST_STEPS; step++)
             late.steps[step - 1] = (struct step){MOST_COST, step < MOST_STEPS ? MOST_WAIT : 0};
@@ -32,7 +32,7 @@ static struct load late_load(void)
 /* And the largest one. */
 static struct load early_load(void)
 {
-    return (struct load){1, {{{1}, {1}, 0, MOST_DEADLINE, 1, 0, {{1, 0}}, {{0, 0, 0}}}}};
+    return (struct load){1, {{{1}, {1}, 0, MOST_DEADLINE, 1, 0, 0, 1, {{1, 0}}, {{0, 0, 0}}}}};
 }
 
 static void ask_sound_places(struct asking *asking)

@@ -64,8 +64,8 @@ static void ask_every_shape(struct asking *asking, const struct load *load,
 void ask_shapes(struct asking *asking)
 {
     struct load load = {2, {
-        {{3}, {4}, 0, 99, 2, 1, {{2, 4}, {2, 0}}, {{1, 2, 20}}},
-        {{5}, {6}, 0, 99, 2, 0, {{3, 1}, {1, 0}}, {{0, 0, 0}}},
+        {{3}, {4}, 0, 99, 2, 1, 0, 1, {{2, 4}, {2, 0}}, {{1, 2, 20}}},
+        {{5}, {6}, 0, 99, 2, 0, 0, 1, {{3, 1}, {1, 0}}, {{0, 0, 0}}},
     }};
     struct bench state = {10, {{1, 6, 4}, {1, 9, 0}}};
     ask_every_shape(asking, &load, &state);
@@ -99,8 +99,8 @@ void ask_full_clocks(struct asking *asking)
     for (unsigned place = 0; place < share_of(asking, 4); place++) {
         uint16_t cost = costs[place];
         struct load load = {2, {
-            {{3}, {4}, 0, 9, 2, 1, {{2, 0}, {cost, 0}}, {{1, 2, 700}}},
-            {{5}, {6}, 86400, 9, 2, 1, {{cost, 1}, {2, 0}}, {{1, 2, 700}}},
+            {{3}, {4}, 0, 9, 2, 1, 0, 1, {{2, 0}, {cost, 0}}, {{1, 2, 700}}},
+            {{5}, {6}, 86400, 9, 2, 1, 0, 1, {{cost, 1}, {2, 0}}, {{1, 2, 700}}},
         }};
         struct bench all = {LAST_MOMENT, {{2, LAST_MOMENT, 0}, {2, LAST_MOMENT, 0}}};
         for (uint32_t clock = LAST_MOMENT - cost - 2; clock <= LAST_MOMENT - cost + 1u; clock++)

@@ -76,7 +76,7 @@ static struct load largest_load(uint32_t deadline)
     struct load load = {.row_count = MOST_ROWS};
     for (unsigned row = 1; row <= MOST_ROWS; row++) {
         struct row *place = &load.rows[row - 1];
-        *place = (struct row){{UINT32_MAX - row}, {row}, MOST_PHASE, deadline, MOST_STEPS, 1,
+        *place = (struct row){{UINT32_MAX - row}, {row}, MOST_PHASE, deadline, MOST_STEPS, 1, 0, 1,
                               {{0, 0}}, {{1, MOST_STEPS, UINT16_MAX}}};
         for (unsigned step = 1; step <= MOST_STEPS; step++)
             place->steps[step - 1]
@@ -96,7 +96,7 @@ static void ask_margin(struct asking *asking, struct load load, uint32_t deadlin
 /* Margins at -806,399 and 999,999, and at 1, 0, -1. */
 static void ask_margins(struct asking *asking)
 {
-    struct load least = {1, {{{1}, {1}, 0, 1, 1, 0, {{1, 0}}, {{0, 0, 0}}}}};
+    struct load least = {1, {{{1}, {1}, 0, 1, 1, 0, 0, 1, {{1, 0}}, {{0, 0, 0}}}}};
     ask_margin(asking, largest_load(1), 1);
     ask_margin(asking, least, MOST_DEADLINE);
     for (unsigned times = 0; times < 24; times++) {

@@ -70,7 +70,7 @@ static void ask_every_limit(struct asking *asking)
 /* Two windows over four steps, at all firsts and lasts from 0 to 5; the limits pass every chain. */
 static void ask_window_steps(struct asking *asking)
 {
-    struct load load = {1, {{{7}, {8}, 0, 1000000, 4, 2,
+    struct load load = {1, {{{7}, {8}, 0, 1000000, 4, 2, 0, 1,
                              {{1, 2}, {3, 4}, {5, 6}, {7, 0}}, {{1, 2, 99}, {3, 4, 99}}}}};
     for (unsigned code = 0; code < 36; code++) {
         struct load changed = load;
@@ -87,7 +87,7 @@ static void ask_window_steps(struct asking *asking)
 /* The largest chain there is fits its limit, and so does the largest limit. */
 static void ask_largest_chain(struct asking *asking)
 {
-    struct load load = {1, {{{1}, {1}, 0, 1000000, 8, 1,
+    struct load load = {1, {{{1}, {1}, 0, 1000000, 8, 1, 0, 1,
                              {{600, 3600}, {600, 3600}, {600, 3600}, {600, 3600},
                               {600, 3600}, {600, 3600}, {600, 3600}, {600, 0}},
                              {{1, 8, 29999}}}}};

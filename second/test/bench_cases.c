@@ -72,11 +72,11 @@ static long run_start(struct load load, unsigned place)
 static void mistake_cases(struct tally *tally)
 {
     struct load unreleased = {2, {
-        {{101}, {201}, 0, 1000000, 2, 0, {{1, 0}, {1, 0}}, {{0, 0, 0}}},
-        {{102}, {202}, 10, 1000000, 1, 0, {{1, 0}}, {{0, 0, 0}}},
+        {{101}, {201}, 0, 1000000, 2, 0, 0, 1, {{1, 0}, {1, 0}}, {{0, 0, 0}}},
+        {{102}, {202}, 10, 1000000, 1, 0, 0, 1, {{1, 0}}, {{0, 0, 0}}},
     }};
     same(tally, "step 2 stays until row 2 is released", 11, run_start(unreleased, 2));
-    struct load waits = {1, {{{101}, {201}, 0, 9, 2, 0, {{3, 4}, {1, 0}}, {{0, 0, 0}}}}};
+    struct load waits = {1, {{{101}, {201}, 0, 9, 2, 0, 0, 1, {{3, 4}, {1, 0}}, {{0, 0, 0}}}}};
     same(tally, "a wait counts from the end", 7, run_start(waits, 1));
     struct load exchanged = load_b();
     exchanged.rows[0].identifier.number = 203;
@@ -88,8 +88,8 @@ static void mistake_cases(struct tally *tally)
 static void stack_cases(struct tally *tally)
 {
     struct load load = {2, {
-        {{101}, {201}, 0, 1000000, 2, 1, {{1, 10}, {1, 0}}, {{1, 2, 20}}},
-        {{102}, {202}, 0, 1000000, 2, 1, {{1, 1}, {1, 0}}, {{1, 2, 4}}},
+        {{101}, {201}, 0, 1000000, 2, 1, 0, 1, {{1, 10}, {1, 0}}, {{1, 2, 20}}},
+        {{102}, {202}, 0, 1000000, 2, 1, 0, 1, {{1, 1}, {1, 0}}, {{1, 2, 4}}},
     }};
     same(tally, "row 2 opens within row 1's window", 1, run_start(load, 1));
     same(tally, "row 2 ends first", 3, run_start(load, 2));
@@ -103,9 +103,9 @@ static void stack_cases(struct tally *tally)
 static void tie_cases(struct tally *tally)
 {
     struct load load = {3, {
-        {{101}, {201}, 0, 1000000, 2, 1, {{1, 4}, {1, 0}}, {{1, 2, 6}}},
-        {{102}, {202}, 0, 1000000, 2, 1, {{1, 1}, {1, 0}}, {{1, 2, 6}}},
-        {{103}, {203}, 0, 1000000, 1, 0, {{1, 0}}, {{0, 0, 0}}},
+        {{101}, {201}, 0, 1000000, 2, 1, 0, 1, {{1, 4}, {1, 0}}, {{1, 2, 6}}},
+        {{102}, {202}, 0, 1000000, 2, 1, 0, 1, {{1, 1}, {1, 0}}, {{1, 2, 6}}},
+        {{103}, {203}, 0, 1000000, 1, 0, 0, 1, {{1, 0}}, {{0, 0, 0}}},
     }};
     struct bench state = {1, {{1, 1, 0}, {1, 1, 0}}};
     same(tally, "row 3 is not passed", IDLE, move_of(&load, state).outcome);
@@ -117,8 +117,8 @@ static void tie_cases(struct tally *tally)
 static void order_cases(struct tally *tally)
 {
     struct load load = {2, {
-        {{101}, {201}, 0, 1000000, 2, 1, {{1, 0}, {1, 0}}, {{1, 2, 9}}},
-        {{102}, {202}, 0, 1000000, 1, 0, {{1, 0}}, {{0, 0, 0}}},
+        {{101}, {201}, 0, 1000000, 2, 1, 0, 1, {{1, 0}, {1, 0}}, {{1, 2, 9}}},
+        {{102}, {202}, 0, 1000000, 1, 0, 0, 1, {{1, 0}}, {{0, 0, 0}}},
     }};
     struct move move = move_of(&load, (struct bench){1, {{1, 1, 0}}});
     same(tally, "by step number, then row", 2, move.slot.row);
@@ -129,9 +129,9 @@ static void order_cases(struct tally *tally)
 static unsigned starts_at_2(uint16_t limit_1, uint16_t wait_2, uint16_t limit_2)
 {
     struct load load = {3, {
-        {{101}, {201}, 0, 1000000, 2, 1, {{1, 0}, {5, 0}}, {{1, 2, limit_1}}},
-        {{102}, {202}, 0, 1000000, 2, 1, {{1, wait_2}, {2, 0}}, {{1, 2, limit_2}}},
-        {{103}, {203}, 0, 1000000, 1, 0, {{1, 0}}, {{0, 0, 0}}},
+        {{101}, {201}, 0, 1000000, 2, 1, 0, 1, {{1, 0}, {5, 0}}, {{1, 2, limit_1}}},
+        {{102}, {202}, 0, 1000000, 2, 1, 0, 1, {{1, wait_2}, {2, 0}}, {{1, 2, limit_2}}},
+        {{103}, {203}, 0, 1000000, 1, 0, 0, 1, {{1, 0}}, {{0, 0, 0}}},
     }};
     return move_of(&load, (struct bench){2, {{1, 1, 0}, {1, 2, 1}}}).slot.row;
 }

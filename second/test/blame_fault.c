@@ -80,7 +80,7 @@ static bool are_blames_below_the_cut(const struct load *load, const struct blame
     return true;
 }
 
-/* Other identifiers and boxes, phases and deadlines: nothing of a wait changes. */
+/* Other identifiers and boxes, phases, deadlines and classes: nothing of a wait changes. */
 static bool are_blames_of_steps_alone(const struct load *load, const struct blame *blames)
 {
     struct load other = *load;
@@ -91,6 +91,7 @@ static bool are_blames_of_steps_alone(const struct load *load, const struct blam
         place->box.number = row;
         place->phase = MOST_PHASE - row;
         place->deadline = MOST_DEADLINE - row;
+        place->class = (uint8_t)((place->class + row) % (MOST_CLASS + 1));
     }
     return blames_of(&other, found) == ACCEPTED && memcmp(found, blames, sizeof found) == 0;
 }
@@ -107,6 +108,6 @@ const char *blame_fault(const struct load *load)
     if (!are_blames_below_the_cut(load, blames))
         return "a row's blame lies below its own last step";
     if (!are_blames_of_steps_alone(load, blames))
-        return "identifiers, boxes, phases and deadlines are not blamed";
+        return "identifiers, boxes, phases, deadlines and classes are not blamed";
     return NULL;
 }

@@ -15,7 +15,7 @@ static struct load load_of(const unsigned *numbers)
     struct load load = {.row_count = 2};
     for (unsigned row = 1; row <= 2; row++, numbers += 4)
         load.rows[row - 1] = (struct row){
-            {100 + row}, {200 + row}, 0, MOST_DEADLINE, 2, 1,
+            {100 + row}, {200 + row}, 0, MOST_DEADLINE, 2, 1, 0, 1,
             {{(uint16_t)numbers[0], (uint16_t)numbers[1]}, {(uint16_t)numbers[2], 0}},
             {{1, 2, (uint16_t)numbers[3]}}};
     return load;

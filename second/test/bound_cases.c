@@ -8,15 +8,15 @@ static void row_bound_cases(struct tally *tally)
 {
     uint32_t bounds[MOST_ROWS];
     struct load alone = {2, {
-        {{101}, {201}, 0, 1000000, 2, 0, {{1, 9}, {1, 0}}, {{0, 0, 0}}},
-        {{102}, {202}, 0, 1000000, 1, 0, {{5, 0}}, {{0, 0, 0}}},
+        {{101}, {201}, 0, 1000000, 2, 0, 0, 1, {{1, 9}, {1, 0}}, {{0, 0, 0}}},
+        {{102}, {202}, 0, 1000000, 1, 0, 0, 1, {{5, 0}}, {{0, 0, 0}}},
     }};
     row_bounds_of(&alone, bounds);
     same(tally, "no step j+1", 16, (long)bounds[0]);
     same(tally, "cut to one step", 6, (long)bounds[1]);
     struct load window = {2, {
-        {{101}, {201}, 0, 1000000, 3, 1, {{1, 4}, {2, 50}, {7, 0}}, {{1, 2, 9}}},
-        {{102}, {202}, 3, 1000000, 1, 0, {{5, 0}}, {{0, 0, 0}}},
+        {{101}, {201}, 0, 1000000, 3, 1, 0, 1, {{1, 4}, {2, 50}, {7, 0}}, {{1, 2, 9}}},
+        {{102}, {202}, 3, 1000000, 1, 0, 0, 1, {{5, 0}}, {{0, 0, 0}}},
     }};
     row_bounds_of(&window, bounds);
     same(tally, "whole: 15 costs, phase 3, embedded 4, W 50", 72, (long)bounds[0]);
@@ -32,8 +32,8 @@ static void embedded_place_cases(struct tally *tally)
 {
     uint32_t bound;
     struct load load = {2, {
-        {{101}, {201}, 0, 1000000, 3, 1, {{4, 3}, {9, 9}, {9, 0}}, {{1, 2, 30}}},
-        {{102}, {202}, 0, 1000000, 3, 0, {{1, 5}, {1, 20}, {1, 0}}, {{0, 0, 0}}},
+        {{101}, {201}, 0, 1000000, 3, 1, 0, 1, {{4, 3}, {9, 9}, {9, 0}}, {{1, 2, 30}}},
+        {{102}, {202}, 0, 1000000, 3, 0, 0, 1, {{1, 5}, {1, 20}, {1, 0}}, {{0, 0, 0}}},
     }};
     bound_of(&load, &bound);
     same(tally, "25 costs, embedded 3, W 5 and 20", 53, (long)bound);
@@ -48,10 +48,10 @@ static void smallest_costs_cases(struct tally *tally)
 {
     uint32_t bound;
     struct load load = {4, {
-        {{101}, {201}, 0, 1000000, 2, 0, {{1, 9}, {1, 0}}, {{0, 0, 0}}},
-        {{102}, {202}, 0, 1000000, 2, 0, {{1, 8}, {1, 0}}, {{0, 0, 0}}},
-        {{103}, {203}, 0, 1000000, 2, 0, {{2, 0}, {6, 0}}, {{0, 0, 0}}},
-        {{104}, {204}, 0, 1000000, 2, 0, {{6, 0}, {2, 0}}, {{0, 0, 0}}},
+        {{101}, {201}, 0, 1000000, 2, 0, 0, 1, {{1, 9}, {1, 0}}, {{0, 0, 0}}},
+        {{102}, {202}, 0, 1000000, 2, 0, 0, 1, {{1, 8}, {1, 0}}, {{0, 0, 0}}},
+        {{103}, {203}, 0, 1000000, 2, 0, 0, 1, {{2, 0}, {6, 0}}, {{0, 0, 0}}},
+        {{104}, {204}, 0, 1000000, 2, 0, 0, 1, {{6, 0}, {2, 0}}, {{0, 0, 0}}},
     }};
     bound_of(&load, &bound);
     same(tally, "20 costs, W 9 - 4", 25, (long)bound);
@@ -61,7 +61,7 @@ static void smallest_costs_cases(struct tally *tally)
 static void cut_cases(struct tally *tally)
 {
     struct load load = {1, {
-        {{101}, {201}, 0, 1000000, 3, 1, {{1, 4}, {2, 50}, {7, 0}}, {{1, 2, 9}}},
+        {{101}, {201}, 0, 1000000, 3, 1, 0, 1, {{1, 4}, {2, 50}, {7, 0}}, {{1, 2, 9}}},
     }};
     struct load cut = cut_load(&load, 1);
     same(tally, "steps kept", 2, cut.rows[0].step_count);
@@ -76,7 +76,7 @@ static struct load largest_load(void)
     struct load load = {.row_count = MOST_ROWS};
     for (unsigned row = 1; row <= MOST_ROWS; row++) {
         struct row *place = &load.rows[row - 1];
-        *place = (struct row){{row}, {row}, 86400, 1, 8, 1, {{0, 0}}, {{1, 8, 30000}}};
+        *place = (struct row){{row}, {row}, 86400, 1, 8, 1, 0, 1, {{0, 0}}, {{1, 8, 30000}}};
         for (unsigned step = 1; step <= MOST_STEPS; step++)
             place->steps[step - 1] = (struct step){600, step < MOST_STEPS ? 3600 : 0};
     }
@@ -92,7 +92,7 @@ static void edge_cases(struct tally *tally)
     margins_of(&load, margins);
     same(tally, "largest bound", 806400, (long)bound);
     same(tally, "lowest margin", -806399, margins[23]);
-    struct load least = {1, {{{1}, {1}, 0, 1000000, 1, 0, {{1, 0}}, {{0, 0, 0}}}}};
+    struct load least = {1, {{{1}, {1}, 0, 1000000, 1, 0, 0, 1, {{1, 0}}, {{0, 0, 0}}}}};
     margins_of(&least, margins);
     same(tally, "highest margin", 999999, margins[0]);
     same(tally, "margin of a row not there", 0, margins[1]);

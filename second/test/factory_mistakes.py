@@ -23,6 +23,7 @@ PUT_OFF = ("    bool factory = refusal == FACTORY_IDENTIFIER;\n"
            "    refusal = factory ? ACCEPTED : refusal;\n")
 GIVEN_NOW = "    refusal = factory && refusal == ACCEPTED ? FACTORY_IDENTIFIER : refusal;\n"
 CHECK = "    enum refusal refusal = check_load(load);\n"
+CHECK_WRITTEN = "    enum refusal refusal = check_plain(load);\n"
 PASSED = ("    if (refusal == FACTORY_IDENTIFIER)\n"
           "        refusal = ACCEPTED;\n")
 
@@ -141,13 +142,13 @@ FACTORY_MISTAKES = [
      "    return check_row_record(load, row);",
      "    refusal = check_row_record(load, row);\n" + PASSED + "    return refusal;"),
     ("factory: 9 before it, in a load's room", "load_writing.c",
-     CHECK,
-     CHECK +
+     CHECK_WRITTEN,
+     CHECK_WRITTEN +
      "    if (refusal == FACTORY_IDENTIFIER && room < load_bytes(load))\n"
      "        return OUTPUT_SHORT;\n"),
     ("factory: 9 before it, in a sheet's room", "sheet.c",
-     CHECK,
-     CHECK +
+     CHECK_WRITTEN,
+     CHECK_WRITTEN +
      "    if (refusal == FACTORY_IDENTIFIER && room < MOST_SIGNS)\n"
      "        return OUTPUT_SHORT;\n"),
     ("factory: 10 before it", "bench.c",
@@ -165,8 +166,8 @@ FACTORY_MISTAKES = [
      "    if (refusal == ACCEPTED && !is_shaped",
      PASSED + "    if (refusal == ACCEPTED && !is_shaped"),
     ("factory: a list is checked with it", "schedule.c", CHECK, CHECK + PASSED),
-    ("factory: a file is written with it", "load_writing.c", CHECK, CHECK + PASSED),
-    ("factory: a sheet is written with it", "sheet.c", CHECK, CHECK + PASSED),
+    ("factory: a file is written with it", "load_writing.c", CHECK_WRITTEN, CHECK_WRITTEN + PASSED),
+    ("factory: a sheet is written with it", "sheet.c", CHECK_WRITTEN, CHECK_WRITTEN + PASSED),
     ("factory: bounds with it", "bound.c",
      *passed_by("enum refusal row_bounds_of(const struct load *load, uint32_t bounds[MOST_ROWS])")),
     ("factory: places with it", "bound.c",

@@ -49,6 +49,7 @@ static void ask_lent_loads(struct asking *asking)
     ask_faulty_loads(asking);
     ask_rooms(asking);
     ask_factory_loads(asking);
+    ask_urgent_loads(asking);
 }
 
 /* Asks of each load in turn; the last of them stays in `file`. */
@@ -73,6 +74,7 @@ static void ask_files_and_sheets(struct asking *asking)
     ask_damaged_sheets(asking);
     ask_exports(asking);
     ask_factory_exports(asking);
+    ask_urgent_exports(asking);
 }
 
 /* Both streams end with a question that is cut short. */
@@ -88,6 +90,7 @@ static bool ask_everything(struct asking *asking, char **names)
     ask_blames(asking);
     ask_places_in_memory(asking);
     ask_factory_places(asking);
+    ask_urgent_places(asking);
     ask_files_and_sheets(asking);
     ask_halves(asking, &file);
     return true;

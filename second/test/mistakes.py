@@ -18,8 +18,8 @@ from factory_mistakes import FACTORY_MISTAKES
 from sheet_mistakes import SHEET_MISTAKES
 
 HERE = os.path.dirname(os.path.dirname(os.path.abspath(__file__)))
-PARTS = ("load load_file load_writing sheet_line sheet waits bound plan lamps bench schedule report"
-         " notation lent values conversion asked answered file_trials trials calls second")
+PARTS = ("load load_file plain load_writing sheet_line sheet waits bound plan lamps bench schedule"
+         " report notation lent values conversion asked answered file_trials trials calls second")
 MOST_SECONDS = 10
 PART_BYTES = 1 << 16
 
@@ -400,12 +400,12 @@ MISTAKES = [
      "enum refusal refusal = check_load(load);",
      "enum refusal refusal = ACCEPTED;"),
     ("the room asked before the load", "load_writing.c",
-     "enum refusal refusal = check_load(load);",
+     "enum refusal refusal = check_plain(load);",
      "enum refusal refusal = load->row_count <= MOST_ROWS && room < load_bytes(load)\n"
-     "        ? OUTPUT_SHORT : check_load(load);"),
+     "        ? OUTPUT_SHORT : check_plain(load);"),
     ("no room asked before the load", "load_writing.c",
-     "enum refusal refusal = check_load(load);",
-     "enum refusal refusal = room == 0 ? OUTPUT_SHORT : check_load(load);"),
+     "enum refusal refusal = check_plain(load);",
+     "enum refusal refusal = room == 0 ? OUTPUT_SHORT : check_plain(load);"),
     ("a load's exact room is short", "load_writing.c",
      "room < load_bytes(load)",
      "room <= load_bytes(load) && room < MOST_LOAD_BYTES"),

@@ -52,6 +52,8 @@ static void write_row_fields(FILE *out, const struct row *row)
     write_4(out, row->deadline);
     write_1(out, row->step_count);
     write_1(out, row->window_count);
+    write_1(out, row->class);
+    write_1(out, row->head);
 }
 
 static void write_row_places(FILE *out, const struct row *row)

@@ -90,14 +90,17 @@ void ask_schedules(struct asking *asking);
 void ask_faulty_loads(struct asking *asking);
 void ask_rooms(struct asking *asking);
 void ask_factory_loads(struct asking *asking);
+void ask_urgent_loads(struct asking *asking);
 void ask_blames(struct asking *asking);
 void ask_places_in_memory(struct asking *asking);
 void ask_factory_places(struct asking *asking);
+void ask_urgent_places(struct asking *asking);
 void ask_checks_of_refused_files(struct asking *asking);
 void ask_sheets(struct asking *asking);
 void ask_damaged_sheets(struct asking *asking);
 void ask_exports(struct asking *asking);
 void ask_factory_exports(struct asking *asking);
+void ask_urgent_exports(struct asking *asking);
 
 /* Questions that stop in the middle of a state and of a list; the last of their streams. */
 void ask_halves(struct asking *asking, const struct asked_file *file);

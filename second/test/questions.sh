@@ -12,7 +12,7 @@ bad() {
 }
 
 # empty WHAT ANSWER BYTES ZEROS MORE: the bytes, so many zeros, and more bytes are answered so; the
-# zeros hold the load without rows, which has 1,585 of them.
+# zeros hold the load without rows, which has 1,633 of them.
 empty() {
     same "no rows: $1" "$2" \
         "$({ printf "$3"; head -c "$4" /dev/zero; printf "$5"; } | "$second" answer-trials)"
@@ -70,64 +70,64 @@ bad 'E, no row' '' 'E\0'
 bad 'e, half a room' '' 'e\0'
 bad 'e, room 10,241' '' 'e\001\050'
 bad 'e, no row' '' 'e\010\0\0'
-empty 'W, a byte too few' bad W 1584 ''
-empty 'N, no state' bad N 1585 ''
-empty 'N, a state cut short' bad N 1804 ''
-empty 'N, fresh' "done lamps 0 count 0 clock 0$rows" N 1805 ''
-empty 'N, a clock of 255' "done lamps 0 count 0 clock 255$rows" N 1585 "\\377$(zeros 219)"
-empty 'N, 25 rows' "refused 3 lamps 0 count 0 clock 0$rows" 'N\031' 1804 ''
-empty 'D, no count' bad D 1585 ''
-empty 'D, no slots' 'check 0' D 1587 ''
-empty 'D, one slot' 'check 12' D 1585 '\001\0\0\0\0\0\0\0'
-empty 'D, count 257' bad D 1585 '\001\001'
-empty 'D, 25 rows, one slot' 'check 3' 'D\031' 1584 '\001\0\0\0\0\0\0\0'
-empty 'p, a byte too few' bad p 1584 ''
-empty 'p, no rows' "$places margins$(printf ' 0%.0s' $(seq 24))" p 1585 ''
-empty 'p, 25 rows' 'refused 3' 'p\031' 1584 ''
-empty 'p, one row, and it is not there' 'refused 3' 'p\001' 1584 ''
-empty 'p, row 24 not zero' 'refused 3' p 1584 '\001'
+empty 'W, a byte too few' bad W 1632 ''
+empty 'N, no state' bad N 1633 ''
+empty 'N, a state cut short' bad N 1852 ''
+empty 'N, fresh' "done lamps 0 count 0 clock 0$rows" N 1853 ''
+empty 'N, a clock of 255' "done lamps 0 count 0 clock 255$rows" N 1633 "\\377$(zeros 219)"
+empty 'N, 25 rows' "refused 3 lamps 0 count 0 clock 0$rows" 'N\031' 1852 ''
+empty 'D, no count' bad D 1633 ''
+empty 'D, no slots' 'check 0' D 1635 ''
+empty 'D, one slot' 'check 12' D 1633 '\001\0\0\0\0\0\0\0'
+empty 'D, count 257' bad D 1633 '\001\001'
+empty 'D, 25 rows, one slot' 'check 3' 'D\031' 1632 '\001\0\0\0\0\0\0\0'
+empty 'p, a byte too few' bad p 1632 ''
+empty 'p, no rows' "$places margins$(printf ' 0%.0s' $(seq 24))" p 1633 ''
+empty 'p, 25 rows' 'refused 3' 'p\031' 1632 ''
+empty 'p, one row, and it is not there' 'refused 3' 'p\001' 1632 ''
+empty 'p, row 24 not zero' 'refused 3' p 1632 '\001'
 empty 'p, after a good one' 'refused 3
-bad' 'p\031' 1584 'p'
-empty 'w, room 0' 'load 9' 'w\0\0' 1585 ''
-empty 'w, room 7' 'load 9' 'w\007\0' 1585 ''
-empty 'w, room 8' 'load 0 4c440100454e0000' 'w\010\0' 1585 ''
-empty 'w, room 10' 'load 0 4c440100454e0000a5a5' 'w\012\0' 1585 ''
-empty 'w, 25 rows, room 0' 'load 3' 'w\0\0\031' 1584 ''
+bad' 'p\031' 1632 'p'
+empty 'w, room 0' 'load 9' 'w\0\0' 1633 ''
+empty 'w, room 7' 'load 9' 'w\007\0' 1633 ''
+empty 'w, room 8' 'load 0 4c440100454e0000' 'w\010\0' 1633 ''
+empty 'w, room 10' 'load 0 4c440100454e0000a5a5' 'w\012\0' 1633 ''
+empty 'w, 25 rows, room 0' 'load 3' 'w\0\0\031' 1632 ''
 empty 's, room 3' 'schedule 9' 's\003\0' 2 ''
 empty 's, room 4' 'schedule 0 53430000' 's\004\0' 2 ''
 empty 's, room 6' 'schedule 0 53430000a5a5' 's\006\0' 2 ''
 empty 's, 193 slots, room 0' 'schedule 3' 's\0\0\301\0' 1158 ''
-empty 'E, a byte too few' bad E 1584 ''
-empty 'E, no rows' 'export 0 ' E 1585 ''
-empty 'E, 25 rows' 'export 3' 'E\031' 1584 ''
-empty 'E, one row, and it is not there' 'export 3' 'E\001' 1584 ''
-empty 'E, row 24 not zero' 'export 3' E 1584 '\001'
-empty 'E, after a good one' "export 0 $(printf '\nbad')" E 1585 E
-empty 'e, a byte too few' bad 'e\0\0' 1584 ''
-empty 'e, room 0' 'export 0 0 ' 'e\0\0' 1585 ''
-empty 'e, room 2' 'export 0 0 a5a5' 'e\002\0' 1585 ''
-empty 'e, 25 rows, room 0' 'export 3 0 ' 'e\0\0\031' 1584 ''
-empty 'e, 25 rows, room 2' 'export 3 0 a5a5' 'e\002\0\031' 1584 ''
-empty 'e, room 10,240' "export 0 0 $(printf 'a5%.0s' $(seq 10240))" 'e\0\050' 1585 ''
+empty 'E, a byte too few' bad E 1632 ''
+empty 'E, no rows' 'export 0 ' E 1633 ''
+empty 'E, 25 rows' 'export 3' 'E\031' 1632 ''
+empty 'E, one row, and it is not there' 'export 3' 'E\001' 1632 ''
+empty 'E, row 24 not zero' 'export 3' E 1632 '\001'
+empty 'E, after a good one' "export 0 $(printf '\nbad')" E 1633 E
+empty 'e, a byte too few' bad 'e\0\0' 1632 ''
+empty 'e, room 0' 'export 0 0 ' 'e\0\0' 1633 ''
+empty 'e, room 2' 'export 0 0 a5a5' 'e\002\0' 1633 ''
+empty 'e, 25 rows, room 0' 'export 3 0 ' 'e\0\0\031' 1632 ''
+empty 'e, 25 rows, room 2' 'export 3 0 a5a5' 'e\002\0\031' 1632 ''
+empty 'e, room 10,240' "export 0 0 $(printf 'a5%.0s' $(seq 10240))" 'e\0\050' 1633 ''
 
 # Row 1 is 2 in box 3, phase 4, deadline 5, one step of cost 6; the load has one row.
-one_row='\001\002\0\0\0\003\0\0\0\004\0\0\0\005\0\0\0\001\0\006\0'
+one_row='\001\002\0\0\0\003\0\0\0\004\0\0\0\005\0\0\0\001\0\0\001\006\0'
 line=322c332c342c352c362c302c0d0a
-rest=1564
+rest=1610
 empty 'E, one line' "export 0 $line" "E$one_row" $rest ''
 empty 'e, one line, room 13' "export 9 0 $(printf 'a5%.0s' $(seq 13))" "e\015\0$one_row" $rest ''
 empty 'e, one line, room 14' "export 0 14 $line" "e\016\0$one_row" $rest ''
 empty 'e, one line, room 16' "export 0 14 ${line}a5a5" "e\020\0$one_row" $rest ''
 
 # The same row with the factory identifier: 21, whatever else is lent.
-factory='\001\377\377\377\377\003\0\0\0\004\0\0\0\005\0\0\0\001\0\006\0'
+factory='\001\377\377\377\377\003\0\0\0\004\0\0\0\005\0\0\0\001\0\0\001\006\0'
 factory_file='\042\0LD\001\001RW\377\377\377\377\003\0\0\0\004\0\0\0\005\0\0\0\001\0'
 factory_file="${factory_file}ST\006\0\0\0EN\001\0"
 empty 'p, the factory identifier' 'refused 21' "p$factory" $rest ''
-empty 'N, the factory identifier' "refused 21 lamps 0 count 0 clock 0$rows" "N$factory" 1784 ''
+empty 'N, the factory identifier' "refused 21 lamps 0 count 0 clock 0$rows" "N$factory" 1830 ''
 empty 'N, and a clock of 4,278,190,080' \
-    "refused 21 lamps 0 count 0 clock 4278190080$rows" "N$factory" 1567 "\\377$(zeros 216)"
-empty 'D, the factory identifier, no slots' 'check 21' "D$factory" 1566 ''
+    "refused 21 lamps 0 count 0 clock 4278190080$rows" "N$factory" 1613 "\\377$(zeros 216)"
+empty 'D, the factory identifier, no slots' 'check 21' "D$factory" 1612 ''
 empty 'W, the factory identifier' 'load 21' "W$factory" $rest ''
 empty 'w, the factory identifier, room 0' 'load 21' "w\0\0$factory" $rest ''
 empty 'E, the factory identifier' 'export 21' "E$factory" $rest ''
@@ -142,6 +142,25 @@ empty 'C, the factory identifier, no slots' 'refused 21' "C$factory_file" 2 ''
 same 'R, the factory identifier' 'sheet 21
 sheet 3' "$(printf 'R\027\0004294967295,1,0,9,1,0,\r\nR\027\0004294967296,1,0,9,1,0,\r\n' \
     | "$second" answer-trials)"
+
+# The same row with class 1 is carried by neither form; a head of 0 is out of range.
+urgent='\001\002\0\0\0\003\0\0\0\004\0\0\0\005\0\0\0\001\0\001\001\006\0'
+no_head='\001\002\0\0\0\003\0\0\0\004\0\0\0\005\0\0\0\001\0\0\0\006\0'
+file=4c440101525702000000030000000400000005000000010053540600''0000454e0100
+empty 'W, one row' "load 0 $file" "W$one_row" $rest ''
+empty 'W, class 1' 'load 22' "W$urgent" $rest ''
+empty 'w, class 1, room 0' 'load 22' "w\0\0$urgent" $rest ''
+empty 'E, class 1' 'export 22' "E$urgent" $rest ''
+empty 'e, class 1, room 0' 'export 22 0 ' "e\0\0$urgent" $rest ''
+empty 'e, class 1, room 2' 'export 22 0 a5a5' "e\002\0$urgent" $rest ''
+empty 'p, class 1' "$places margins -5$(printf ' 0%.0s' $(seq 23))" "p$urgent" $rest ''
+empty 'D, class 1, no slots' 'check 12' "D$urgent" 1612 ''
+empty 'W, head 0' 'load 3' "W$no_head" $rest ''
+empty 'w, head 0, room 0' 'load 3' "w\0\0$no_head" $rest ''
+empty 'e, head 0, room 2' 'export 3 0 a5a5' "e\002\0$no_head" $rest ''
+empty 'p, head 0' 'refused 3' "p$no_head" $rest ''
+empty 'W, class 1 of a row that is not there' 'load 3' W 19 "\\001$(zeros 1613)"
+empty 'W, head 1 of a row that is not there' 'load 3' W 20 "\\001$(zeros 1612)"
 
 same 'R, one line' \
     'sheet 0 4c44010152570200000003000000040000000500000001005354060000''00454e0100' \

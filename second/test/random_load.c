@@ -49,7 +49,8 @@ static struct row row_without_windows(struct dice *dice, const struct size *size
                                       unsigned number, uint32_t steps)
 {
     struct row row = {.identifier = {100 + number}, .box = {200 + number},
-                      .deadline = MOST_DEADLINE, .step_count = (uint8_t)steps};
+                      .deadline = MOST_DEADLINE, .step_count = (uint8_t)steps,
+                      .head = ONLY_HEAD};
     row.phase = between(dice, 0, size->phase);
     for (unsigned step = 1; step <= row.step_count; step++) {
         uint32_t wait = step == row.step_count ? 0 : between(dice, 0, size->wait);
@@ -106,6 +107,12 @@ struct load load_with(struct dice *dice, unsigned rows, unsigned steps, unsigned
         add_windows(dice, &load.rows[row - 1], windows, size.spare);
     }
     return load;
+}
+
+void set_classes(struct dice *dice, struct load *load)
+{
+    for (unsigned row = 1; row <= load->row_count; row++)
+        load->rows[row - 1].class = (uint8_t)between(dice, 0, MOST_CLASS);
 }
 
 void set_deadlines(struct dice *dice, struct load *load, const uint32_t *bounds)

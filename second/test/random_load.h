@@ -14,13 +14,16 @@ struct dice {
 uint32_t throw_dice(struct dice *dice);
 uint32_t between(struct dice *dice, uint32_t least, uint32_t most);
 
-/* A good load of one of the first `among` sizes, with deadlines 1,000,000. The first 8 are quick
-   to run, the first 5 have few rows. */
+/* A good load of one of the first `among` sizes, with deadlines 1,000,000 and class 0. The first 8
+   are quick to run, the first 5 have few rows. */
 struct load any_load(struct dice *dice, unsigned among);
 
-/* A good load of so many rows, each with so many steps and windows; small numbers. There are at
-   most half as many windows as steps. */
+/* A good load of so many rows, each with so many steps and windows; small numbers, and class 0.
+   There are at most half as many windows as steps. */
 struct load load_with(struct dice *dice, unsigned rows, unsigned steps, unsigned windows);
+
+/* Any class in each row. */
+void set_classes(struct dice *dice, struct load *load);
 
 /* Deadlines near the row bounds: a third of them just at it, the rest on either side. */
 void set_deadlines(struct dice *dice, struct load *load, const uint32_t *bounds);

@@ -82,14 +82,11 @@ static void reading_cases(struct tally *tally)
     read_case(tally, LINE("101,201,5,100,1,2,4") LINE("101,201,5,100,1,0,-")
               LINE("101,201,5,100,1,3,9") LINE("101,201,5,100,1,0,-"), load_two_windows());
     read_case(tally, LINE("6,5,4,3,2,0,"), (struct load){1, {
-        {{6}, {5}, 4, 3, 1, 0, {{2, 0}}, {{0, 0, 0}}}}});
+        {{6}, {5}, 4, 3, 1, 0, 0, 1, {{2, 0}}, {{0, 0, 0}}}}});
     read_case(tally, LINE("9,8,7,6,5,4,") LINE("9,8,7,6,3,2,77") LINE("9,8,7,6,1,1,-")
               LINE("9,8,7,6,10,11,-") LINE("9,8,7,6,12,0,"), (struct load){1, {
-        {{9}, {8}, 7, 6, 5, 1, {{5, 4}, {3, 2}, {1, 1}, {10, 11}, {12, 0}}, {{2, 4, 77}}}}});
-    read_case(tally, SHEET_OF_A, (struct load){3, {
-        {{101}, {201}, 0, 20, 2, 0, {{2, 10}, {3, 0}}, {{0, 0, 0}}},
-        {{102}, {202}, 0, 19, 2, 0, {{1, 4}, {2, 0}}, {{0, 0, 0}}},
-        {{103}, {203}, 0, 18, 2, 0, {{2, 3}, {1, 0}}, {{0, 0, 0}}}}});
+        {{9}, {8}, 7, 6, 5, 1, 0, 1, {{5, 4}, {3, 2}, {1, 1}, {10, 11}, {12, 0}}, {{2, 4, 77}}}}});
+    read_case(tally, SHEET_OF_A, load_a());
 }
 
 /* A zero byte is no sign of a sheet, wherever it stands, and neither ends one. */
@@ -152,7 +149,7 @@ static void longest_case(struct tally *tally)
     struct load load = {.row_count = MOST_ROWS}, read;
     for (unsigned row = 0; row < MOST_ROWS; row++)
         load.rows[row] = (struct row){
-            {4000000000u + row}, {4100000000u + row}, 86400, 1000000, 8, 4,
+            {4000000000u + row}, {4100000000u + row}, 86400, 1000000, 8, 4, 0, 1,
             {{600, 3600}, {600, 3600}, {600, 3600}, {600, 3600}, {600, 3600}, {600, 3600},
              {600, 3600}, {600, 0}},
             {{1, 2, 65535}, {3, 4, 65535}, {5, 6, 65535}, {7, 8, 65535}}};

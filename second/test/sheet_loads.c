@@ -25,7 +25,7 @@ static struct window full_window(unsigned window)
 static struct row longest_row(unsigned row)
 {
     struct row longest = {{UINT32_MAX - row}, {UINT32_MAX - MOST_ROWS + row}, MOST_PHASE,
-                          MOST_DEADLINE, MOST_STEPS, MOST_WINDOWS, {{0, 0}}, {{0, 0, 0}}};
+                          MOST_DEADLINE, MOST_STEPS, MOST_WINDOWS, 0, 1, {{0, 0}}, {{0, 0, 0}}};
     for (unsigned step = 1; step <= MOST_STEPS; step++)
         longest.steps[step - 1] = (struct step){MOST_COST, step < MOST_STEPS ? MOST_WAIT : 0};
     for (unsigned window = 1; window <= MOST_WINDOWS; window++)

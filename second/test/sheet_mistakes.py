@@ -263,19 +263,19 @@ SHEET_MISTAKES = [
      "    if (length == 0)\n"
      "        return *load = (struct load){0}, LINE_MALFORMED;\n"),
     ("export: the load not asked", "sheet.c",
-     "    *written = 0;\n    enum refusal refusal = check_load(load);",
+     "    *written = 0;\n    enum refusal refusal = check_plain(load);",
      "    *written = 0;\n"
      "    enum refusal refusal = load->row_count > MOST_ROWS ? OUT_OF_RANGE : ACCEPTED;"),
     ("export: 9 before 3 to 7", "sheet.c",
-     "    *written = 0;\n    enum refusal refusal = check_load(load);",
+     "    *written = 0;\n    enum refusal refusal = check_plain(load);",
      "    *written = 0;\n"
      "    enum refusal refusal = load->row_count > 0 && room < 18 ? OUTPUT_SHORT\n"
-     "        : check_load(load);"),
+     "        : check_plain(load);"),
     ("export: no room asked before 3 to 7", "sheet.c",
-     "    *written = 0;\n    enum refusal refusal = check_load(load);",
+     "    *written = 0;\n    enum refusal refusal = check_plain(load);",
      "    *written = 0;\n"
      "    enum refusal refusal = room == 0 && load->row_count > 0 ? OUTPUT_SHORT\n"
-     "        : check_load(load);"),
+     "        : check_plain(load);"),
     ("export: the exact room is short", "sheet.c", "room < length)", "room <= length && room > 0)"),
     ("export: a room one short is enough", "sheet.c", "room < length)", "room + 1 < length)"),
     ("export: room for the longest sheet is asked", "sheet.c",

@@ -95,7 +95,7 @@ for number in 1 2 3 4 5 6 7 8 21; do
 done
 printf '; loads'
 met 0 "$(count_files '^load 0 [0-9a-f]+$')"
-for number in 3 4 5 6 7 9 21; do
+for number in 3 4 5 6 7 9 21 22; do
     met "$number" "$(count_files "^load $number\$")"
 done
 printf '; schedules'
@@ -140,13 +140,13 @@ met 'the empty one' "$(count_files '^sheet 0 4c440100454e0000$')"
 printf '; exports'
 met 'the empty one' "$(count_files '^export 0 $')"
 met taken "$(count_files '^export 0 ([0-9a-f][0-9a-f])+$')"
-for number in 3 4 5 6 7 21; do
+for number in 3 4 5 6 7 21 22; do
     met "$number" "$(count_files "^export $number\$")"
 done
 printf '; in rooms'
 met 'an exact one' "$(count_files '^export 0 [1-9][0-9]* ([0-9a-f][0-9a-f])*0d0a$')"
 met 'a longer one' "$(count_files '^export 0 [1-9][0-9]* ([0-9a-f][0-9a-f])*0d0a(a5)+$')"
-for number in 3 4 5 6 7 9 21; do
+for number in 3 4 5 6 7 9 21 22; do
     met "$number" "$(count_files "^export $number 0 (a5)*\$")"
 done
 printf '\n'

@@ -2,11 +2,11 @@
 
 /* Rows 101, 102 and so on, in boxes 201, 202 and so on, with phase 0 and no window. */
 #define ROW(number, deadline, count, ...) \
-    {{100 + number}, {200 + number}, 0, deadline, count, 0, {__VA_ARGS__}, {{0, 0, 0}}}
+    {{100 + number}, {200 + number}, 0, deadline, count, 0, 0, 1, {__VA_ARGS__}, {{0, 0, 0}}}
 
 /* The same with deadline 1,000,000 and a window over the first two steps. */
 #define WINDOW_ROW(number, limit, count, ...) \
-    {{100 + number}, {200 + number}, 0, 1000000, count, 1, {__VA_ARGS__}, {{1, 2, limit}}}
+    {{100 + number}, {200 + number}, 0, 1000000, count, 1, 0, 1, {__VA_ARGS__}, {{1, 2, limit}}}
 
 const struct worked WORKED[WORKED_LOADS] = {
     {"A: 2 w10 3 / 1 w4 2 / 2 w3 1",
