@@ -23,11 +23,11 @@ static int refused(enum refusal refusal, int status)
     return status;
 }
 
-int write_load_of_text(FILE *text, FILE *load)
+int write_load_of_text(FILE *text, enum version version, FILE *load)
 {
     uint8_t bytes[NOTATION_ROOM];
     size_t written;
-    unsigned long line = write_notation(text, bytes, sizeof bytes, &written);
+    unsigned long line = write_notation(text, version, bytes, sizeof bytes, &written);
     if (line != 0) {
         fprintf(stderr, "second: line %lu is not a row in the notation\n", line);
         return CANNOT;
@@ -47,7 +47,7 @@ int write_load_of_sheet(FILE *sheet, FILE *load)
         return cannot("the sheet has more than 65,536 bytes");
     enum refusal refusal = read_sheet(lines, length, &read);
     if (refusal == ACCEPTED)
-        refusal = write_load(&read, bytes, sizeof bytes, &written);
+        refusal = write_version_1(&read, bytes, sizeof bytes, &written);
     if (refusal != ACCEPTED)
         return refused(refusal, REFUSED);
     fwrite(bytes, 1, written, load);

@@ -22,14 +22,14 @@ void take_input(FILE *file, struct load_input *input);
 /* Says what cannot be done, and gives that status. */
 int cannot(const char *what);
 
-/* Any row in the notation, unchecked; else CANNOT. */
-int write_load_of_text(FILE *text, FILE *load);
+/* Any row in the notation that a file of this version can carry, unchecked; else CANNOT. */
+int write_load_of_text(FILE *text, enum version version, FILE *load);
 
-/* REFUSED, or CANNOT for a sheet of more than 65,536 bytes: it would have to be read to its end for
-   its number, and no sheet of a load is nearly as long. */
+/* A file of version 1. REFUSED, or CANNOT for a sheet of more than 65,536 bytes: it would have to
+   be read to its end for its number, and no sheet of a load is nearly as long. */
 int write_load_of_sheet(FILE *sheet, FILE *load);
 
-/* REFUSED. */
+/* REFUSED, a load file with a class too. */
 int write_sheet_of_load(FILE *load, FILE *sheet);
 
 /* CANNOT for a refused file. */

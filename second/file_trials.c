@@ -29,27 +29,32 @@ static bool answer_check_in_memory(FILE *questions, FILE *answers)
     return true;
 }
 
-static bool answer_load(FILE *questions, FILE *answers)
+/* A version's writing call. */
+typedef enum refusal write_call(const struct load *load, uint8_t *bytes, size_t room,
+                                size_t *written);
+
+static bool answer_load(FILE *questions, FILE *answers, const char *what, write_call *write)
 {
     uint8_t bytes[MOST_LOAD_BYTES];
     size_t written;
     struct load load;
     if (!take_asked_load(questions, &load))
         return false;
-    enum refusal refusal = write_load(&load, bytes, sizeof bytes, &written);
-    print_written(answers, "load", refusal, bytes, written);
+    enum refusal refusal = write(&load, bytes, sizeof bytes, &written);
+    print_written(answers, what, refusal, bytes, written);
     return true;
 }
 
-static bool answer_load_in_room(FILE *questions, FILE *answers)
+static bool answer_load_in_room(FILE *questions, FILE *answers, const char *what,
+                                write_call *write)
 {
     size_t written;
     struct asked_room room;
     struct load load;
     if (!take_asked_room(questions, MOST_ASKED_ROOM, &room) || !take_asked_load(questions, &load))
         return false;
-    enum refusal refusal = write_load(&load, room.bytes, room.length, &written);
-    print_written(answers, "load", refusal, room.bytes, room.length);
+    enum refusal refusal = write(&load, room.bytes, room.length, &written);
+    print_written(answers, what, refusal, room.bytes, room.length);
     return true;
 }
 
@@ -89,7 +94,7 @@ static bool answer_sheet(FILE *questions, FILE *answers)
     if (!take_asked_sheet(questions, &sheet))
         return false;
     enum refusal refusal = read_sheet(sheet.bytes, sheet.length, &load);
-    write_load(&load, bytes, sizeof bytes, &written);
+    write_version_1(&load, bytes, sizeof bytes, &written);
     print_written(answers, "sheet", refusal, bytes, written);
     return true;
 }
@@ -123,8 +128,10 @@ bool answer_file_question(int letter, FILE *questions, FILE *answers)
     switch (letter) {
     case 'C': return answer_check(questions, answers);
     case 'D': return answer_check_in_memory(questions, answers);
-    case 'W': return answer_load(questions, answers);
-    case 'w': return answer_load_in_room(questions, answers);
+    case 'W': return answer_load(questions, answers, "load", write_version_1);
+    case 'w': return answer_load_in_room(questions, answers, "load", write_version_1);
+    case 'V': return answer_load(questions, answers, "load2", write_version_2);
+    case 'v': return answer_load_in_room(questions, answers, "load2", write_version_2);
     case 'S': return answer_schedule(questions, answers);
     case 's': return answer_schedule_in_room(questions, answers);
     case 'R': return answer_sheet(questions, answers);

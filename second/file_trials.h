@@ -1,4 +1,5 @@
-/* The trials' letters for checks, files and sheets: C, D, W, w, S, s, R, E and e (trials.h). */
+/* The trials' letters for checks, files and sheets: C, D, W, w, V, v, S, s, R, E and e
+   (trials.h). */
 #ifndef FILE_TRIALS_H
 #define FILE_TRIALS_H
 

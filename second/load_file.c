@@ -5,11 +5,18 @@
 #include "little_endian.h"
 #include "load_marks.h"
 
+/* The version is known once the header is read. */
 struct reader {
     const uint8_t *bytes;
     size_t length;
     size_t at;
+    enum version version;
 };
+
+size_t row_bytes(enum version version)
+{
+    return version == VERSION_1 ? ROW_BYTES : ROW_BYTES + CLASS_AND_HEAD_BYTES;
+}
 
 /* The next record's fields, once it is whole (1) and bears its mark (2). A record's length
    is asked before anything in it, so a short one is 1 whatever its bytes say. */
@@ -32,10 +39,11 @@ static enum refusal read_header(struct reader *reader, struct load *load)
     enum refusal refusal = take_record(reader, HEADER_BYTES, HEADER_MARK, &fields);
     if (refusal != ACCEPTED)
         return refusal;
-    if (fields[0] != VERSION)
+    if (fields[0] != VERSION_1 && fields[0] != VERSION_2)
         return MARK_DIFFERS;
     if (fields[1] > MOST_ROWS)
         return OUT_OF_RANGE;
+    reader->version = (enum version)fields[0];
     load->row_count = fields[1];
     return ACCEPTED;
 }
@@ -43,7 +51,8 @@ static enum refusal read_header(struct reader *reader, struct load *load)
 static enum refusal read_row_record(struct reader *reader, struct load *load, unsigned row)
 {
     const uint8_t *fields;
-    enum refusal refusal = take_record(reader, ROW_BYTES, ROW_MARK, &fields);
+    enum refusal refusal = take_record(reader, row_bytes(reader->version), ROW_MARK,
+                                       &fields);
     if (refusal != ACCEPTED)
         return refusal;
     struct row *place = &load->rows[row - 1];
@@ -53,8 +62,8 @@ static enum refusal read_row_record(struct reader *reader, struct load *load, un
     place->deadline = get_4(fields + 12);
     place->step_count = fields[16];
     place->window_count = fields[17];
-    place->class = 0;
-    place->head = ONLY_HEAD;
+    place->class = reader->version == VERSION_1 ? 0 : fields[18];
+    place->head = reader->version == VERSION_1 ? ONLY_HEAD : fields[19];
     return check_row_record(load, row);
 }
 
@@ -103,7 +112,7 @@ static enum refusal read_end(struct reader *reader, const struct load *load)
 
 enum refusal read_load(const uint8_t *bytes, size_t length, struct load *load)
 {
-    struct reader reader = {bytes, length, 0};
+    struct reader reader = {.bytes = bytes, .length = length};
     *load = (struct load){0};
     enum refusal refusal = read_header(&reader, load);
     for (unsigned row = 1; refusal == ACCEPTED && row <= load->row_count; row++)

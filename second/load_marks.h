@@ -4,7 +4,7 @@
 
 #include <stdint.h>
 
-enum { VERSION = 1, MARK_BYTES = 2 };
+enum { MARK_BYTES = 2 };
 
 static const uint8_t HEADER_MARK[MARK_BYTES] = {0x4C, 0x44};
 static const uint8_t ROW_MARK[MARK_BYTES] = {0x52, 0x57};

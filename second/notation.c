@@ -3,7 +3,7 @@
 #include <stdbool.h>
 #include <string.h>
 
-#include "load_file.h"
+#include "plain.h"
 
 enum { MOST_COUNTED = 255, LINE_ROOM = 8192 };
 
@@ -16,6 +16,7 @@ struct row_text {
 };
 
 struct file_text {
+    enum version version;
     uint8_t *at;
     size_t room;
     unsigned rows;
@@ -97,27 +98,49 @@ static bool take_window(const char **at, struct row_text *text)
     return true;
 }
 
-static bool take_row(const char *at, struct row_text *text)
+static bool take_class_and_head(const char **at, struct row *row)
 {
-    if (!take_row_fields(&at, &text->row))
+    uint32_t class, head;
+    if (!take_number(at, UINT8_MAX, &class) || !take_number(at, UINT8_MAX, &head))
         return false;
-    while (!is_line_over(&at) && !take_sign(&at, ":"))
-        if (!take_step(&at, text))
-            return false;
-    while (!is_line_over(&at))
-        if (!take_window(&at, text))
+    row->class = (uint8_t)class;
+    row->head = (uint8_t)head;
+    return is_line_over(at);
+}
+
+/* Up to the second colon, and with it. */
+static bool take_steps(const char **at, struct row_text *text)
+{
+    while (!is_line_over(at) && !take_sign(at, ":"))
+        if (!take_step(at, text))
             return false;
     return true;
+}
+
+/* Up to the third colon, which is left for what it opens. */
+static bool take_windows(const char **at, struct row_text *text)
+{
+    while (!is_line_over(at) && **at != ':')
+        if (!take_window(at, text))
+            return false;
+    return true;
+}
+
+static bool take_row(const char *at, struct row_text *text)
+{
+    if (!take_row_fields(&at, &text->row) || !take_steps(&at, text) || !take_windows(&at, text))
+        return false;
+    return is_line_over(&at) || (take_sign(&at, ":") && take_class_and_head(&at, &text->row));
 }
 
 /* Keeps room for the end record, which comes when no row follows. */
 static bool put_row_text(struct file_text *file, const struct row_text *text)
 {
-    size_t size = ROW_BYTES + (size_t)text->row.step_count * STEP_BYTES
+    size_t size = row_bytes(file->version) + (size_t)text->row.step_count * STEP_BYTES
         + (size_t)text->row.window_count * WINDOW_BYTES;
     if (file->rows == MOST_COUNTED || file->room < size + END_BYTES)
         return false;
-    file->at = put_row(file->at, &text->row);
+    file->at = put_row(file->at, file->version, &text->row);
     for (unsigned place = 0; place < text->row.step_count; place++)
         file->at = put_step(file->at, &text->steps[place]);
     for (unsigned place = 0; place < text->row.window_count; place++)
@@ -130,11 +153,12 @@ static bool put_row_text(struct file_text *file, const struct row_text *text)
 
 static bool put_line(struct file_text *file, const char *line)
 {
-    struct row_text text = {0};
+    struct row_text text = {.row = {.head = ONLY_HEAD}};
     skip_blanks(&line);
     if (*line == '#' || *line == '\0')
         return true;
-    return take_row(line, &text) && put_row_text(file, &text);
+    return take_row(line, &text) && (file->version == VERSION_2 || is_plain_row(&text.row))
+        && put_row_text(file, &text);
 }
 
 static bool is_whole_line(FILE *text, const char *line)
@@ -142,18 +166,19 @@ static bool is_whole_line(FILE *text, const char *line)
     return strchr(line, '\n') != NULL || feof(text);
 }
 
-unsigned long write_notation(FILE *text, uint8_t *bytes, size_t room, size_t *written)
+unsigned long write_notation(FILE *text, enum version version, uint8_t *bytes, size_t room,
+                             size_t *written)
 {
     char line[LINE_ROOM];
     unsigned long number = 1;
     *written = 0;
     if (room < HEADER_BYTES + END_BYTES)
         return number;
-    struct file_text file = {bytes + HEADER_BYTES, room - HEADER_BYTES, 0, 0};
+    struct file_text file = {version, bytes + HEADER_BYTES, room - HEADER_BYTES, 0, 0};
     for (; fgets(line, sizeof line, text) != NULL; number++)
         if (!is_whole_line(text, line) || !put_line(&file, line))
             return number;
-    put_header(bytes, (uint8_t)file.rows);
+    put_header(bytes, version, (uint8_t)file.rows);
     *written = (size_t)(put_end(file.at, (uint16_t)file.steps) - bytes);
     return 0;
 }

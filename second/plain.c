@@ -5,7 +5,7 @@ bool is_plain_row(const struct row *row)
     return row->class == 0 && row->head == ONLY_HEAD;
 }
 
-static bool is_plain(const struct load *load)
+bool is_plain(const struct load *load)
 {
     for (unsigned row = 1; row <= load->row_count; row++)
         if (!is_plain_row(row_of(load, row)))

@@ -7,6 +7,9 @@
 
 bool is_plain_row(const struct row *row);
 
+/* Whether all the rows that it has are. */
+bool is_plain(const struct load *load);
+
 /* For writing in such a form: the load's own numbers (3 to 7 or 21), all of them, and only then 22
    where some row is not plain. A head other than 1 is out of range, so that 22 is never given for
    it so far. */

@@ -22,20 +22,23 @@ static const char HELP[] =
     "second move FILE         a state on standard input, CLOCK and then FINISHED END OPENING for\n"
     "                         each row (numbers not there are 0): prints the move and the state\n"
     "second answer-trials     questions on standard input (trials.h): prints their answers\n"
-    "second load              rows as text on standard input: writes a load file, unchecked\n"
+    "second load [-2]         rows as text on standard input: writes a load file, unchecked, of\n"
+    "                         version 1, or with -2 of version 2\n"
     "second load-of-sheet     a route sheet on standard input: writes its load file\n"
     "second sheet-of-load     a load file on standard input: writes its route sheet\n"
     "\n"
     "These two write nothing for what is refused: `refused N` stands on standard error, and the\n"
-    "exit status is 1. A route sheet has a line a step, each with CR LF:\n"
+    "exit status is 1. A load with a class has no sheet (22). A route sheet has a line a step,\n"
+    "each with CR LF:\n"
     "    ID,BOX,PHASE,DEADLINE,COST,WAIT,LIMIT\n"
     "The limit stands on a window's first step, - on its other steps, nothing elsewhere.\n"
     "\n"
     "A row as text, one line each:\n"
-    "    ID BOX PHASE DEADLINE : COST wWAIT COST ... : FIRST-LAST<=LIMIT ...\n"
-    "A wait not written is 0; the second colon may be left out when there are no windows.\n"
-    "Empty lines and lines that begin with # are skipped. Any number that fits its field's\n"
-    "bytes is written, so faulty files can be made. Load B:\n"
+    "    ID BOX PHASE DEADLINE : COST wWAIT COST ... : FIRST-LAST<=LIMIT ... : CLASS HEAD\n"
+    "A wait not written is 0; without the third colon class and head are 0 and 1, and without\n"
+    "windows and a third colon the second may be left out too. Another class or head can stand\n"
+    "in version 2 alone. Empty lines and lines that begin with # are skipped. Any number that\n"
+    "fits its field's bytes is written, so faulty files can be made. Load B:\n"
     "    101 201 0 1000000 : 2 w4 2 : 1-2<=8\n"
     "    102 202 0 1000000 : 3\n"
     "    103 203 0 1000000 : 2 w1 1 : 1-2<=6\n";
@@ -128,7 +131,9 @@ static int answer(int count, char **words)
     if (count == 2 && strcmp(command, "answer-trials") == 0)
         return answer_input_trials();
     if (count == 2 && strcmp(command, "load") == 0)
-        return write_load_of_text(stdin, stdout);
+        return write_load_of_text(stdin, VERSION_1, stdout);
+    if (count == 3 && strcmp(command, "load") == 0 && strcmp(words[2], "-2") == 0)
+        return write_load_of_text(stdin, VERSION_2, stdout);
     if (count == 2 && strcmp(command, "load-of-sheet") == 0)
         return write_load_of_sheet(stdin, stdout);
     if (count == 2 && strcmp(command, "sheet-of-load") == 0)

@@ -1,6 +1,6 @@
 /* The trials: streams of questions, answered one after the other, for comparing two programs.
-   Numbers are little-endian; a file has at most 4,096 bytes, a sheet at most 16,384, a list at most
-   256 slots. The letters of the bench stand in one stream:
+   Numbers are little-endian; a file, of either version, has at most 4,096 bytes, a sheet at most
+   16,384, a list at most 256 slots. The letters of the bench stand in one stream:
 
    F  length (2), file                  the report's lines, then a line `.`
    B  length (2), file                  the lines of the program that blames, then a line `.`
@@ -25,11 +25,14 @@
                                         `check N`, N being the load's number where it is faulty
    W  rows (1), 24 x [identifier (4) box (4) phase (4) deadline (4) steps (1) windows (1)
       class (1) head (1), 8 x (cost (2) wait (2)), 4 x (first (1) last (1) limit (2))]
-                                        `load N`, and where N is 0 the written file in hex
+                                        `load N`, and where N is 0 the file in version 1 in hex
    w  room (2), a load as in W          `load N`, and where N is 0 all the room's bytes in hex
+   V  a load as in W                    `load2 N`, and where N is 0 the file in version 2 in hex
+   v  room (2), a load as in W          `load2 N`, and where N is 0 all the room's bytes in hex
    S  count (2), slots as in C          `schedule N`, and where N is 0 the file in hex
    s  room (2), count and slots as in S `schedule N`, and where N is 0 all the room's bytes in hex
-   R  length (2), sheet                 `sheet N`, and where N is 0 the load as a file in hex
+   R  length (2), sheet                 `sheet N`, and where N is 0 the load as a file of version 1
+                                        in hex
    E  a load as in W                    `export N`, and where N is 0 the written sheet in hex
    e  room (2), a load as in W          `export N LENGTH` and all the room's bytes in hex, whatever
                                         N is; LENGTH is the sheet's, 0 where N is not 0

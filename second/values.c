@@ -6,14 +6,15 @@
 #include "bound.h"
 #include "load_file.h"
 
-/* The length of the record that opens here, by its mark; the rest of the file if no mark does. */
-static size_t record_length(const uint8_t *at, size_t rest)
+/* The length of the record that opens here, by its mark and the length of a row record; the rest of
+   the file if no mark does. */
+static size_t record_length(const uint8_t *at, size_t rest, size_t row)
 {
-    static const struct {
+    const struct {
         char mark[3];
         size_t length;
-    } kinds[] = {{"LD", HEADER_BYTES}, {"RW", ROW_BYTES}, {"ST", STEP_BYTES},
-                 {"WN", WINDOW_BYTES}, {"EN", END_BYTES}};
+    } kinds[] = {{"LD", HEADER_BYTES}, {"RW", row}, {"ST", STEP_BYTES}, {"WN", WINDOW_BYTES},
+                 {"EN", END_BYTES}};
     for (size_t kind = 0; kind < sizeof kinds / sizeof kinds[0]; kind++)
         if (rest >= kinds[kind].length && memcmp(at, kinds[kind].mark, 2) == 0)
             return kinds[kind].length;
@@ -27,11 +28,13 @@ static void print_record(FILE *out, const uint8_t *at, size_t length)
     fputc('\n', out);
 }
 
+/* In a file of no version that there is, rows are laid open as in version 1. */
 static void print_records(FILE *out, const uint8_t *bytes, size_t length)
 {
+    size_t row = row_bytes(length > 2 && bytes[2] == VERSION_2 ? VERSION_2 : VERSION_1);
     size_t at = 0;
     while (at < length) {
-        size_t record = record_length(bytes + at, length - at);
+        size_t record = record_length(bytes + at, length - at, row);
         print_record(out, bytes + at, record);
         at += record;
     }

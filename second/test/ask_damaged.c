@@ -1,7 +1,5 @@
-/* Damaged load files: every refusal from 1 to 8 at every kind of record, and every range's ends;
-   among those of the identifier is 21. */
-#include "little_endian.h"
-#include "load_file.h"
+/* Damaged load files of both versions: every refusal from 1 to 8 at every kind of record, and every
+   range's ends; among those of the identifier is 21. */
 #include "questions.h"
 
 enum { MOST_RECORDS = 64, SPOILED = 260, MOST_SPOILED = 3 };
@@ -21,10 +19,8 @@ struct field {
     uint32_t numbers[11];
 };
 
-static const size_t RECORD_BYTES[] = {HEADER_BYTES, ROW_BYTES, STEP_BYTES, WINDOW_BYTES, END_BYTES};
-
 static const struct field FIELDS[] = {
-    {HEADER, 2, 1, 3, {0, 2, 255}},
+    {HEADER, 2, 1, 5, {0, 1, 2, 3, 255}},
     {HEADER, 3, 1, 7, {0, 1, 2, 4, 24, 25, 255}},
     {ROW, 2, 4, 4, {0, 1, UINT32_MAX - 1, UINT32_MAX}},
     {ROW, 6, 4, 3, {0, 1, UINT32_MAX}},
@@ -32,6 +28,8 @@ static const struct field FIELDS[] = {
     {ROW, 14, 4, 6, {0, 1, 999999, 1000000, 1000001, UINT32_MAX}},
     {ROW, 18, 1, 8, {0, 1, 2, 3, 7, 8, 9, 255}},
     {ROW, 19, 1, 7, {0, 1, 2, 3, 4, 5, 255}},
+    {ROW, 20, 1, 7, {0, 1, 2, 3, 4, 128, 255}},
+    {ROW, 21, 1, 5, {0, 1, 2, 3, 255}},
     {STEP, 2, 2, 7, {0, 1, 256, 599, 600, 601, 65535}},
     {STEP, 4, 2, 7, {0, 1, 256, 3599, 3600, 3601, 65535}},
     {WINDOW, 2, 1, 11, {0, 1, 2, 3, 4, 5, 6, 7, 8, 9, 255}},
@@ -40,11 +38,18 @@ static const struct field FIELDS[] = {
     {END, 2, 2, 8, {0, 1, 3, 4, 5, 6, 256, 65535}},
 };
 
+static size_t record_bytes(const struct asked_file *file, enum record_kind kind)
+{
+    const size_t bytes[] = {HEADER_BYTES, row_bytes((enum version)file->bytes[2]), STEP_BYTES,
+                            WINDOW_BYTES, END_BYTES};
+    return bytes[kind];
+}
+
 static unsigned records_of(const struct asked_file *file, struct record *records)
 {
     static const char marks[] = "LRSWE";
     unsigned count = 0;
-    for (size_t at = 0; at < file->length; at += RECORD_BYTES[records[count++].kind]) {
+    for (size_t at = 0; at < file->length; at += record_bytes(file, records[count++].kind)) {
         unsigned kind = 0;
         while (marks[kind] != (char)file->bytes[at])
             kind++;
@@ -65,13 +70,15 @@ static void ask_field(struct asking *asking, const struct asked_file *file, size
     }
 }
 
+/* Class and head stand in rows of version 2 alone. */
 static void ask_fields(struct asking *asking, const struct asked_file *file)
 {
     struct record records[MOST_RECORDS];
     unsigned count = records_of(file, records);
     for (unsigned place = 0; place < count; place++)
         for (size_t field = 0; field < sizeof FIELDS / sizeof FIELDS[0]; field++)
-            if (FIELDS[field].kind == records[place].kind)
+            if (FIELDS[field].kind == records[place].kind
+                && FIELDS[field].at < record_bytes(file, records[place].kind))
                 ask_field(asking, file, records[place].at, &FIELDS[field]);
 }
 
@@ -88,7 +95,7 @@ static void ask_faulty_and_short(struct asking *asking, const struct asked_file 
     unsigned count = records_of(file, records);
     for (unsigned place = 0; place < count; place++) {
         struct asked_file damaged = *file;
-        size_t end = records[place].at + RECORD_BYTES[records[place].kind];
+        size_t end = records[place].at + record_bytes(file, records[place].kind);
         for (size_t at = records[place].at + 2; at < end; at++)
             damaged.bytes[at] = 0xFF;
         ask_cut(asking, damaged, end - 1);
@@ -166,14 +173,19 @@ void ask_damaged_files(struct asking *asking)
     struct load small = load_with(&asking->dice, 3, 2, 1);
     struct load wide = load_with(&asking->dice, 2, MOST_STEPS, MOST_WINDOWS);
     struct load middle = load_with(&asking->dice, 2, 5, 2);
-    struct asked_file files[] = {file_of(&small), file_of(&wide), file_of(&middle)};
-    for (unsigned place = 0; place < 3; place++)
+    struct load urgent = load_with(&asking->dice, 2, 2, 1);
+    set_classes(&asking->dice, &urgent);
+    struct asked_file files[] = {file_of(&small), file_of(&wide), file_of(&middle),
+                                 file_in(VERSION_2, &urgent)};
+    for (unsigned place = 0; place < 4; place++)
         ask_fields(asking, &files[place]);
-    ask_every_byte(asking, &files[0]);
-    ask_every_cut(asking, &files[0]);
-    ask_every_cut(asking, &files[2]);
-    ask_faulty_and_short(asking, &files[0]);
-    ask_faulty_and_short(asking, &files[2]);
+    for (unsigned place = 0; place < 4; place += 3)
+        ask_every_byte(asking, &files[place]);
+    for (unsigned place = 0; place < 4; place += place == 0 ? 2 : 1) {
+        ask_every_cut(asking, &files[place]);
+        ask_faulty_and_short(asking, &files[place]);
+    }
     ask_longer(asking, &files[0]);
+    ask_longer(asking, &files[3]);
     ask_spoiled(asking);
 }

@@ -1,6 +1,5 @@
 /* The factory identifier in load files (21): after every 3 of its row's own fields, before 4 and 5,
    and before all that stands behind its row record. */
-#include "load_file.h"
 #include "questions.h"
 
 /* One row of one step. */
@@ -61,7 +60,7 @@ static void ask_among_rows(struct asking *asking)
 static void ask_bytes(struct asking *asking)
 {
     static const struct { size_t at; uint8_t byte; } bytes[] = {
-        {2, 2}, {HEADER_BYTES + 1, 0}, {HEADER_BYTES + 18, MOST_STEPS + 1},
+        {2, 2}, {2, 3}, {HEADER_BYTES + 1, 0}, {HEADER_BYTES + 18, MOST_STEPS + 1},
         {HEADER_BYTES + 19, MOST_WINDOWS + 1}, {HEADER_BYTES + 19, 1},
         {HEADER_BYTES + ROW_BYTES + STEP_BYTES + 2, 2},
     };

@@ -20,7 +20,7 @@ static size_t room_for(size_t length, unsigned place)
 static void ask_load_in_rooms(struct asking *asking, const struct load *load)
 {
     for (unsigned place = 0; place < ROOMS; place++)
-        ask_load_in_room(asking, room_for(load_bytes(load), place), load);
+        ask_load_in_room(asking, room_for(load_bytes(load, VERSION_1), place), load);
 }
 
 static void ask_loads(struct asking *asking)

@@ -3,7 +3,8 @@
    before 9. */
 #include "questions.h"
 
-enum { URGENT_MOVES = 12, URGENT_LISTS = 3, FEW = 9 };
+enum { URGENT_MOVES = 12, URGENT_LISTS = 3, URGENT_FILES = 6, SPOILED_FILES = 4, FEW = 9,
+       MUCH_MORE = 40 };
 
 /* 2 w4 2 (window 1 to 2) / 2 w1 1 (window 1 to 2). */
 static const struct load TWO_ROWS = {2, {
@@ -125,6 +126,57 @@ void ask_urgent_loads(struct asking *asking)
     ask_load_in_room(asking, 0, &load);
     ask_load_in_room(asking, FEW, &load);
     ask_load_in_room(asking, MOST_ASKED_ROOM, &load);
+}
+
+/* Sound loads and spoiled ones, which version 2 carries whatever their classes. */
+static void ask_any_files(struct asking *asking)
+{
+    struct load none = {0};
+    struct load full = load_with(&asking->dice, MOST_ROWS, MOST_STEPS, MOST_WINDOWS);
+    set_classes(&asking->dice, &full);
+    ask_version_2(asking, &TWO_ROWS);
+    ask_version_2(asking, &none);
+    ask_version_2(asking, &full);
+    for (unsigned times = 0; times < URGENT_FILES + SPOILED_FILES; times++) {
+        struct load load = any_load(&asking->dice, QUICK_SIZES);
+        set_classes(&asking->dice, &load);
+        if (times >= URGENT_FILES)
+            spoil(&asking->dice, &load);
+        ask_version_2(asking, &load);
+    }
+}
+
+static void ask_file_in_rooms(struct asking *asking, const struct load *load)
+{
+    size_t length = load_bytes(load, VERSION_2);
+    const size_t rooms[] = {0, length - 1, length, length + 1, length + MUCH_MORE};
+    for (unsigned place = 0; place < sizeof rooms / sizeof rooms[0]; place++)
+        ask_version_2_in_room(asking, rooms[place], load);
+}
+
+static void ask_file_rooms(struct asking *asking)
+{
+    struct load none = {0}, urgent = urgent_load(), faulty = TWO_ROWS;
+    struct load full = load_with(&asking->dice, MOST_ROWS, MOST_STEPS, MOST_WINDOWS);
+    set_classes(&asking->dice, &full);
+    faulty.rows[1].head = 2;
+    ask_file_in_rooms(asking, &none);
+    ask_file_in_rooms(asking, &urgent);
+    ask_file_in_rooms(asking, &full);
+    ask_version_2_in_room(asking, MOST_ASKED_ROOM, &urgent);
+    ask_version_2_in_room(asking, load_bytes(&TWO_ROWS, VERSION_1), &TWO_ROWS);
+    ask_version_2_in_room(asking, 0, &faulty);
+    ask_version_2_in_room(asking, FEW, &faulty);
+}
+
+void ask_urgent_files(struct asking *asking)
+{
+    ask_ranges(asking, ask_version_2);
+    ask_unused(asking, ask_version_2);
+    ask_classes(asking, ask_version_2);
+    ask_faults_behind(asking, ask_version_2);
+    ask_any_files(asking);
+    ask_file_rooms(asking);
 }
 
 void ask_urgent_places(struct asking *asking)

@@ -49,6 +49,7 @@ int main(void)
     load_cases(&tally);
     factory_cases(&tally);
     urgent_cases(&tally);
+    version_cases(&tally);
     sheet_cases(&tally);
     bound_cases(&tally);
     blame_cases(&tally);

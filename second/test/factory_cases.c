@@ -45,7 +45,8 @@ static void file_cases(struct tally *tally)
         same(tally, "cut behind the row record", 21, reading(FILE_OF_IT, length));
     for (size_t length = 0; length < 24; length++)
         same(tally, "cut before or inside it", 1, reading(FILE_OF_IT, length));
-    same(tally, "version 2", 2, reading_with_byte(2, 2));
+    same(tally, "version 3", 2, reading_with_byte(2, 3));
+    same(tally, "version 2: the step's mark where class and head are", 3, reading_with_byte(2, 2));
     same(tally, "25 rows", 3, reading_with_byte(3, 25));
     same(tally, "its mark", 2, reading_with_byte(5, 0));
     same(tally, "phase 16,777,216", 3, reading_with_byte(17, 1));
@@ -150,8 +151,8 @@ static void call_in_memory_cases(struct tally *tally)
     bool yes = true;
     memset(bytes, STAYS, sizeof bytes);
     load.rows[2].identifier.number = UINT32_MAX;
-    same(tally, "a file, no room", 21, write_load(&load, bytes, 0, &written));
-    same(tally, "a file", 21, write_load(&load, bytes, sizeof bytes, &written));
+    same(tally, "a file, no room", 21, write_version_1(&load, bytes, 0, &written));
+    same(tally, "a file", 21, write_version_1(&load, bytes, sizeof bytes, &written));
     same(tally, "a sheet, no room", 21, write_sheet(&load, bytes, 0, &written));
     same(tally, "a sheet", 21, write_sheet(&load, bytes, sizeof bytes, &written));
     same(tally, "nothing written", 1, all_stay(bytes, sizeof bytes));

@@ -125,7 +125,7 @@ FACTORY_MISTAKES = [
      "        uint8_t other[MOST_LOAD_BYTES];\n"
      "        struct load read;\n"
      "        memcpy(other, bytes, length);\n"
-     "        other[reader.at - ROW_BYTES + MARK_BYTES] = 1;\n"
+     "        other[reader.at - row_bytes(reader.version) + MARK_BYTES] = 1;\n"
      "        enum refusal rest = read_load(other, length, &read);\n"
      "        refusal = rest == ACCEPTED ? refusal : rest;\n"
      "    }\n"
@@ -144,7 +144,7 @@ FACTORY_MISTAKES = [
     ("factory: 9 before it, in a load's room", "load_writing.c",
      CHECK_WRITTEN,
      CHECK_WRITTEN +
-     "    if (refusal == FACTORY_IDENTIFIER && room < load_bytes(load))\n"
+     "    if (refusal == FACTORY_IDENTIFIER && room < load_bytes(load, VERSION_1))\n"
      "        return OUTPUT_SHORT;\n"),
     ("factory: 9 before it, in a sheet's room", "sheet.c",
      CHECK_WRITTEN,

@@ -3,19 +3,44 @@
 #include <string.h>
 
 #include "load_file.h"
+#include "plain.h"
 
 enum { PERTURBED = 20 };
 
-/* Writing and reading give the load again, byte for byte. */
+/* Writing and reading give the load again, byte for byte; version 2 has two bytes more a row. */
 static bool is_read_as_written(const struct load *load)
 {
     uint8_t bytes[MOST_LOAD_BYTES], again[MOST_LOAD_BYTES];
     size_t length, length_again;
     struct load read;
-    return write_load(load, bytes, sizeof bytes, &length) == ACCEPTED
+    return write_version_2(load, bytes, sizeof bytes, &length) == ACCEPTED
+        && length == load_bytes(load, VERSION_1) + CLASS_AND_HEAD_BYTES * (size_t)load->row_count
         && read_load(bytes, length, &read) == ACCEPTED
-        && write_load(&read, again, sizeof again, &length_again) == ACCEPTED
+        && write_version_2(&read, again, sizeof again, &length_again) == ACCEPTED
         && length == length_again && memcmp(bytes, again, length) == 0;
+}
+
+static bool is_refused_in_version_1(const struct load *load)
+{
+    uint8_t bytes[MOST_LOAD_BYTES];
+    size_t length;
+    return write_version_1(load, bytes, sizeof bytes, &length) == NOT_CARRIED && length == 0;
+}
+
+/* Without its classes: from version 1 to version 2 and back the bytes stay. */
+static bool is_moved_and_back(struct load load)
+{
+    uint8_t bytes[MOST_LOAD_BYTES], moved[MOST_LOAD_BYTES], back[MOST_LOAD_BYTES];
+    size_t length, moved_length, back_length;
+    struct load read;
+    for (unsigned row = 1; row <= load.row_count; row++)
+        load.rows[row - 1].class = 0;
+    return write_version_1(&load, bytes, sizeof bytes, &length) == ACCEPTED
+        && read_load(bytes, length, &read) == ACCEPTED
+        && write_version_2(&read, moved, sizeof moved, &moved_length) == ACCEPTED
+        && read_load(moved, moved_length, &read) == ACCEPTED
+        && write_version_1(&read, back, sizeof back, &back_length) == ACCEPTED
+        && length == back_length && memcmp(bytes, back, length) == 0;
 }
 
 /* A file and a load in memory put the same questions in the same order. */
@@ -59,6 +84,10 @@ const char *file_fault(struct dice *dice, const struct load *load)
 {
     if (!is_read_as_written(load))
         return "read as written";
+    if (!is_plain(load) && !is_refused_in_version_1(load))
+        return "a class is not lost";
+    if (!is_moved_and_back(*load))
+        return "moved to version 2 and back";
     if (!is_refused_as_load(dice, load))
         return "a spoiled file is refused as the load is";
     if (!are_any_bytes_read(dice, load))

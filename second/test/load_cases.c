@@ -1,4 +1,4 @@
-/* Load files and loads in memory: 1 to 9; 21 in factory_cases.c. */
+/* Load files and loads in memory: 1 to 9; 21 in factory_cases.c, version 2 in version_cases.c. */
 #include <string.h>
 
 #include "cases.h"
@@ -52,7 +52,7 @@ static void file_cases(struct tally *tally)
     for (size_t length = 0; length < 110; length++)
         same(tally, "cut short", 1, reading_first(length));
     same(tally, "header mark", 2, reading_with_byte(0, 0x4D));
-    same(tally, "version 2", 2, reading_with_byte(2, 2));
+    same(tally, "version 3", 2, reading_with_byte(2, 3));
     same(tally, "25 rows in the header", 3, reading_with_byte(3, 25));
     same(tally, "one row too many: 20 bytes due where 4 are left", 1, reading_with_byte(3, 4));
     same(tally, "one row too few: a row's mark where the end is due", 2, reading_with_byte(3, 2));
@@ -68,7 +68,7 @@ static void file_cases(struct tally *tally)
     same(tally, "window from 0", 3, reading_with_byte(38, 0));
     struct load load = load_b();
     struct file file = file_of(&load);
-    file.bytes[2] = 2;
+    file.bytes[2] = 3;
     file.bytes[3] = 25;
     same(tally, "version and row count", 2, reading(&file));
     file = file_of(&load);
@@ -168,14 +168,14 @@ static void writing_cases(struct tally *tally)
     uint8_t bytes[120];
     size_t written;
     memset(bytes, 0xAA, sizeof bytes);
-    same(tally, "room 109", 9, write_load(&load, bytes, 109, &written));
+    same(tally, "room 109", 9, write_version_1(&load, bytes, 109, &written));
     same(tally, "room 109: nothing written", 0xAA, bytes[0]);
-    same(tally, "room 110", 0, write_load(&load, bytes, 110, &written));
-    same(tally, "room 120", 0, write_load(&load, bytes, 120, &written));
+    same(tally, "room 110", 0, write_version_1(&load, bytes, 110, &written));
+    same(tally, "room 120", 0, write_version_1(&load, bytes, 120, &written));
     same(tally, "length", 110, (long)written);
     same(tally, "bytes past the file stay", 0xAA, bytes[110]);
     load.rows[0].windows[0].limit = 7;
-    same(tally, "7 before 9", 7, write_load(&load, bytes, 0, &written));
+    same(tally, "7 before 9", 7, write_version_1(&load, bytes, 0, &written));
 }
 
 void load_cases(struct tally *tally)

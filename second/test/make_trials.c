@@ -3,8 +3,6 @@
    The first two are the files that the two streams go to. Each LOAD is a file of rows in the
    notation, asked first and, for its blames, again later; the counts of questions by letter, a line
    for each stream, and of blamed loads by kind go to standard error. */
-#include <stdio.h>
-
 #include "notation.h"
 #include "questions.h"
 
@@ -15,7 +13,8 @@ static bool read_rows(const char *name, struct asked_file *file)
     FILE *text = fopen(name, "r");
     if (text == NULL)
         return false;
-    unsigned long line = write_notation(text, file->bytes, sizeof file->bytes, &file->length);
+    unsigned long line = write_notation(text, VERSION_1, file->bytes, sizeof file->bytes,
+                                        &file->length);
     fclose(text);
     return line == 0;
 }
@@ -25,6 +24,7 @@ static void ask_lent_files(struct asking *asking)
     ask_sound_loads(asking);
     ask_damaged_files(asking);
     ask_factory_files(asking);
+    ask_versions(asking);
     ask_twins(asking);
     ask_moves(asking);
     ask_refused_files(asking);
@@ -50,6 +50,7 @@ static void ask_lent_loads(struct asking *asking)
     ask_rooms(asking);
     ask_factory_loads(asking);
     ask_urgent_loads(asking);
+    ask_urgent_files(asking);
 }
 
 /* Asks of each load in turn; the last of them stays in `file`. */
@@ -107,7 +108,7 @@ static void print_letters(const struct asking *asking, const char *letters)
 static void print_counts(const struct asking *asking)
 {
     print_letters(asking, "FMNBPp");
-    print_letters(asking, "CDWwSsREe");
+    print_letters(asking, "CDWwVvSsREe");
     fprintf(stderr, "rows tie %lu\nplaces tie %lu\nthe cut decides %lu\njust outweighed %lu\n",
             asking->row_ties, asking->place_ties, asking->cuts, asking->outweighed);
 }

@@ -99,15 +99,17 @@ MISTAKES = [
     ("marks asked before lengths", "load_file.c",
      "reader->length - reader->at < size",
      "reader->length - reader->at < 2"),
-    ("version not asked", "load_file.c", "fields[0] != VERSION", "false"),
+    ("version not asked", "load_file.c",
+     "fields[0] != VERSION_1 && fields[0] != VERSION_2",
+     "false"),
     ("range asked before version", "load_file.c",
-     "    if (fields[0] != VERSION)\n"
+     "    if (fields[0] != VERSION_1 && fields[0] != VERSION_2)\n"
      "        return MARK_DIFFERS;\n"
      "    if (fields[1] > MOST_ROWS)\n"
      "        return OUT_OF_RANGE;\n",
      "    if (fields[1] > MOST_ROWS)\n"
      "        return OUT_OF_RANGE;\n"
-     "    if (fields[0] != VERSION)\n"
+     "    if (fields[0] != VERSION_1 && fields[0] != VERSION_2)\n"
      "        return MARK_DIFFERS;\n"),
     ("a mark's first byte alone", "load_file.c",
      "memcmp(record, mark, MARK_BYTES)",
@@ -401,26 +403,26 @@ MISTAKES = [
      "enum refusal refusal = ACCEPTED;"),
     ("the room asked before the load", "load_writing.c",
      "enum refusal refusal = check_plain(load);",
-     "enum refusal refusal = load->row_count <= MOST_ROWS && room < load_bytes(load)\n"
+     "enum refusal refusal = load->row_count <= MOST_ROWS && room < load_bytes(load, VERSION_1)\n"
      "        ? OUTPUT_SHORT : check_plain(load);"),
     ("no room asked before the load", "load_writing.c",
      "enum refusal refusal = check_plain(load);",
      "enum refusal refusal = room == 0 ? OUTPUT_SHORT : check_plain(load);"),
     ("a load's exact room is short", "load_writing.c",
-     "room < load_bytes(load)",
-     "room <= load_bytes(load) && room < MOST_LOAD_BYTES"),
+     "room < length",
+     "room <= length && room < MOST_LOAD_BYTES"),
     ("a room one short is enough for a load", "load_writing.c",
-     "room < load_bytes(load)",
-     "room + 1 < load_bytes(load)"),
+     "room < length",
+     "room + 1 < length"),
     ("room for the largest load is asked", "load_writing.c",
-     "room < load_bytes(load)",
+     "room < length",
      "room < MOST_LOAD_BYTES"),
     ("bytes past a load's file set to 0", "load_writing.c",
-     "    *written = load_bytes(load);\n",
-     "    *written = load_bytes(load);\n    memset(bytes + *written, 0, room - *written);\n"),
+     "    *written = length;\n",
+     "    *written = length;\n    memset(bytes + *written, 0, room - *written);\n"),
     ("a load's file at the room's end", "load_writing.c",
-     "    put_load(bytes, load);\n",
-     "    put_load(bytes + room - load_bytes(load), load);\n"),
+     "    put_load_in(bytes, version, load);\n",
+     "    put_load_in(bytes + room - length, version, load);\n"),
     ("the room asked before 193 slots", "schedule.c",
      "    if (count > MOST_SLOTS)\n"
      "        return OUT_OF_RANGE;\n"

@@ -2,17 +2,23 @@
 
 #include <string.h>
 
-#include "load_file.h"
 #include "question_parts.h"
 
 enum { MEMORY_SHARE = 24 };
 
-static const char FILE_LETTERS[] = "CDWwSsREe";
+static const char FILE_LETTERS[] = "CDWwVvSsREe";
 
 struct asked_file file_of(const struct load *load)
 {
     struct asked_file file = {0};
     file.length = (size_t)(put_load(file.bytes, load) - file.bytes);
+    return file;
+}
+
+struct asked_file file_in(enum version version, const struct load *load)
+{
+    struct asked_file file = {0};
+    file.length = (size_t)(put_load_in(file.bytes, version, load) - file.bytes);
     return file;
 }
 
@@ -101,6 +107,16 @@ static void ask_in_room(struct asking *asking, char letter, size_t room, const s
 void ask_load_in_room(struct asking *asking, size_t room, const struct load *load)
 {
     ask_in_room(asking, 'w', room, load);
+}
+
+void ask_version_2(struct asking *asking, const struct load *load)
+{
+    begin_with_load(asking, 'V', load);
+}
+
+void ask_version_2_in_room(struct asking *asking, size_t room, const struct load *load)
+{
+    ask_in_room(asking, 'v', room, load);
 }
 
 void ask_schedule_in_room(struct asking *asking, size_t room, const struct asked_slots *list)

@@ -3,6 +3,7 @@
 #define QUESTIONS_H
 
 #include "asked.h"
+#include "load_file.h"
 #include "random_load.h"
 
 enum { LETTERS = 128 };
@@ -25,8 +26,10 @@ typedef void ask_of_load(struct asking *asking, const struct load *load);
 struct lent;
 typedef void ask_lent(struct asking *asking, const struct lent *lent, const struct load *load);
 
-/* A load's records, unchecked; its counts fit its places. */
+/* A load's records, unchecked; its counts fit its places. Without a version it is the lowest that
+   carries all of the load. */
 struct asked_file file_of(const struct load *load);
+struct asked_file file_in(enum version version, const struct load *load);
 
 /* A list as the check takes it: the slots of a load's run. */
 struct asked_slots slots_of(const struct load *load);
@@ -54,6 +57,10 @@ void ask_schedule(struct asking *asking, const struct asked_slots *list);
 void ask_load_in_room(struct asking *asking, size_t room, const struct load *load);
 void ask_schedule_in_room(struct asking *asking, size_t room, const struct asked_slots *list);
 
+/* V and v. */
+void ask_version_2(struct asking *asking, const struct load *load);
+void ask_version_2_in_room(struct asking *asking, size_t room, const struct load *load);
+
 /* R, E and e. */
 void ask_sheet(struct asking *asking, const struct asked_sheet *sheet);
 void ask_export(struct asking *asking, const struct load *load);
@@ -75,6 +82,7 @@ void ask_all_of_file(struct asking *asking, const struct asked_file *file);
 void ask_sound_loads(struct asking *asking);
 void ask_damaged_files(struct asking *asking);
 void ask_factory_files(struct asking *asking);
+void ask_versions(struct asking *asking);
 void ask_twins(struct asking *asking);
 void ask_moves(struct asking *asking);
 void ask_refused_files(struct asking *asking);
@@ -91,6 +99,7 @@ void ask_faulty_loads(struct asking *asking);
 void ask_rooms(struct asking *asking);
 void ask_factory_loads(struct asking *asking);
 void ask_urgent_loads(struct asking *asking);
+void ask_urgent_files(struct asking *asking);
 void ask_blames(struct asking *asking);
 void ask_places_in_memory(struct asking *asking);
 void ask_factory_places(struct asking *asking);

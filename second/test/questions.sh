@@ -54,6 +54,11 @@ bad 'D, no row' '' 'D\0'
 bad 'w, half a room' '' 'w\0'
 bad 'w, room 4,097' '' 'w\001\020'
 bad 'w, no row' '' 'w\010\0\0'
+bad 'V, nothing' '' 'V'
+bad 'V, no row' '' 'V\0'
+bad 'v, half a room' '' 'v\0'
+bad 'v, room 4,097' '' 'v\001\020'
+bad 'v, no row' '' 'v\010\0\0'
 bad 's, room 4,097' '' 's\001\020\0\0'
 bad 's, no count' '' 's\004\0'
 bad 's, count 257' '' 's\004\0\001\001'
@@ -93,6 +98,16 @@ empty 'w, room 7' 'load 9' 'w\007\0' 1633 ''
 empty 'w, room 8' 'load 0 4c440100454e0000' 'w\010\0' 1633 ''
 empty 'w, room 10' 'load 0 4c440100454e0000a5a5' 'w\012\0' 1633 ''
 empty 'w, 25 rows, room 0' 'load 3' 'w\0\0\031' 1632 ''
+empty 'V, a byte too few' bad V 1632 ''
+empty 'V, no rows' 'load2 0 4c440200454e0000' V 1633 ''
+empty 'V, 25 rows' 'load2 3' 'V\031' 1632 ''
+empty 'V, after a good one' 'load2 0 4c440200454e0000
+bad' V 1633 V
+empty 'v, a byte too few' bad 'v\0\0' 1632 ''
+empty 'v, room 7' 'load2 9' 'v\007\0' 1633 ''
+empty 'v, room 8' 'load2 0 4c440200454e0000' 'v\010\0' 1633 ''
+empty 'v, room 10' 'load2 0 4c440200454e0000a5a5' 'v\012\0' 1633 ''
+empty 'v, 25 rows, room 0' 'load2 3' 'v\0\0\031' 1632 ''
 empty 's, room 3' 'schedule 9' 's\003\0' 2 ''
 empty 's, room 4' 'schedule 0 53430000' 's\004\0' 2 ''
 empty 's, room 6' 'schedule 0 53430000a5a5' 's\006\0' 2 ''
@@ -155,6 +170,14 @@ empty 'e, class 1, room 0' 'export 22 0 ' "e\0\0$urgent" $rest ''
 empty 'e, class 1, room 2' 'export 22 0 a5a5' "e\002\0$urgent" $rest ''
 empty 'p, class 1' "$places margins -5$(printf ' 0%.0s' $(seq 23))" "p$urgent" $rest ''
 empty 'D, class 1, no slots' 'check 12' "D$urgent" 1612 ''
+file_2=4c44020152570200000003000000040000000500000001000101535406000''000454e0100
+empty 'V, class 1' "load2 0 $file_2" "V$urgent" $rest ''
+empty 'v, class 1, room 0' 'load2 9' "v\0\0$urgent" $rest ''
+empty 'v, class 1, room 35' 'load2 9' "v\043\0$urgent" $rest ''
+empty 'v, class 1, room 36' "load2 0 $file_2" "v\044\0$urgent" $rest ''
+empty 'v, class 1, room 38' "load2 0 ${file_2}a5a5" "v\046\0$urgent" $rest ''
+empty 'V, head 0' 'load2 3' "V$no_head" $rest ''
+empty 'v, head 0, room 0' 'load2 3' "v\0\0$no_head" $rest ''
 empty 'W, head 0' 'load 3' "W$no_head" $rest ''
 empty 'w, head 0, room 0' 'load 3' "w\0\0$no_head" $rest ''
 empty 'e, head 0, room 2' 'export 3 0 a5a5' "e\002\0$no_head" $rest ''
@@ -172,6 +195,10 @@ same 'R, a sheet of 16,384 bytes' 'sheet 18' \
 same 'B, no rows' 'load 0 0 0 0 yes
 .' "$(printf 'B\010\0LD\001\0EN\0\0' | "$second" answer-trials)"
 same 'P, no rows' "$places" "$(printf 'P\010\0LD\001\0EN\0\0' | "$second" answer-trials)"
+same 'F, no rows in version 2' 'load 0 0 0 0 yes
+.' "$(printf 'F\010\0LD\002\0EN\0\0' | "$second" answer-trials)"
+same 'F, no rows in version 3' 'refused 2
+.' "$(printf 'F\010\0LD\003\0EN\0\0' | "$second" answer-trials)"
 same 'nothing asked' '' "$("$second" answer-trials < /dev/null)"
 same 'a file of 4,096 bytes' 'refused 2
 .' "$({ printf 'F\0\020'; head -c 4096 /dev/zero; } | "$second" answer-trials)"

@@ -130,15 +130,17 @@ void spoil(struct dice *dice, struct load *load)
     struct step *step = &row->steps[throw_dice(dice) % row->step_count];
     struct window *window = &row->windows[throw_dice(dice) % MOST_WINDOWS];
     bool there = window < row->windows + row->window_count;
-    switch (throw_dice(dice) % 9) {
+    switch (throw_dice(dice) % 11) {
     case 0: row->identifier.number = between(dice, 100, 100u + load->row_count); break;
     case 1: row->box.number = between(dice, 200, 200u + load->row_count); break;
     case 2: row->phase = between(dice, 86395, 86405); break;
     case 3: row->deadline = throw_dice(dice) % 2 ? 0 : between(dice, 999999, 1000001); break;
     case 4: step->cost = (uint16_t)(throw_dice(dice) % 2 ? 0 : between(dice, 599, 602)); break;
     case 5: step->wait = (uint16_t)between(dice, 3598, 3602); break;
-    case 6: if (there) window->first = (uint8_t)between(dice, 0, 9); break;
-    case 7: if (there) window->last = (uint8_t)between(dice, 0, 9); break;
+    case 6: row->class = (uint8_t)between(dice, 0, MOST_CLASS + 2); break;
+    case 7: row->head = (uint8_t)between(dice, 0, 2); break;
+    case 8: if (there) window->first = (uint8_t)between(dice, 0, 9); break;
+    case 9: if (there) window->last = (uint8_t)between(dice, 0, 9); break;
     default: if (there) window->limit = (uint16_t)between(dice, 0, 20); break;
     }
 }

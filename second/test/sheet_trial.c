@@ -1,6 +1,6 @@
 /* Random loads and damaged sheets: an exported sheet reads back as the same load, and an accepted
    sheet exports to the same bytes; with the factory identifier in any row a load is refused alike
-   in memory, as a file and as a sheet. */
+   in memory, as a file and as a sheet; with a class in any row it has no sheet. */
 #include <stdio.h>
 #include <string.h>
 
@@ -19,8 +19,8 @@ static bool is_same_load(const struct load *one, const struct load *other)
 {
     uint8_t files[2][MOST_LOAD_BYTES];
     size_t lengths[2];
-    return write_load(one, files[0], sizeof files[0], &lengths[0]) == ACCEPTED
-        && write_load(other, files[1], sizeof files[1], &lengths[1]) == ACCEPTED
+    return write_version_1(one, files[0], sizeof files[0], &lengths[0]) == ACCEPTED
+        && write_version_1(other, files[1], sizeof files[1], &lengths[1]) == ACCEPTED
         && lengths[0] == lengths[1] && memcmp(files[0], files[1], lengths[0]) == 0;
 }
 
@@ -53,6 +53,14 @@ static bool is_factory_refused(struct load load, unsigned row)
         && read_sheet(sheet.bytes, sheet.length, &read) == FACTORY_IDENTIFIER;
 }
 
+static bool is_class_refused(struct load load, unsigned row)
+{
+    uint8_t bytes[MOST_SHEET_BYTES];
+    size_t length;
+    load.rows[row - 1].class = (uint8_t)(1 + row % MOST_CLASS);
+    return write_sheet(&load, bytes, sizeof bytes, &length) == NOT_CARRIED;
+}
+
 /* What is wrong is told with the sheet that shows it. */
 static void tell(struct found *found, const char *what, const struct asked_sheet *sheet)
 {
@@ -80,9 +88,12 @@ static void try_load(struct found *found, struct dice *dice, unsigned times)
     struct asked_sheet sheet = sheet_of(&load);
     if (!reads_back(&load))
         tell(found, "an exported sheet is not read back", &sheet);
-    for (unsigned row = 1; row <= load.row_count; row++)
+    for (unsigned row = 1; row <= load.row_count; row++) {
         if (!is_factory_refused(load, row))
             tell(found, "the factory identifier in some row of this is not refused alike", &sheet);
+        if (!is_class_refused(load, row))
+            tell(found, "a class in some row of this is lost", &sheet);
+    }
     for (unsigned damaged = 0; damaged < DAMAGED_EACH; damaged++)
         try_damaged(found, dice, &sheet);
 }

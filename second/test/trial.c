@@ -1,13 +1,15 @@
-/* Random loads: the run from fresh must end by the bound, each row by its row bound, and its
-   own slots must pass the check whenever no margin is negative. One load for which this fails
-   is printed with its numbers, and the trial ends with 1. Usage: trial [COUNT [SEED [SIZES]]],
-   where SIZES takes the first so many sizes of load alone, the quick ones. */
+/* Random loads, two of three with classes: the run from fresh must end by the bound, each row by
+   its row bound, and its own slots must pass the check whenever no margin is negative. One load for
+   which this fails is printed with its numbers, and the trial ends with 1.
+   Usage: trial [COUNT [SEED [SIZES]]], where SIZES takes the first so many sizes of load alone, the
+   quick ones. */
 #include <stdio.h>
 #include <stdlib.h>
 
 #include "blame_fault.h"
 #include "bound.h"
 #include "file_fault.h"
+#include "plain.h"
 #include "schedule.h"
 
 enum { DEFAULT_COUNT = 600, DEFAULT_SEED = 1, PERTURBED = 20 };
@@ -23,6 +25,8 @@ static void print_row(const struct row *row)
     for (unsigned window = 1; window <= row->window_count; window++)
         printf("%s%u-%u<=%u", window == 1 ? " : " : " ", window_of(row, window)->first,
                window_of(row, window)->last, window_of(row, window)->limit);
+    if (!is_plain_row(row))
+        printf("%s : %u %u", row->window_count == 0 ? " :" : "", row->class, row->head);
     putchar('\n');
 }
 
@@ -133,6 +137,8 @@ int main(int count, char **words)
         struct load load = any_load(&dice, among);
         row_bounds_of(&load, bounds);
         set_deadlines(&dice, &load, bounds);
+        if (at % 3 != 0)
+            set_classes(&dice, &load);
         verdict_of(&load, &verdict);
         yes += verdict;
         if (!keeps_demands(&load) || !moves_are_the_run(&load)

@@ -98,6 +98,14 @@ met 0 "$(count_files '^load 0 [0-9a-f]+$')"
 for number in 3 4 5 6 7 9 21 22; do
     met "$number" "$(count_files "^load $number\$")"
 done
+printf '; loads in version 2'
+met 0 "$(count_files '^load2 0 [0-9a-f]+$')"
+for number in 3 4 5 6 7 9 21; do
+    met "$number" "$(count_files "^load2 $number\$")"
+done
+same 'trials: version 2 carries every load' 0 "$(count_files '^load2 22')"
+met 'the empty one' "$(count_files '^load2 0 4c440200454e0000$')"
+met 'one of 24 full rows' "$(count_files '^load2 0 [0-9a-f]{4528}$')"
 printf '; schedules'
 met 0 "$(count_files '^schedule 0 [0-9a-f]+$')"
 for number in 3 9; do

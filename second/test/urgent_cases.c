@@ -34,6 +34,15 @@ static void refused_by(struct tally *tally, const char *what, long wanted, const
     same(tally, what, 0, (long)(written + unwritten));
 }
 
+/* 9 with no room, and else it is written. */
+static void carried(struct tally *tally, const char *what, const struct load *load)
+{
+    uint8_t bytes[MOST_LOAD_BYTES];
+    size_t written;
+    same(tally, what, 9, write_version_2(load, bytes, 0, &written));
+    same(tally, what, 0, write_version_2(load, bytes, sizeof bytes, &written));
+}
+
 static void in_memory(struct tally *tally, const char *what, long wanted, const struct load *load)
 {
     same(tally, what, wanted, check_load(load));
@@ -43,16 +52,18 @@ static void in_memory(struct tally *tally, const char *what, long wanted, const 
 static void faulty(struct tally *tally, const char *what, long wanted, const struct load *load)
 {
     in_memory(tally, what, wanted, load);
-    refused_by(tally, what, wanted, load, write_load);
+    refused_by(tally, what, wanted, load, write_version_1);
+    refused_by(tally, what, wanted, load, write_version_2);
     refused_by(tally, what, wanted, load, write_sheet);
 }
 
-/* A good load that these two forms cannot carry. */
+/* A good load that only version 2 can carry. */
 static void not_carried(struct tally *tally, const char *what, const struct load *load)
 {
     in_memory(tally, what, 0, load);
-    refused_by(tally, what, 22, load, write_load);
+    refused_by(tally, what, 22, load, write_version_1);
     refused_by(tally, what, 22, load, write_sheet);
+    carried(tally, what, load);
 }
 
 /* Each line alters load B. */
