@@ -2,6 +2,7 @@
 
 #include <stddef.h>
 
+#include "candidates.h"
 #include "lamps.h"
 #include "plan.h"
 
@@ -56,47 +57,6 @@ static bool is_all_finished(const struct load *load, const struct bench *state)
     return true;
 }
 
-/* A phase is asked of a first step, a wait of every later one, counted from the end before it. */
-static bool is_ready(const struct row *row, const struct progress *progress, uint32_t clock)
-{
-    if (progress->finished == 0)
-        return clock >= row->phase;
-    return clock >= progress->end + step_of(row, progress->finished)->wait;
-}
-
-/* Whether every row has finished all its steps of lower number; a short row has fewer of them. */
-static bool is_lower_finished(const struct load *load, const struct bench *state, unsigned step)
-{
-    for (unsigned row = 1; row <= load->row_count; row++) {
-        unsigned steps = row_of(load, row)->step_count;
-        unsigned lower = steps < step - 1 ? steps : step - 1;
-        if (progress_of(state, row)->finished < lower)
-            return false;
-    }
-    return true;
-}
-
-static bool is_allowed(const struct load *load, const struct bench *state, struct slot slot)
-{
-    return is_embedded(row_of(load, slot.row), slot.step)
-        || is_lower_finished(load, state, slot.step);
-}
-
-static uint32_t end_of(const struct load *load, struct slot slot)
-{
-    return slot.start + step_of(row_of(load, slot.row), slot.step)->cost;
-}
-
-static bool is_candidate(const struct load *load, const struct bench *state, struct slot slot)
-{
-    const struct row *row = row_of(load, slot.row);
-    const struct progress *progress = progress_of(state, slot.row);
-    return progress->finished + 1 == slot.step && slot.step <= row->step_count
-        && is_ready(row, progress, state->clock)
-        && is_allowed(load, state, slot)
-        && end_of(load, slot) <= LAST_MOMENT;
-}
-
 /* The state at the slot's end. A window's first step opens it at the slot's start; its last
    step leaves no window open; any other step leaves the opening as it was. */
 static struct bench with_step(const struct load *load, struct bench state, struct slot slot)
@@ -113,19 +73,16 @@ static struct bench with_step(const struct load *load, struct bench state, struc
     return state;
 }
 
-/* By step number, then by row: the first candidate that passes the plan, and no later one. */
+/* The first candidate that passes the plan, and no later one is tried. */
 static bool find_start(const struct load *load, const struct bench *state, struct slot *found)
 {
-    for (unsigned step = 1; step <= MOST_STEPS; step++) {
-        for (unsigned row = 1; row <= load->row_count; row++) {
-            struct slot slot = {(uint8_t)row, (uint8_t)step, state->clock};
-            if (!is_candidate(load, state, slot))
-                continue;
-            struct bench at_end = with_step(load, *state, slot);
-            if (passes_plan(load, &at_end)) {
-                *found = slot;
-                return true;
-            }
+    struct slot candidates[MOST_ROWS];
+    unsigned count = candidates_of(load, state, candidates);
+    for (unsigned place = 0; place < count; place++) {
+        struct bench at_end = with_step(load, *state, candidates[place]);
+        if (passes_plan(load, &at_end)) {
+            *found = candidates[place];
+            return true;
         }
     }
     return false;

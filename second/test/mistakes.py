@@ -18,8 +18,9 @@ from factory_mistakes import FACTORY_MISTAKES
 from sheet_mistakes import SHEET_MISTAKES
 
 HERE = os.path.dirname(os.path.dirname(os.path.abspath(__file__)))
-PARTS = ("load load_file plain load_writing sheet_line sheet waits bound plan lamps bench schedule"
-         " report notation lent values conversion asked answered file_trials trials calls second")
+PARTS = ("load load_file plain load_writing sheet_line sheet waits bound plan lamps candidates"
+         " bench schedule report notation lent values conversion asked answered file_trials trials"
+         " calls second")
 MOST_SECONDS = 10
 PART_BYTES = 1 << 16
 
@@ -185,26 +186,28 @@ MISTAKES = [
     ("clock 1,000,000 has none", "bench.c",
      "state->clock > LAST_MOMENT)",
      "state->clock >= LAST_MOMENT)"),
-    ("a wait counted from the start", "bench.c",
+    ("a wait counted from the start", "candidates.c",
      "progress->end + step_of(row, progress->finished)->wait;",
      "progress->end + step_of(row, progress->finished)->wait - step_of(row, "
      "progress->finished)->cost;"),
-    ("ready one tick late", "bench.c",
+    ("ready one tick late", "candidates.c",
      "return clock >= progress->end",
      "return clock > progress->end"),
-    ("phases not asked", "bench.c", "return clock >= row->phase;", "return true;"),
-    ("free taken for ready", "bench.c",
+    ("phases not asked", "candidates.c", "return clock >= row->phase;", "return true;"),
+    ("free taken for ready", "candidates.c",
      "is_embedded(row_of(load, slot.row), slot.step)\n"
      "        || is_lower_finished(load, state, slot.step)",
      "true"),
-    ("embedded steps wait for all", "bench.c",
+    ("embedded steps wait for all", "candidates.c",
      "return is_embedded(row_of(load, slot.row), slot.step)\n        || ",
      "return "),
-    ("a short row holds all others", "bench.c", "steps < step - 1 ? steps : step - 1", "step - 1"),
-    ("an end at 1,000,000 is no candidate", "bench.c",
+    ("a short row holds all others", "candidates.c",
+     "steps < step - 1 ? steps : step - 1",
+     "step - 1"),
+    ("an end at 1,000,000 is no candidate", "candidates.c",
      "end_of(load, slot) <= LAST_MOMENT",
      "end_of(load, slot) < LAST_MOMENT"),
-    ("an end past 1,000,000 is one", "bench.c",
+    ("an end past 1,000,000 is one", "candidates.c",
      "\n        && end_of(load, slot) <= LAST_MOMENT",
      ""),
     ("a window opens at its first step's end", "bench.c",
@@ -213,24 +216,20 @@ MISTAKES = [
     ("an opening stays", "bench.c",
      "if (open_window(row, slot.step) == NULL)\n        progress->opening = 0;",
      ""),
-    ("by row, then by step", "bench.c",
-     "for (unsigned step = 1; step <= MOST_STEPS; step++) {\n"
-     "        for (unsigned row = 1; row <= load->row_count; row++) {\n"
-     "            struct slot",
-     "for (unsigned row = 1; row <= load->row_count; row++) {\n"
-     "        for (unsigned step = 1; step <= MOST_STEPS; step++) {\n"
-     "            struct slot"),
-    ("the last row first", "bench.c",
-     "for (unsigned row = 1; row <= load->row_count; row++) {\n            struct slot",
-     "for (unsigned row = load->row_count; row >= 1; row--) {\n            struct slot"),
+    ("by row, then by step", "candidates.c",
+     "return one->step != other->step ? one->step < other->step : one->row < other->row;",
+     "return one->row < other->row;"),
+    ("the last row first", "candidates.c",
+     "one->row < other->row",
+     "one->row > other->row"),
     ("no plan", "bench.c",
      "if (passes_plan(load, &at_end)) {",
      "if (passes_plan(load, &at_end) || true) {"),
     ("the first candidate alone is tried", "bench.c",
-     "                return true;\n            }\n",
-     "                return true;\n            }\n            return false;\n"),
+     "place < count; place++) {",
+     "place < count && place < 1; place++) {"),
     ("planned at the candidate's start", "bench.c",
-     "struct bench at_end = with_step(load, *state, slot);",
+     "struct bench at_end = with_step(load, *state, candidates[place]);",
      "struct bench at_end = *state;"),
     ("lamps of row 1 at bit 1", "lamps.c", "UINT32_C(1) << (row - 1)", "UINT32_C(1) << row"),
     ("one lamp counted", "bench.c",
