@@ -3,7 +3,7 @@
    before 9. */
 #include "questions.h"
 
-enum { URGENT_MOVES = 12, URGENT_LISTS = 3, URGENT_FILES = 6, SPOILED_FILES = 4, FEW = 9,
+enum { URGENT_MOVES = 8, URGENT_LISTS = 3, URGENT_FILES = 6, SPOILED_FILES = 4, FEW = 9,
        MUCH_MORE = 40 };
 
 /* 2 w4 2 (window 1 to 2) / 2 w1 1 (window 1 to 2). */

@@ -50,6 +50,7 @@ int main(void)
     factory_cases(&tally);
     urgent_cases(&tally);
     version_cases(&tally);
+    turn_cases(&tally);
     sheet_cases(&tally);
     bound_cases(&tally);
     blame_cases(&tally);

@@ -27,6 +27,7 @@ void load_cases(struct tally *tally);
 void factory_cases(struct tally *tally);
 void urgent_cases(struct tally *tally);
 void version_cases(struct tally *tally);
+void turn_cases(struct tally *tally);
 void sheet_cases(struct tally *tally);
 void bench_cases(struct tally *tally);
 void bound_cases(struct tally *tally);

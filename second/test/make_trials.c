@@ -2,7 +2,7 @@
    Usage: make_trials TRIALS FILE_TRIALS LOAD...
    The first two are the files that the two streams go to. Each LOAD is a file of rows in the
    notation, asked first and, for its blames, again later; the counts of questions by letter, a line
-   for each stream, and of blamed loads by kind go to standard error. */
+   for each stream, and of loads by kind go to standard error. */
 #include "notation.h"
 #include "questions.h"
 
@@ -25,6 +25,7 @@ static void ask_lent_files(struct asking *asking)
     ask_damaged_files(asking);
     ask_factory_files(asking);
     ask_versions(asking);
+    ask_urgent(asking);
     ask_twins(asking);
     ask_moves(asking);
     ask_refused_files(asking);
@@ -49,6 +50,7 @@ static void ask_lent_loads(struct asking *asking)
     ask_faulty_loads(asking);
     ask_rooms(asking);
     ask_factory_loads(asking);
+    ask_urgent_moves_in_memory(asking);
     ask_urgent_loads(asking);
     ask_urgent_files(asking);
 }
@@ -111,6 +113,8 @@ static void print_counts(const struct asking *asking)
     print_letters(asking, "CDWwVvSsREe");
     fprintf(stderr, "rows tie %lu\nplaces tie %lu\nthe cut decides %lu\njust outweighed %lu\n",
             asking->row_ties, asking->place_ties, asking->cuts, asking->outweighed);
+    fprintf(stderr, "the class decides %lu\nclass and plan decide %lu\na move by class %lu\n",
+            asking->class_turns, asking->class_and_plan_turns, asking->class_moves);
 }
 
 int main(int count, char **words)

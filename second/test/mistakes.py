@@ -217,11 +217,15 @@ MISTAKES = [
      "if (open_window(row, slot.step) == NULL)\n        progress->opening = 0;",
      ""),
     ("by row, then by step", "candidates.c",
-     "return one->step != other->step ? one->step < other->step : one->row < other->row;",
-     "return one->row < other->row;"),
+     "    if (one->step != other->step)\n"
+     "        return one->step < other->step;\n",
+     "    if (class == other_class)\n"
+     "        return one->row < other->row;\n"
+     "    if (one->step != other->step)\n"
+     "        return one->step < other->step;\n"),
     ("the last row first", "candidates.c",
-     "one->row < other->row",
-     "one->row > other->row"),
+     "    return one->row < other->row;\n",
+     "    return one->row > other->row;\n"),
     ("no plan", "bench.c",
      "if (passes_plan(load, &at_end)) {",
      "if (passes_plan(load, &at_end) || true) {"),

@@ -10,13 +10,15 @@ enum { LETTERS = 128 };
 
 /* `out` is the stream of the question that is being written, one of the other two. `in_memory` says
    how ask_move_of and ask_check_of lend a load: as it is, or else as its file. `asked` counts the
-   questions by their letter, `row_ties` and so on the blamed loads of a kind (blame_kinds.h). */
+   questions by their letter, `row_ties` and so on the blamed loads of a kind (blame_kinds.h), and
+   `class_turns` and so on the loads and moves with classes that show them (class_kinds.h). */
 struct asking {
     FILE *bench_stream, *file_stream, *out;
     struct dice dice;
     bool in_memory;
     unsigned long asked[LETTERS];
     unsigned long row_ties, place_ties, cuts, outweighed;
+    unsigned long class_turns, class_and_plan_turns, class_moves;
 };
 
 /* Asks something of a load in memory. */
@@ -83,6 +85,7 @@ void ask_sound_loads(struct asking *asking);
 void ask_damaged_files(struct asking *asking);
 void ask_factory_files(struct asking *asking);
 void ask_versions(struct asking *asking);
+void ask_urgent(struct asking *asking);
 void ask_twins(struct asking *asking);
 void ask_moves(struct asking *asking);
 void ask_refused_files(struct asking *asking);
@@ -98,6 +101,7 @@ void ask_schedules(struct asking *asking);
 void ask_faulty_loads(struct asking *asking);
 void ask_rooms(struct asking *asking);
 void ask_factory_loads(struct asking *asking);
+void ask_urgent_moves_in_memory(struct asking *asking);
 void ask_urgent_loads(struct asking *asking);
 void ask_urgent_files(struct asking *asking);
 void ask_blames(struct asking *asking);

@@ -111,6 +111,10 @@ met 0 "$(count_files '^schedule 0 [0-9a-f]+$')"
 for number in 3 9; do
     met "$number" "$(count_files "^schedule $number\$")"
 done
+printf '; classes'
+for kind in 'the class decides' 'class and plan decide' 'a move by class'; do
+    met "$kind" "$(sed -n "s/^$kind //p" "$work/counts")"
+done
 printf '; blames'
 for kind in 'rows tie' 'places tie' 'the cut decides' 'just outweighed'; do
     met "$kind" "$(sed -n "s/^$kind //p" "$work/counts")"

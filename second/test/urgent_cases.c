@@ -1,5 +1,5 @@
 /* Classes and heads (2026-05) of loads in memory: what is refused (3), what version 1 and sheets
-   cannot carry (22), and what does not see the class. */
+   cannot carry (22), and what does not see the class. Who goes first is in turn_cases.c. */
 #include <string.h>
 
 #include "bound.h"

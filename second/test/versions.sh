@@ -87,5 +87,28 @@ same 'a sheet with a class' '1 refused 22 ' \
     "$("$second" sheet-of-load < "$work/urgent" > "$work/out" 2> "$work/told"
     echo "$? $(cat "$work/told") $(hex < "$work/out")")"
 
+# Who goes first: A with classes 0, 0 and 3, three rows of classes 0, 1 and 3, and a second step of
+# class 3 behind a first of class 0. No line says class or head.
+same 'A with classes 0 0 3' 'load 3 6 17 19 no
+row 1 101 201 1
+row 2 102 202 0
+row 3 103 203 -1
+slot 0 3 1
+slot 2 1 1
+slot 4 2 1
+slot 5 3 2
+slot 9 2 2
+slot 14 1 2
+.' "$("$second" report < "$work/urgent" && echo .)"
+same 'its blames' 'row 1 101 201 1 1 1
+row 2 102 202 0 1 1
+row 3 103 203 -1 1 1' "$("$second" blame < "$work/urgent" | grep '^row')"
+made three -2 '101 201 0 9 : 1 1 : : 0 1' '102 202 0 9 : 1 1 : : 1 1' '103 203 0 9 : 1 1 : : 3 1'
+same 'classes 0 1 3' '0,3,1 1,2,1 2,1,1 3,3,2 4,2,2 5,1,2' \
+    "$("$second" answers "$work/three" | sed 's/.* slots //')"
+made step -2 '101 201 0 9 : 1 1 : 1-2<=20 : 3 1' '102 202 0 9 : 5'
+same 'the step number first' '0,1,1 1,2,1 6,1,2' \
+    "$("$second" answers "$work/step" | sed 's/.* slots //')"
+
 printf 'versions: %d as expected, %d not\n' "$passed" "$failed"
 [ "$failed" -eq 0 ]
