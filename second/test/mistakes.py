@@ -16,6 +16,7 @@ import tempfile
 sys.dont_write_bytecode = True
 from factory_mistakes import FACTORY_MISTAKES
 from sheet_mistakes import SHEET_MISTAKES
+from urgent_mistakes import URGENT_MISTAKES
 
 HERE = os.path.dirname(os.path.dirname(os.path.abspath(__file__)))
 PARTS = ("load load_file plain load_writing sheet_line sheet waits bound plan lamps candidates"
@@ -655,7 +656,7 @@ def try_mistake(right_build, name, right, wrong, streams):
 def main():
     streams = read_streams(sys.argv[1:3])
     word = sys.argv[3] if len(sys.argv) > 3 else ""
-    made = MISTAKES + SHEET_MISTAKES + FACTORY_MISTAKES
+    made = MISTAKES + SHEET_MISTAKES + FACTORY_MISTAKES + URGENT_MISTAKES
     chosen = [line for line in made if word in line[0] or word in line[1]]
     missed = 0
     with tempfile.TemporaryDirectory() as right_build:
