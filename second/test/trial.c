@@ -74,6 +74,29 @@ static bool keeps_demands(const struct load *load)
     return holds_at_row_bounds(load, bounds) && holds_at_deadlines(load, &run);
 }
 
+static bool is_same_run(const struct run *one, const struct run *other)
+{
+    bool same = one->slot_count == other->slot_count;
+    for (unsigned place = 0; same && place < one->slot_count; place++)
+        same = one->slots[place].row == other->slots[place].row
+            && one->slots[place].start == other->slots[place].start;
+    return same;
+}
+
+static struct run run_in_class(struct load load, uint8_t class)
+{
+    for (unsigned row = 1; row <= load.row_count; row++)
+        load.rows[row - 1].class = class;
+    return run_of(&load);
+}
+
+/* A class that all rows have puts none before another. */
+static bool is_shared_class_unseen(const struct load *load)
+{
+    struct run lowest = run_in_class(*load, 0), highest = run_in_class(*load, MOST_CLASS);
+    return is_same_run(&lowest, &highest) || fails(load, "a shared class is not seen", 0, 1);
+}
+
 /* What the moves hand back must be shaped, and the moves must be those of the run. */
 static bool moves_are_the_run(const struct load *load)
 {
@@ -141,7 +164,7 @@ int main(int count, char **words)
             set_classes(&dice, &load);
         verdict_of(&load, &verdict);
         yes += verdict;
-        if (!keeps_demands(&load) || !moves_are_the_run(&load)
+        if (!keeps_demands(&load) || !is_shared_class_unseen(&load) || !moves_are_the_run(&load)
             || !has_no_fault(&load, file_fault(&dice, &load)) || !any_state_is_moved(&dice, &load)
             || !has_no_fault(&load, blame_fault(&load)))
             return 1;

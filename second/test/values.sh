@@ -45,7 +45,8 @@ cat <<'TEXT'
 # Document 01's loads marked P, value by value
 
 Made by `make VALUES.md`. Rows are in the notation of `second load`:
-`ID BOX PHASE DEADLINE : COST wWAIT COST ... : FIRST-LAST<=LIMIT ...`.
+`ID BOX PHASE DEADLINE : COST wWAIT COST ... : FIRST-LAST<=LIMIT ...`. All are of class 0 and
+head 1, and their files are of version 1.
 
 Under each load, "Stated by the document" lists the values that its text gives, and `make test`
 compares those. Everything else there was computed by this program alone: the bytes (which follow

@@ -57,6 +57,17 @@ same "A's own slots pass" 0 "$("$second" check "$work/a2" < "$work/report")"
 same 'first move of A' "$("$second" move "$work/a" < /dev/null)" \
     "$("$second" move "$work/a2" < /dev/null)"
 
+# The longest file, and a byte more.
+{
+    for row in $(seq 24); do
+        printf '%d %d 0 1000000 : 1 1 1 1 1 1 1 1 : 1-2<=9 3-4<=9 5-6<=9 7-8<=9 : %d 1\n' \
+            "$row" "$row" $((row % 4))
+    done
+} | "$second" load -2 > "$work/longest"
+same 'the longest file' 2264 "$(($(wc -c < "$work/longest")))"
+same 'is accepted' 'load 24 192' "$("$second" report < "$work/longest" | head -n 1 | cut -c 1-11)"
+same 'and with a byte more' 'refused 8' "$({ cat "$work/longest"; printf 0; } | "$second" report)"
+
 # The third part: class and head, which are 0 and 1 where it is left out.
 written 'left out' -2 '1 2 0 9 : 1 w1 1' 0001
 written 'left out, with a window' -2 '1 2 0 9 : 1 w1 1 : 1-2<=9' 0001
