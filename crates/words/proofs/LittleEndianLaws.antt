@@ -53,6 +53,16 @@ numberAt-first width bs rest at e =
     let z : at ≡ at + 0 = omega arith in
     ap (numberAt width bs) z ∙ sym (numberAt-drop width bs at 0) ∙ ap (λ l. numberAt width l 0) (sym e)
 
+-- the number of four bytes, by their weights
+pub numberAt-four : (bs : List ℕ) (at : ℕ)
+    → numberAt 4 bs at
+    ≡ byteAt bs at + 256 * byteAt bs (at + 1) + 65536 * byteAt bs (at + 2) + 16777216 * byteAt bs (at + 3)
+unfolding numberAt
+numberAt-four bs at =
+    let third : byteAt bs (at + 1 + 1) ≡ byteAt bs (at + 2) = ap (byteAt bs) (omega arith) in
+    let fourth : byteAt bs (at + 1 + 1 + 1) ≡ byteAt bs (at + 3) = ap (byteAt bs) (omega arith) in
+    omega (arith, third, fourth)
+
 read-head : (width n : ℕ) (ys : List ℕ) → n < 256 ^ width → numberAt width (littleEndian width n ++ ys) 0 ≡ n
 unfolding numberAt littleEndian
 read-head zero n ys h = omega arith

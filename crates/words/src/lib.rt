@@ -9,7 +9,7 @@ pub use decimal::signed_of;
 pub use plain::decimal_at;
 ghost use mathlib.Core.Path.{_≡_};
 ghost use Prim.Native.Nat.{_+_, _-_, _≤_, _<_};
-ghost use lib.ListN.{drop};
+ghost use lib.ListN.{length, drop};
 ghost use Rattle.words.specs.LittleEndian.{byteAt};
 ghost use Rattle.words.specs.Calls.{ByteAt, NumberAt, Overwrite, LittleEndian, Complement};
 
@@ -54,18 +54,49 @@ fn wide_at(bytes: &[u8], at: usize) -> u32
     byte_at(bytes, at) as u32
 }
 
+// The number of the two bytes from a place on, which are all there.
+fn inside16(bytes: &[u8], at: usize) -> u16
+    requires { ⌜ at + 2 ≤ length (now bytes) ⌝ }
+    ensures { λ r. ⌜ NumberAt 2 (now (bytes .entry)) at r ⌝ }
+{
+    (wide_at(bytes, at) + 256 * wide_at(bytes, at + 1)) as u16
+}
+
 // The number of the two bytes from a place on, the lowest first; a byte past the end counts as 0.
+// Most numbers are read where all their bytes are, and there one test is enough for both.
 pub fn number16_at(bytes: &[u8], at: usize) -> u16
     ensures { λ r. ⌜ NumberAt 2 (now (bytes .entry)) at r ⌝ }
 {
+    if 2 <= bytes.len() {
+        if at <= bytes.len() - 2 {
+            return inside16(bytes, at);
+        }
+    }
     let rest = bytes_from(bytes, at);
     (wide_at(rest, 0) + 256 * wide_at(rest, 1)) as u16
 }
 
+// The number of the four bytes from a place on, which are all there.
+fn inside32(bytes: &[u8], at: usize) -> u32
+    requires { ⌜ at + 4 ≤ length (now bytes) ⌝ }
+    ensures { λ r. ⌜ NumberAt 4 (now (bytes .entry)) at r ⌝ }
+{
+    wide_at(bytes, at)
+        + 256 * wide_at(bytes, at + 1)
+        + 65536 * wide_at(bytes, at + 2)
+        + 16777216 * wide_at(bytes, at + 3)
+}
+
 // The number of the four bytes from a place on, the lowest first; a byte past the end counts as 0.
+// Most numbers are read where all their bytes are, and there one test is enough for all four.
 pub fn number32_at(bytes: &[u8], at: usize) -> u32
     ensures { λ r. ⌜ NumberAt 4 (now (bytes .entry)) at r ⌝ }
 {
+    if 4 <= bytes.len() {
+        if at <= bytes.len() - 4 {
+            return inside32(bytes, at);
+        }
+    }
     let rest = bytes_from(bytes, at);
     wide_at(rest, 0)
         + 256 * wide_at(rest, 1)
