@@ -37,6 +37,7 @@ refusalAt-own refusal.LineMalformed = refl
 refusalAt-own refusal.RowDiffers = refl
 refusalAt-own refusal.WindowDash = refl
 refusalAt-own refusal.FactoryIdentifier = refl
+refusalAt-own refusal.NotCarried = refl
 
 -- two refusals with one number are one
 pub numberOf-apart : (a b : Refusal) → numberOf a ≡ numberOf b → a ≡ b

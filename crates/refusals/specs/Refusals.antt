@@ -29,10 +29,11 @@ numberOf refusal.LineMalformed = 18
 numberOf refusal.RowDiffers = 19
 numberOf refusal.WindowDash = 20
 numberOf refusal.FactoryIdentifier = 21
+numberOf refusal.NotCarried = 22
 
 -- the table's last number
 abbrev pub lastNumber : ℕ
-lastNumber = 21
+lastNumber = 22
 
 -- the number of what a check finds: 0 where it refuses nothing
 abbrev pub numberGiven : Checked → ℕ

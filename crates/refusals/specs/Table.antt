@@ -9,7 +9,7 @@ unfoldable pub table : List Refusal
 table =
     -- the file ends before or inside a record that is due
     refusal.FileShort
-    -- a mark differs, or the version is not 1
+    -- a mark differs, or the version is not 1 or 2
     ∷ refusal.MarkDiffers
     -- a number is outside its range, or an unused place is not zero
     ∷ refusal.OutOfRange
@@ -52,4 +52,6 @@ table =
     ∷ refusal.WindowDash
     -- the identifier is the factory's, which the newer loggers report after a battery swap
     ∷ refusal.FactoryIdentifier
+    -- a class that is not 0 or a head that is not 1, written as version 1 or as a sheet
+    ∷ refusal.NotCarried
     ∷ []

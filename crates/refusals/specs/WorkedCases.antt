@@ -26,7 +26,7 @@ pub record WorkedCases : Type 0 where
   pub numbers :
       map numberOf table
       ≡ 1 ∷ 2 ∷ 3 ∷ 4 ∷ 5 ∷ 6 ∷ 7 ∷ 8 ∷ 9 ∷ 10 ∷ 11 ∷ 12 ∷ 13 ∷ 14 ∷ 15 ∷ 16 ∷ 17 ∷ 18 ∷ 19 ∷ 20
-      ∷ 21
+      ∷ 21 ∷ 22
       ∷ []
   -- nothing refused is 0
   pub nothing-refused : numberGiven Good ≡ 0

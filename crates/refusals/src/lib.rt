@@ -24,6 +24,7 @@ pub enum Refusal {
     RowDiffers,
     WindowDash,
     FactoryIdentifier,
+    NotCarried,
 }
 
 // What a check finds: nothing to refuse, or the refusal that comes first.
@@ -65,6 +66,7 @@ pub fn number_of(refusal: Refusal) -> u32
         Refusal::RowDiffers => 19,
         Refusal::WindowDash => 20,
         Refusal::FactoryIdentifier => 21,
+        Refusal::NotCarried => 22,
     }
 }
 

@@ -37,6 +37,8 @@ number-of-spec =
     (λ c. search needs)
     (λ c. search needs)
     (λ c. search needs)
+    (λ c. search needs)
+    (λ c. search (needs, told))
     (λ c. search (needs, told))
     (λ c. search (needs, told))
     (λ c. search (needs, told))
