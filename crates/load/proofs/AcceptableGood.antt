@@ -1,17 +1,16 @@
 -- The facts of document 01 are enough: a load that is acceptable, registered and placed is refused by nothing. With
 -- AcceptableLaws, the check is Good exactly of such loads.
 use Prim.Native.Nat.{ℕ, zero, suc, _≤_, _<_}
-use mathlib.Core.Bool.{Bool, true, false, cond}
+use mathlib.Core.Bool.{Bool, true, false}
 use mathlib.Core.Path.{_≡_, refl}
 use native.Mathlib.Omega.{arith}
-use borrow.Author.Tests.{eqb-true, le-ltb, lt-leb, ne-eqb}
+use borrow.Author.Tests.{eqb-true, eq-eqb, le-ltb, lt-leb, ne-eqb}
 use lib.Dec.{eqb}
 use lib.ListN.{length, length-take}
 use Rattle.counting.proofs.tests.TestLaws.{false-anyTo, true-allFrom}
 use Rattle.refusals.specs.declared.Checked.the-variants.{Good}
 use Rattle.refusals.proofs.FirstMetLaws.{good-firstFaultTo}
 use Rattle.load.specs.declared.Window.{Window}
-use Rattle.load.specs.declared.Row.{Row}
 use Rattle.load.specs.declared.Load.{Load}
 use Rattle.load.specs.Load.{
   mostRows,
@@ -40,11 +39,11 @@ use Rattle.load.specs.Acceptable.{Acceptable, Registered, Placed}
 use Rattle.load.proofs.RangeLaws.{within-outside}
 use Rattle.load.proofs.AcceptableLaws.{window-is}
 
-le-mostWait : (row : Row) (j n : ℕ) → n ≤ largestWait → (shown j ≡ row .steps → n ≡ 0) → n ≤ mostWait row j
-le-mostWait row j n most last = go (eqb (shown j) (row .steps)) refl
+le-mostWait : (j steps n : ℕ) → n ≤ largestWait → (shown j ≡ steps → n ≡ 0) → n ≤ mostWait (eqb (shown j) steps)
+le-mostWait j steps n most last = go (eqb (shown j) steps) refl
   where
-    go : (b : Bool) → eqb (shown j) (row .steps) ≡ b → n ≤ cond b 0 largestWait
-    go true e = omega (arith, last (eqb-true (shown j) (row .steps) e))
+    go : (b : Bool) → eqb (shown j) steps ≡ b → n ≤ mostWait b
+    go true e = omega (arith, last (eqb-true (shown j) steps e))
     go false e = omega arith
 
 module _ (load : Load) (ok : Acceptable (viewOf load)) (reg : Registered load) (placed : Placed load) where
@@ -59,6 +58,8 @@ module _ (load : Load) (ok : Acceptable (viewOf load)) (reg : Registered load) (
           within-outside 1 _ _ (ok .deadline-least i l) (ok .deadline-most i l),
           within-outside 1 _ _ (ok .steps-least i l) (ok .steps-most i l),
           le-ltb mostWindows (rowAt load i .windows) windows-le,
+          le-ltb _ _ (ok .class-most i l),
+          eq-eqb _ _ (placed .head-only i l),
           ne-eqb _ _ (reg .not-factory i l),
         )
       where
@@ -84,7 +85,7 @@ module _ (load : Load) (ok : Acceptable (viewOf load)) (reg : Registered load) (
     step-good j h =
         rw (
           within-outside 1 _ _ (ok .cost-least i j l h) (ok .cost-most i j l h),
-          le-ltb _ _ (le-mostWait (rowAt load i) j _ (ok .wait-most i j l h) (ok .wait-last i j l h)),
+          le-ltb _ _ (le-mostWait j (rowAt load i .steps) _ (ok .wait-most i j l h) (ok .wait-last i j l h)),
         )
 
     -- a used window of the row is a window of the view

@@ -1,13 +1,13 @@
 -- An accepted load has the facts of document 01. The check is Good only where each of its findings is, and a finding
 -- only where none of its tests is met; each fact is then one test, read by its place.
 use Prim.Native.Nat.{ℕ, zero, suc, _≤_, _<_}
-use mathlib.Core.Bool.{Bool, true, false, cond}
+use mathlib.Core.Bool.{Bool, true, false}
 use mathlib.Core.List.{List, [], _∷_}
 use mathlib.Core.Path.{_≡_, ap}
 use native.Mathlib.Decide.{ℕ-discrete, decLt}
 use native.Mathlib.Nat.{le-trans}
 use native.Mathlib.Omega.{arith}
-use borrow.Author.Tests.{ltb-false, leb-false, eqb-false, eq-eqb, not-false}
+use borrow.Author.Tests.{ltb-false, leb-false, eqb-true, eqb-false, eq-eqb, not-false}
 use lib.Dec.{eqb, ltb}
 use lib.ListN.{length, length-take, List·getD-eq-default}
 use lib.Seq.{getD-take}
@@ -76,15 +76,12 @@ pub allZero-good : (zeros : Bool) → allZero zeros ≡ Good → zeros ≡ true
 allZero-good zeros e = not-false zeros (firstMet-good-first _ [] e)
 
 -- what a wait may be is at most 3,600, and 0 at the last step
-mostWait-le : (row : Row) (j : ℕ) → mostWait row j ≤ largestWait
-mostWait-le row j = go (eqb (shown j) (row .steps))
-  where
-    go : (b : Bool) → cond b 0 largestWait ≤ largestWait
-    go true = omega arith
-    go false = omega arith
+mostWait-le : (isLast : Bool) → mostWait isLast ≤ largestWait
+mostWait-le true = omega arith
+mostWait-le false = omega arith
 
-mostWait-last : (row : Row) (j n : ℕ) → shown j ≡ row .steps → n ≤ mostWait row j → n ≡ 0
-mostWait-last row j n last h = let q = eq-eqb (shown j) (row .steps) last in omega (arith, rw q at h)
+mostWait-last : (j steps n : ℕ) → shown j ≡ steps → n ≤ mostWait (eqb (shown j) steps) → n ≡ 0
+mostWait-last j steps n last h = let q = eq-eqb (shown j) steps last in omega (arith, rw q at h)
 
 module _ (load : Load) (i p : ℕ) where
   -- a window of the view is a used window of the row
@@ -181,15 +178,17 @@ module _ (load : Load) (e : checkLoad load ≡ Good) where
         identifier-most = λ i l. outside-most 1 _ _ (field i l 0);
         box-least = λ i l. outside-least 1 _ _ (field i l 1);
         box-most = λ i l. outside-most 1 _ _ (field i l 1);
-        not-factory = λ i l. eqb-false _ _ (field i l 6);
+        not-factory = λ i l. eqb-false _ _ (field i l 8);
         identifiers-differ = λ i k h l. eqb-false _ _ (anyTo-false _ k (taken k l 0) i h);
         boxes-differ = λ i k h l. eqb-false _ _ (anyTo-false _ k (taken k l 1) i h);
       }
 
   pub check-placed : Placed load
+  unfolding rowTests
   check-placed =
       record {
         windows-there = windows-stand;
+        head-only = λ i l. eqb-true _ _ (not-false _ (field i l 7));
         rows-unused = allFrom-true (λ i. isZeroRow (rowAt load i)) _ _ (allZero-good _ (finding 2));
         steps-unused = λ i j l.
             allFrom-true (λ j. isZeroStep (stepAt (rowAt load i) j)) _ _ (allZero-good _ (part-finding i l 1)) j;
@@ -213,10 +212,12 @@ module _ (load : Load) (e : checkLoad load ≡ Good) where
               ltb-false mostWindows (rowAt load i .windows) (field i l 5),
               length-take (rowAt load i .windows) (rowAt load i .window),
             );
+        class-most = λ i l. ltb-false _ _ (field i l 6);
         cost-least = λ i j l h. outside-least 1 _ _ (step-test i l j h 0);
         cost-most = λ i j l h. outside-most 1 _ _ (step-test i l j h 0);
-        wait-most = λ i j l h. le-trans (ltb-false _ _ (step-test i l j h 1)) (mostWait-le (rowAt load i) j);
-        wait-last = λ i j l h last. mostWait-last (rowAt load i) j _ last (ltb-false _ _ (step-test i l j h 1));
+        wait-most = λ i j l h.
+            le-trans (ltb-false _ _ (step-test i l j h 1)) (mostWait-le (eqb (shown j) (rowAt load i .steps)));
+        wait-last = λ i j l h last. mostWait-last j (rowAt load i .steps) _ last (ltb-false _ _ (step-test i l j h 1));
         first-least = λ i p l h. rw (window-is load i p h) (window-begins i l p (within load i p h));
         first-last = λ i p l h. rw (window-is load i p h) (window-grows i l p (within load i p h));
         last-most = λ i p l h. rw (window-is load i p h) (ltb-false _ _ (seen-test i l p h 4));

@@ -12,6 +12,7 @@ use Rattle.load.specs.declared.Row.{Row}
 use Rattle.load.specs.declared.Load.{Load}
 use Rattle.load.specs.Calls.{
   CheckLoad,
+  CheckPlain,
   CheckFields,
   CheckStep,
   CheckWindow,
@@ -31,14 +32,19 @@ use Rattle.load.specs.Calls.{
 pub CheckLoad-unique : (load : Load) (r s : Checked) → CheckLoad load r → CheckLoad load s → r ≡ s
 CheckLoad-unique load r s p q = p ∙ sym q
 
+pub CheckPlain-unique : (load : Load) (r s : Checked) → CheckPlain load r → CheckPlain load s → r ≡ s
+CheckPlain-unique load r s p q = p ∙ sym q
+
 pub CheckFields-unique : (row : Row) (r s : Checked) → CheckFields row r → CheckFields row s → r ≡ s
 CheckFields-unique row r s p q = p ∙ sym q
 
-pub CheckStep-unique : (row : Row) (j : ℕ) (r s : Checked) → CheckStep row j r → CheckStep row j s → r ≡ s
-CheckStep-unique row j r s p q = p ∙ sym q
+pub CheckStep-unique : (step : Step) (isLast : Bool) (r s : Checked) → CheckStep step isLast r
+    → CheckStep step isLast s → r ≡ s
+CheckStep-unique step isLast r s p q = p ∙ sym q
 
-pub CheckWindow-unique : (row : Row) (k : ℕ) (r s : Checked) → CheckWindow row k r → CheckWindow row k s → r ≡ s
-CheckWindow-unique row k r s p q = p ∙ sym q
+pub CheckWindow-unique : (row : Row) (window : Window) (before : ℕ) (r s : Checked) → CheckWindow row window before r
+    → CheckWindow row window before s → r ≡ s
+CheckWindow-unique row window before r s p q = p ∙ sym q
 
 pub CheckParts-unique : (row : Row) (r s : Checked) → CheckParts row r → CheckParts row s → r ≡ s
 CheckParts-unique row r s p q = p ∙ sym q

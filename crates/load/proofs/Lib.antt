@@ -3,6 +3,7 @@ pub mod TakenLaws
 pub mod RangeLaws
 pub mod AcceptableLaws
 pub mod CheckLaws
+pub mod PlainLaws
 pub mod AcceptableGood
 pub mod WindowChain
 pub mod WindowLaws

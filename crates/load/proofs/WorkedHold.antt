@@ -8,9 +8,12 @@ use Rattle.load.specs.Load.{zeroRow}
 use Rattle.load.specs.View.{viewOf, chain, embedded}
 use Rattle.load.specs.Faults.{rowTests, takenTests, stepTests, windowTests}
 use Rattle.load.specs.Check.{checkParts, rowFault, checkLoad}
+use Rattle.load.specs.Plain.{checkPlain}
 use Rattle.load.specs.WorkedRanges.{numbersOf, five, WorkedRanges}
 use Rattle.load.specs.WorkedWindows.{WorkedWindows}
-use Rattle.load.specs.WorkedCases.{notZero, WorkedCases}
+use Rattle.load.specs.WorkedCases.{WorkedCases}
+use Rattle.load.specs.WorkedUnused.{notZero, WorkedUnused}
+use Rattle.load.specs.WorkedUrgent.{numbersOfPlain, WorkedUrgent}
 use Rattle.load.specs.WorkedFactory.{WorkedFactory}
 use Rattle.load.specs.WorkedParts.{numbersOfParts, WorkedParts}
 
@@ -60,7 +63,7 @@ windows-hold =
     }
 
 pub cases-hold : WorkedCases
-unfolding computing notZero
+unfolding computing
 cases-hold =
     record {
       shared = refl;
@@ -69,9 +72,28 @@ cases-hold =
       first-row-windows = refl;
       row-order = refl;
       load-order = refl;
+    }
+
+pub unused-hold : WorkedUnused
+unfolding computing notZero
+unused-hold =
+    record {
       unused-steps = refl;
       unused-windows = refl;
       unused-rows = refl;
+    }
+
+pub urgent-hold : WorkedUrgent
+unfolding computing five checkPlain numbersOfPlain
+urgent-hold =
+    record {
+      classes = refl;
+      heads = refl;
+      factory-later = refl;
+      shared-later = refl;
+      parts-later = refl;
+      carried = refl;
+      carried-later = refl;
     }
 
 pub factory-hold : WorkedFactory

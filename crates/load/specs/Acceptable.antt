@@ -8,23 +8,10 @@ use mathlib.Core.Path.{_≡_}
 use lib.ListN.{length, getD}
 use Rattle.load.specs.declared.Window.{Window}
 use Rattle.load.specs.declared.Load.{Load}
-use Rattle.load.specs.Load.{
-  mostRows,
-  mostSteps,
-  mostWindows,
-  largestNumber,
-  factoryIdentifier,
-  latestPhase,
-  lastMoment,
-  largestCost,
-  largestWait,
-  largestLimit,
-  shown,
-  noWindow,
-  rowAt,
-  stepAt,
-  windowAt,
-}
+use Rattle.load.specs.Load.{mostRows, mostSteps, mostWindows, mostClass, onlyHead}
+use Rattle.load.specs.Load.{largestNumber, factoryIdentifier, latestPhase, lastMoment}
+use Rattle.load.specs.Load.{largestCost, largestWait, largestLimit, shown}
+use Rattle.load.specs.Load.{noWindow, rowAt, stepAt, windowAt}
 use Rattle.load.specs.View.{View, chain}
 use Rattle.load.specs.Check.{isZeroStep, isZeroWindow, isZeroRow}
 
@@ -62,6 +49,8 @@ pub record Acceptable (L : View) : Type 0 where
   pub steps-most : EveryRow L (λ i. L .steps i ≤ mostSteps)
   -- 0 to 4 windows
   pub windows-most : EveryRow L (λ i. length (L .windows i) ≤ mostWindows)
+  -- a class, 0 to 3
+  pub class-most : EveryRow L (λ i. L .class i ≤ mostClass)
   -- a cost, 1 to 600
   pub cost-least : EveryStep L (λ i j. 1 ≤ L .cost i j)
   pub cost-most : EveryStep L (λ i j. L .cost i j ≤ largestCost)
@@ -102,11 +91,13 @@ pub record Registered (load : Load) : Type 0 where
   pub boxes-differ : (i k : ℕ) → i < k → k < load .rows
       → rowAt load i .«box_number» .0 ≡ rowAt load k .«box_number» .0 → ⊥
 
--- the places of a load held in memory
+-- the places of a load held in memory, and its heads
 pub record Placed (load : Load) : Type 0 where
   -- every window of a row stands in a place
   pub windows-there : (i : ℕ) → i < load .rows
       → rowAt load i .windows ≤ length (rowAt load i .window)
+  -- a head, 1 for now
+  pub head-only : (i : ℕ) → i < load .rows → rowAt load i .head ≡ onlyHead
   -- unused places are zero
   pub rows-unused : (i : ℕ) → load .rows ≤ i → i < mostRows → isZeroRow (rowAt load i) ≡ true
   pub steps-unused : (i j : ℕ) → i < load .rows → rowAt load i .steps ≤ j → j < mostSteps

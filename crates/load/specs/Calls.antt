@@ -8,6 +8,7 @@ use lib.Dec.{eqb, ltb}
 use lib.ListN.{getD}
 use Rattle.counting.specs.Sums.{anyTo}
 use Rattle.refusals.specs.declared.Checked.{Checked}
+use Rattle.refusals.specs.FirstMet.{firstMet}
 use Rattle.load.specs.declared.Identifier.{Identifier}
 use Rattle.load.specs.declared.BoxNumber.{BoxNumber}
 use Rattle.load.specs.declared.Step.{Step}
@@ -16,23 +17,30 @@ use Rattle.load.specs.declared.Row.{Row}
 use Rattle.load.specs.declared.Load.{Load}
 use Rattle.load.specs.Load.{mostRows, rowAt, stepAt, windowAt, zeroRow, zeroLoad}
 use Rattle.load.specs.View.{viewOf, rowWindows, chainBetween, embeddedAmong, stepsInAll}
-use Rattle.load.specs.Check.{checkFields, checkStep, checkWindow, checkParts, checkLoad}
+use Rattle.load.specs.Faults.{stepNumbers, windowNumbers}
+use Rattle.load.specs.Check.{checkFields, checkParts, checkLoad}
+use Rattle.load.specs.Plain.{checkPlain}
 
 -- check_load(load): the first of the load's own numbers, or Good
 abbrev pub CheckLoad : Load → Checked → Type 0
 CheckLoad load r = r ≡ checkLoad load
 
+-- check_plain(load): the first of the load's own numbers, then 22, or Good
+abbrev pub CheckPlain : Load → Checked → Type 0
+CheckPlain load r = r ≡ checkPlain load
+
 -- check_fields(row): a row's own fields
 abbrev pub CheckFields : Row → Checked → Type 0
 CheckFields row r = r ≡ checkFields row
 
--- check_step(row, j): the step at a place, past the last a step of zeros
-abbrev pub CheckStep : Row → ℕ → Checked → Type 0
-CheckStep row j r = r ≡ checkStep row j
+-- check_step(step, is_last): a step, which is the last of its row or not
+abbrev pub CheckStep : Step → Bool → Checked → Type 0
+CheckStep step isLast r = r ≡ firstMet (stepNumbers step isLast)
 
--- check_window(row, k): the window at a place, past the last a window of zeros
-abbrev pub CheckWindow : Row → ℕ → Checked → Type 0
-CheckWindow row k r = r ≡ checkWindow row k
+-- check_window(row, window, before): a window of a row, the window before it ending at a step, or
+-- at 0 where there is none
+abbrev pub CheckWindow : Row → Window → ℕ → Checked → Type 0
+CheckWindow row window before r = r ≡ firstMet (windowNumbers row window before)
 
 -- check_parts(row): a row's steps and windows, and their unused places
 abbrev pub CheckParts : Row → Checked → Type 0

@@ -37,6 +37,8 @@ zeroFields row =
     && eqb (row .deadline) 0
     && eqb (row .steps) 0
     && eqb (row .windows) 0
+    && eqb (row .class) 0
+    && eqb (row .head) 0
 
 -- the steps of a row from place a on are zeros
 abbrev pub zeroStepsFrom : Row → ℕ → Bool

@@ -2,7 +2,7 @@
 -- tests of each record kind, in the order in which they are asked. The file and the load in memory
 -- share them. To be read after Load and View. Rests on D2 to D5 and D91.
 use Prim.Native.Nat.{ℕ, zero, suc, _-_}
-use mathlib.Core.Bool.{Bool, cond, _||_}
+use mathlib.Core.Bool.{Bool, cond, _||_, not}
 use mathlib.Core.List.{List, [], _∷_}
 use lib.Dec.{eqb, leb, ltb}
 use Rattle.counting.specs.Sums.{anyTo}
@@ -17,24 +17,14 @@ use Rattle.refusals.specs.declared.Refusal.the-variants.{
 }
 use Rattle.load.specs.declared.Identifier.{Identifier}
 use Rattle.load.specs.declared.BoxNumber.{BoxNumber}
+use Rattle.load.specs.declared.Step.{Step}
 use Rattle.load.specs.declared.Window.{Window}
 use Rattle.load.specs.declared.Row.{Row}
 use Rattle.load.specs.declared.Load.{Load}
-use Rattle.load.specs.Load.{
-  mostSteps,
-  mostWindows,
-  largestNumber,
-  factoryIdentifier,
-  latestPhase,
-  lastMoment,
-  largestCost,
-  largestWait,
-  largestLimit,
-  shown,
-  rowAt,
-  stepAt,
-  windowAt,
-}
+use Rattle.load.specs.Load.{mostSteps, mostWindows, mostClass, onlyHead, shown}
+use Rattle.load.specs.Load.{largestNumber, factoryIdentifier, latestPhase, lastMoment}
+use Rattle.load.specs.Load.{largestCost, largestWait, largestLimit}
+use Rattle.load.specs.Load.{rowAt, stepAt, windowAt}
 use Rattle.load.specs.View.{chainBetween}
 
 -- a number is outside its range
@@ -50,6 +40,8 @@ rowTests row =
     ∷ (outside 1 lastMoment (row .deadline), OutOfRange)
     ∷ (outside 1 mostSteps (row .steps), OutOfRange)
     ∷ (ltb mostWindows (row .windows), OutOfRange)
+    ∷ (ltb mostClass (row .class), OutOfRange)
+    ∷ (not (eqb (row .head) onlyHead), OutOfRange)
     ∷ (eqb (row .identifier .0) factoryIdentifier, FactoryIdentifier)
     ∷ []
 
@@ -68,16 +60,20 @@ takenTests load i row =
     ∷ (boxTaken load i (row .«box_number»), BoxTaken)
     ∷ []
 
--- the largest wait after step j: the last step's wait is 0
-abbrev pub mostWait : Row → ℕ → ℕ
-mostWait row j = cond (eqb (shown j) (row .steps)) 0 largestWait
+-- the largest wait after a step: the last step's wait is 0
+abbrev pub mostWait : Bool → ℕ
+mostWait isLast = cond isLast 0 largestWait
+
+-- a step, which is the last of its row or not
+abbrev pub stepNumbers : Step → Bool → List (Bool × Refusal)
+stepNumbers s isLast =
+    (outside 1 largestCost (s .cost), OutOfRange)
+    ∷ (ltb (mostWait isLast) (s .wait), OutOfRange)
+    ∷ []
 
 -- the step at place j
 unfoldable pub stepTests : Row → ℕ → List (Bool × Refusal)
-stepTests row j =
-    (outside 1 largestCost (stepAt row j .cost), OutOfRange)
-    ∷ (ltb (mostWait row j) (stepAt row j .wait), OutOfRange)
-    ∷ []
+stepTests row j = stepNumbers (stepAt row j) (eqb (shown j) (row .steps))
 
 -- the last step of the window before place k, and 0 where there is none
 abbrev pub lastBefore : Row → ℕ → ℕ
@@ -88,15 +84,18 @@ lastBefore row (suc k) = windowAt row k .last
 abbrev pub chainOf : Row → Window → ℕ
 chainOf row w = chainBetween row (w .first - 1) (w .last)
 
--- the window at place k
-unfoldable pub windowTests : Row → ℕ → List (Bool × Refusal)
-windowTests row k =
-    let w = windowAt row k in
+-- a window of a row, the window before it ending at a step, or at 0 where there is none
+abbrev pub windowNumbers : Row → Window → ℕ → List (Bool × Refusal)
+windowNumbers row w before =
     (eqb (w .first) 0, OutOfRange)
     ∷ (eqb (w .last) 0, OutOfRange)
     ∷ (outside 1 largestLimit (w .limit), OutOfRange)
     ∷ (leb (w .last) (w .first), WindowSteps)
     ∷ (ltb (row .steps) (w .last), WindowSteps)
-    ∷ (leb (w .first) (lastBefore row k), WindowSteps)
+    ∷ (leb (w .first) before, WindowSteps)
     ∷ (ltb (w .limit) (chainOf row w), LimitBelowChain)
     ∷ []
+
+-- the window at place k
+unfoldable pub windowTests : Row → ℕ → List (Bool × Refusal)
+windowTests row k = windowNumbers row (windowAt row k) (lastBefore row k)

@@ -3,11 +3,14 @@ pub mod Load
 pub mod View
 pub mod Faults
 pub mod Check
+pub mod Plain
 pub mod Acceptable
 pub mod Calls
 pub mod Notation
 pub mod WorkedRanges
 pub mod WorkedWindows
 pub mod WorkedCases
+pub mod WorkedUnused
+pub mod WorkedUrgent
 pub mod WorkedFactory
 pub mod WorkedParts

@@ -19,6 +19,14 @@ mostSteps = 8
 abbrev pub mostWindows : ℕ
 mostWindows = 4
 
+-- a class is 0 to 3 (2026-05)
+abbrev pub mostClass : ℕ
+mostClass = 3
+
+-- a head "must be 1 for now" (2026-05)
+abbrev pub onlyHead : ℕ
+onlyHead = 1
+
 -- an identifier is 1 to 4,294,967,295, a box number in the same range
 abbrev pub largestNumber : ℕ
 largestNumber = 4294967295
@@ -69,6 +77,8 @@ noRow =
       deadline = 0;
       steps = 0;
       windows = 0;
+      class = 0;
+      head = 0;
       step = [];
       window = [];
     }
@@ -95,6 +105,8 @@ zeroRow =
       deadline = 0;
       steps = 0;
       windows = 0;
+      class = 0;
+      head = 0;
       step = replicate mostSteps noStep;
       window = replicate mostWindows noWindow;
     }

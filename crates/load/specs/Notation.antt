@@ -1,6 +1,7 @@
 -- "Loads to try": "Costs and waits are written in turn, waits as w. Unless given, phases are 0 and
 -- deadlines 1,000,000; identifiers are 101, 102 and so on by row, boxes 201, 202 and so on." Loads
--- are written so in the worked cases. To be read after Load.
+-- are written so in the worked cases; unless given, classes are 0 and heads 1. To be read after
+-- Load.
 use Prim.Native.Nat.{ℕ, _+_, _-_}
 use mathlib.Core.List.{List, _++_}
 use lib.ListN.{length, replicate}
@@ -8,7 +9,7 @@ use Rattle.load.specs.declared.Step.{Step}
 use Rattle.load.specs.declared.Window.{Window}
 use Rattle.load.specs.declared.Row.{Row}
 use Rattle.load.specs.declared.Load.{Load}
-use Rattle.load.specs.Load.{noStep, noWindow, zeroRow}
+use Rattle.load.specs.Load.{onlyHead, noStep, noWindow, zeroRow}
 
 infix 80 _w_
 -- a step of cost c with a wait of n behind it
@@ -33,8 +34,26 @@ rowPlaced identifier box phase deadline steps windows step window =
       deadline = deadline;
       steps = steps;
       windows = windows;
+      class = 0;
+      head = onlyHead;
       step = padded 8 noStep step;
       window = padded 4 noWindow window;
+    }
+
+-- a row with another class and another head
+abbrev pub classed : ℕ → ℕ → Row → Row
+classed class head row =
+    record {
+      identifier = row .identifier;
+      «box_number» = row .«box_number»;
+      phase = row .phase;
+      deadline = row .deadline;
+      steps = row .steps;
+      windows = row .windows;
+      class = class;
+      head = head;
+      step = row .step;
+      window = row .window;
     }
 
 -- a row whose places are used as far as they are given

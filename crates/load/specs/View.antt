@@ -1,6 +1,6 @@
 -- "A load": free and embedded steps and waits, chains, and which window is open, over the view of a
--- load that the rules use: functions of row and step, counted from 0. The view holds no identifier
--- and no box number. To be read after Load. Rests on D10 and D30.
+-- load that the rules use: functions of row and step, counted from 0. The view holds no identifier,
+-- no box number and no head. To be read after Load. Rests on D10 and D30.
 use Prim.Native.Nat.{ℕ, suc, _+_, _-_}
 use mathlib.Core.Bool.{Bool, _&&_, not}
 use mathlib.Core.List.{List}
@@ -27,6 +27,8 @@ pub record View : Type 0 where
   pub wait : ℕ → ℕ → ℕ
   -- the windows of a row, whose steps are counted from 1
   pub windows : ℕ → List Window
+  -- the class of a row
+  pub class : ℕ → ℕ
 
 -- the windows that a row has
 abbrev pub rowWindows : Row → List Window
@@ -43,6 +45,7 @@ viewOf load =
       cost = λ i j. stepAt (rowAt load i) j .cost;
       wait = λ i j. stepAt (rowAt load i) j .wait;
       windows = λ i. rowWindows (rowAt load i);
+      class = λ i. rowAt load i .class;
     }
 
 -- costs, and the waits between them, of the steps from place a on and below place b

@@ -1,14 +1,12 @@
--- "Numbers given back", 3 to 7, worked: which number comes first where a load has two faults, what
--- rows may share, and unused places. The answers are the document's, taken by hand and from the
+-- "Numbers given back", 3 to 7, worked: which number comes first where a load has two faults, and
+-- what rows may share. The answers are the document's, taken by hand and from the
 -- second program. To be read after WorkedWindows. Rests on D9.
 use Prim.Native.Nat.{ℕ}
-use mathlib.Core.List.{List, [], _∷_, _++_}
+use mathlib.Core.List.{List, [], _∷_}
 use mathlib.Core.Path.{_≡_}
-use lib.ListN.{replicate}
 use Rattle.load.specs.declared.Step.{Step}
 use Rattle.load.specs.declared.Window.{Window}
 use Rattle.load.specs.declared.Row.{Row}
-use Rattle.load.specs.Load.{zeroRow}
 use Rattle.load.specs.Notation.{_w_, window, rowPlaced, rowWith, row, loadPlaced, loadOf}
 use Rattle.load.specs.WorkedRanges.{numbersOf, one, step1}
 
@@ -20,21 +18,7 @@ two windows step window = rowPlaced 101 201 0 1000000 2 windows step window
 abbrev pub steps2 : List Step
 steps2 = 1 w 0 ∷ 1 w 0 ∷ []
 
--- rows of zeros but for one number, which is the last step's wait and the last window's limit in
--- the last two
-unfoldable pub notZero : List Row
-notZero =
-    rowPlaced 1 0 0 0 0 0 [] []
-    ∷ rowPlaced 0 1 0 0 0 0 [] []
-    ∷ rowPlaced 0 0 1 0 0 0 [] []
-    ∷ rowPlaced 0 0 0 1 0 0 [] []
-    ∷ rowPlaced 0 0 0 0 1 0 [] []
-    ∷ rowPlaced 0 0 0 0 0 1 [] []
-    ∷ rowPlaced 0 0 0 0 0 0 (replicate 7 (0 w 0) ++ 0 w 1 ∷ []) []
-    ∷ rowPlaced 0 0 0 0 0 0 [] (replicate 3 (window 0 0 0) ++ window 0 0 1 ∷ [])
-    ∷ []
-
--- order, what rows share, and unused places
+-- order, and what rows share
 pub record WorkedCases : Type 0 where
   -- a third row with the first's identifier, the second's, the first's box, both, and with the
   -- first's box as its identifier and the first's identifier as its box
@@ -92,29 +76,3 @@ pub record WorkedCases : Type 0 where
       (λ n. loadPlaced n (row 1 steps2 (window 1 2 1 ∷ []) ∷ row 2 step1 [] ∷ []))
       (25 ∷ 1 ∷ [])
       ≡ 3 ∷ 7 ∷ []
-  -- unused steps that are not zero, the next place and the last one, and zeros
-  pub unused-steps :
-      numbersOf
-      (λ unused. one (two 0 (1 w 0 ∷ 1 w 0 ∷ unused) []))
-      ((1 w 0 ∷ [])
-      ∷ (0 w 1 ∷ [])
-      ∷ (replicate 5 (0 w 0) ++ 0 w 1 ∷ [])
-      ∷ (replicate 6 (0 w 0))
-      ∷ [])
-      ≡ 3 ∷ 3 ∷ 3 ∷ 0 ∷ []
-  -- unused windows that are not zero, the first place and the last one, and zeros
-  pub unused-windows :
-      numbersOf
-      (λ unused. one (two 0 steps2 unused))
-      ((window 1 0 0 ∷ [])
-      ∷ (window 0 1 0 ∷ [])
-      ∷ (window 0 0 1 ∷ [])
-      ∷ (replicate 3 (window 0 0 0) ++ window 0 0 1 ∷ [])
-      ∷ (replicate 4 (window 0 0 0))
-      ∷ [])
-      ≡ 3 ∷ 3 ∷ 3 ∷ 3 ∷ 0 ∷ []
-  -- an unused row that is not zero, in the next place and in the last one
-  pub unused-rows :
-      numbersOf (λ r. loadPlaced 1 (row 1 step1 [] ∷ r ∷ [])) notZero
-      ++ numbersOf (λ r. loadPlaced 1 (row 1 step1 [] ∷ replicate 22 zeroRow ++ r ∷ [])) notZero
-      ≡ replicate 16 3

@@ -5,8 +5,8 @@ use crate::Identifier;
 use crate::Load;
 use crate::Row;
 use crate::faults::check_fields;
-use crate::faults::check_step;
-use crate::faults::check_window;
+use crate::faults::check_step_at;
+use crate::faults::check_window_at;
 use crate::ranges::MOST_ROWS;
 use crate::taken::box_taken;
 use crate::taken::identifier_taken;
@@ -30,7 +30,7 @@ fn check_steps(row: Row) -> Checked
 {
     let steps = row.steps as usize;
     for j in 0..steps {
-        let found = check_step(row, j);
+        let found = check_step_at(row, j);
         match found {
             Checked::Good => {}
             Checked::Refused(refusal) => {
@@ -47,7 +47,7 @@ fn check_windows(row: Row) -> Checked
 {
     let windows = row.windows as usize;
     for k in 0..windows {
-        let found = check_window(row, k);
+        let found = check_window_at(row, k);
         match found {
             Checked::Good => {}
             Checked::Refused(refusal) => {

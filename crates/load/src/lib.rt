@@ -4,6 +4,7 @@ mod chains;
 mod check;
 mod faults;
 mod parts;
+mod plain;
 mod ranges;
 mod taken;
 mod windows;
@@ -21,11 +22,14 @@ pub use parts::steps_in;
 pub use parts::window_at;
 pub use parts::zero_load;
 pub use parts::zero_row;
+pub use plain::check_plain;
 pub use ranges::LARGEST_COST;
 pub use ranges::LAST_MOMENT;
+pub use ranges::MOST_CLASS;
 pub use ranges::MOST_ROWS;
 pub use ranges::MOST_STEPS;
 pub use ranges::MOST_WINDOWS;
+pub use ranges::ONLY_HEAD;
 pub use taken::box_taken;
 pub use taken::identifier_taken;
 pub use windows::embedded_at;
@@ -50,7 +54,7 @@ pub struct Window {
 }
 
 // A row: `steps` of the places of `step` are used, and `windows` of those of `window`; the others
-// are zero.
+// are zero. Higher classes go first among equals; the head is 1 for now.
 pub struct Row {
     pub identifier: Identifier,
     pub box_number: BoxNumber,
@@ -58,6 +62,8 @@ pub struct Row {
     pub deadline: u32,
     pub steps: u8,
     pub windows: u8,
+    pub class: u8,
+    pub head: u8,
     pub step: [Step; MOST_STEPS],
     pub window: [Window; MOST_WINDOWS],
 }

@@ -48,6 +48,8 @@ pub fn zero_row() -> Row
         deadline: 0,
         steps: 0,
         windows: 0,
+        class: 0,
+        head: 0,
         step: [Step { cost: 0, wait: 0 }; MOST_STEPS],
         window: [Window {
             first: 0,

@@ -9,6 +9,12 @@ pub const MOST_STEPS: usize = 8;
 // A row has 0 to 4 windows.
 pub const MOST_WINDOWS: usize = 4;
 
+// A class is 0 to 3.
+pub const MOST_CLASS: u8 = 3;
+
+// A head is 1 for now.
+pub const ONLY_HEAD: u8 = 1;
+
 // An identifier is 1 to 4,294,967,295, a box number in the same range.
 pub const LARGEST_NUMBER: u32 = 4294967295;
 

@@ -60,7 +60,13 @@ fn zero_fields(row: Row) -> bool
     if row.steps != 0 {
         return false;
     }
-    row.windows == 0
+    if row.windows != 0 {
+        return false;
+    }
+    if row.class != 0 {
+        return false;
+    }
+    row.head == 0
 }
 
 // Says whether the steps of a row from place a on are zeros.

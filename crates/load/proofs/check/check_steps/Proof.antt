@@ -27,7 +27,7 @@ fault c =
     sym
     (firstFaultTo-refused (checkStep row) (row .steps) (turn .before .loop .j) _ (turn .loop-test .taken)
     (turn .before .loop .inv .1)
-    (sym (asked .check-step .ensures) ∙ c .before .found .given .1))
+    (sym (asked .check-step-at .ensures) ∙ c .before .found .given .1))
 
 loop-again : tie.Need-loop-again Inv-loop μ-loop
 loop-again c =
@@ -36,7 +36,8 @@ loop-again c =
     let row = turn .before .before .before .args .row in (
       search needs,
       firstFaultTo-next (checkStep row) (turn .before .loop .j)
-          ∙ andThen-both _ _ (turn .before .loop .inv .1) (sym (asked .check-step .ensures) ∙ c .enum-told .given .1),
+          ∙ andThen-both _ _ (turn .before .loop .inv .1)
+          (sym (asked .check-step-at .ensures) ∙ c .enum-told .given .1),
     )
 
 none : tie.Need-returns-2 Inv-loop μ-loop

@@ -29,6 +29,12 @@ call5 c = call4 (c .before .before .before)
 abbrev call6 : tie.Else6 → tie.Start
 call6 c = call5 (c .before .before)
 
+abbrev call7 : tie.Else7 → tie.Start
+call7 c = call6 (c .before .before)
+
+abbrev call8 : tie.Else8 → tie.Start
+call8 c = call7 (c .before .before)
+
 -- the first k tests of the row in hand are not met
 abbrev Passed : tie.Start → ℕ → Type 0
 Passed c k = let tests = rowTests (c .args .row) in firstMet tests ≡ firstMet (drop k tests)
@@ -57,6 +63,14 @@ passed6 : (c : tie.Else6) → Passed (call6 c) 6
 unfolding rowTests
 passed6 c = passed5 (c .before .before) ∙ simp (le-ltb _ _ (c .if6 .left))
 
+passed7 : (c : tie.Else7) → Passed (call7 c) 7
+unfolding rowTests
+passed7 c = passed6 (c .before .before) ∙ simp (le-ltb _ _ (c .if7 .left))
+
+passed8 : (c : tie.Else8) → Passed (call8 c) 8
+unfolding rowTests
+passed8 c = passed7 (c .before .before) ∙ simp (eq-eqb _ _ (c .if8 .left))
+
 identifier : tie.Need-returns
 unfolding rowTests
 identifier c = simp (sym (c .before .is-outside .ensures) ∙ c .if1 .taken)
@@ -81,13 +95,21 @@ windows : tie.Need-returns-6
 unfolding rowTests
 windows c = sym (passed5 (c .before .before) ∙ simp (lt-ltb _ _ (c .if6 .taken)))
 
-factory : tie.Need-returns-7
+class : tie.Need-returns-7
 unfolding rowTests
-factory c = sym (passed6 (c .before .before) ∙ simp (eq-eqb _ _ (c .if7 .taken)))
+class c = sym (passed6 (c .before .before) ∙ simp (lt-ltb _ _ (c .if7 .taken)))
 
-good : tie.Need-returns-8
+head : tie.Need-returns-8
 unfolding rowTests
-good c = sym (passed6 (c .before .before) ∙ simp (ne-eqb _ _ (c .if7 .left)))
+head c = sym (passed7 (c .before .before) ∙ simp (ne-eqb _ _ (c .if8 .taken)))
+
+factory : tie.Need-returns-9
+unfolding rowTests
+factory c = sym (passed8 (c .before .before) ∙ simp (eq-eqb _ _ (c .if9 .taken)))
+
+good : tie.Need-returns-10
+unfolding rowTests
+good c = sym (passed8 (c .before .before) ∙ simp (ne-eqb _ _ (c .if9 .left)))
 
 pub check-fields-spec : {M : Type 1} → statement M
 check-fields-spec =
@@ -106,5 +128,7 @@ check-fields-spec =
     steps
     (λ c. search needs)
     windows
+    class
+    head
     factory
     good)

@@ -11,7 +11,7 @@ use Rattle.load.proofs.parts.step_at.Tie as tie
 past : tie.Need-returns-2
 past c =
     let fields = c .before .good .0 .1 .1 in
-    let h : length (c .before .args .t1 .step) ≡ 8 = simp length-map at (fields .1 .1 .1 .1 .1 .1 .0 .1 .0 .1) in
+    let h : length (c .before .args .t1 .step) ≡ 8 = simp length-map at (fields .1 .1 .1 .1 .1 .1 .1 .1 .0 .1 .0 .1) in
     sym (List·getD-eq-default (c .before .args .t1 .step) noStep (omega arith))
 
 pub step-at-spec : {M : Type 1} → statement M

@@ -30,7 +30,7 @@ searched : (c : tie.Start Inv-loop μ-loop) → embeddedAmong (c .args .j) (rowW
     ≡ anyTo (at (c .args .t1) (c .args .j)) (min (c .args .t1 .windows) 4)
 searched c =
     let fields = c .good .0 .1 .1 in
-    let e : length (c .args .t1 .window) ≡ 4 = simp length-map at (fields .1 .1 .1 .1 .1 .1 .1 .0 .1 .0 .1) in
+    let e : length (c .args .t1 .window) ≡ 4 = simp length-map at (fields .1 .1 .1 .1 .1 .1 .1 .1 .1 .0 .1 .0 .1) in
     anyIn-take (embeddedIn (shown (c .args .j))) noWindow (c .args .t1 .windows) 4 (c .args .t1 .window) e
 
 found : tie.Need-returns Inv-loop μ-loop
