@@ -3,3 +3,4 @@ pub mod ZeroLaws
 pub mod FaultLaws
 pub mod ReadingLaws
 pub mod ReadingRowsLaws
+pub mod PartLaws

@@ -5,3 +5,4 @@ pub mod RoundTrip
 pub mod Calls
 pub mod inner
 pub mod WorkedCases
+pub mod WorkedVersions

@@ -1,6 +1,7 @@
--- "Load file", as it is read: where each record stands, and the load that the bytes spell. To be
--- read after Records. Rests on D32.
+-- "Load file", as it is read: where each record stands, and the load that the bytes spell, in the
+-- version that they name. To be read after Records. Rests on D32 and D92.
 use Prim.Native.Nat.{ℕ, zero, suc, _+_, _*_}
+use mathlib.Core.Bool.{cond}
 use mathlib.Core.List.{List}
 use Rattle.counting.specs.Lists.{filled}
 use Rattle.words.specs.LittleEndian.{byteAt, numberAt}
@@ -8,8 +9,12 @@ use Rattle.load.specs.declared.Step.{Step}
 use Rattle.load.specs.declared.Window.{Window}
 use Rattle.load.specs.declared.Row.{Row}
 use Rattle.load.specs.declared.Load.{Load}
-use Rattle.load.specs.Load.{mostRows, mostSteps, mostWindows, noStep, noWindow, zeroRow}
-use Rattle.load_records.specs.Records.{headerKind, rowKind, stepKind, windowKind}
+use Rattle.load.specs.Load.{mostRows, mostSteps, mostWindows, onlyHead, noStep, noWindow, zeroRow}
+use Rattle.load_records.specs.Records.{carries, headerKind, rowKind, stepKind, windowKind}
+
+-- the version that the header names
+abbrev pub versionSaid : List ℕ → ℕ
+versionSaid bs = byteAt bs 2
 
 -- the step that the record at a place spells
 abbrev pub stepIn : List ℕ → ℕ → Step
@@ -29,12 +34,20 @@ abbrev pub windowsSaid : List ℕ → ℕ → ℕ
 windowsSaid bs at = byteAt bs (at + 19)
 
 -- where step record j of the row at a place stands: behind the row's own record
-abbrev pub stepPlace : ℕ → ℕ → ℕ
-stepPlace at j = at + rowKind .size + stepKind .size * j
+abbrev pub stepPlace : List ℕ → ℕ → ℕ → ℕ
+stepPlace bs at j = at + rowKind (versionSaid bs) .size + stepKind .size * j
 
 -- where window record k stands: behind the steps
 abbrev pub windowPlace : List ℕ → ℕ → ℕ → ℕ
-windowPlace bs at k = stepPlace at (stepsSaid bs at) + windowKind .size * k
+windowPlace bs at k = stepPlace bs at (stepsSaid bs at) + windowKind .size * k
+
+-- the class of the row at a place: "Version 1 files .. go on being read, as class 0 and head 1"
+abbrev pub classSaid : List ℕ → ℕ → ℕ
+classSaid bs at = cond (carries (versionSaid bs)) (byteAt bs (at + 20)) 0
+
+-- its head
+abbrev pub headSaid : List ℕ → ℕ → ℕ
+headSaid bs at = cond (carries (versionSaid bs)) (byteAt bs (at + 21)) onlyHead
 
 -- the row whose own record stands at a place, with these steps and windows
 unfoldable pub rowWith : List ℕ → ℕ → List Step → List Window → Row
@@ -46,6 +59,8 @@ rowWith bs at step window =
       deadline = numberAt 4 bs (at + 14);
       steps = stepsSaid bs at;
       windows = windowsSaid bs at;
+      class = classSaid bs at;
+      head = headSaid bs at;
       step = step;
       window = window;
     }
@@ -54,7 +69,7 @@ rowWith bs at step window =
 unfoldable pub rowFrom : List ℕ → ℕ → Row
 rowFrom bs at =
     rowWith bs at
-    (filled (λ j. stepIn bs (stepPlace at j)) (stepsSaid bs at) mostSteps noStep)
+    (filled (λ j. stepIn bs (stepPlace bs at j)) (stepsSaid bs at) mostSteps noStep)
     (filled (λ k. windowIn bs (windowPlace bs at k)) (windowsSaid bs at) mostWindows noWindow)
 
 -- where the record behind the row at a place stands

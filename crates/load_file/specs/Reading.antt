@@ -1,6 +1,7 @@
 -- "Reading goes front to back and the first faulty record decides; inside a record 1, 2, 3 in field
--- order, then 4, 5 for a row, 6, 7 for a window", with 21 "after 3 and before 4" (2026-04). To be
--- read after Places. Rests on D1 to D8, D25, D29 and D91.
+-- order, then 4, 5 for a row, 6, 7 for a window", with 21 "after 3 and before 4" (2026-04); "other
+-- versions stay under 2" (2026-05). To be read after Places. Rests on D1 to D8, D25, D29, D91 and
+-- D92.
 use Prim.Native.Nat.{ℕ, _+_}
 use mathlib.Core.Bool.{Bool, not}
 use mathlib.Core.List.{List, [], _∷_, _++_}
@@ -18,15 +19,16 @@ use Rattle.load.specs.View.{viewOf, stepsInAll}
 use Rattle.load.specs.Faults.{rowTests, takenTests, stepTests, windowTests}
 use Rattle.load_records.specs.Records.{
   Kind,
+  isVersion,
   headerKind,
   rowKind,
   stepKind,
   windowKind,
   endKind,
-  version,
 }
 use Rattle.load_file.specs.declared.Reading.{Reading}
 use Rattle.load_file.specs.Places.{
+  versionSaid,
   stepsSaid,
   windowsSaid,
   stepPlace,
@@ -50,14 +52,14 @@ dueTests kind bs at =
 unfoldable pub headerTests : List ℕ → List (Bool × Refusal)
 headerTests bs =
     dueTests headerKind bs 0
-    ++ (not (eqb (byteAt bs 2) version), MarkDiffers)
+    ++ (not (isVersion (versionSaid bs)), MarkDiffers)
     ∷ (ltb mostRows (rowsSaid bs), OutOfRange)
     ∷ []
 
 -- step record j of the row at a place
 unfoldable pub stepFaultIn : List ℕ → ℕ → ℕ → Checked
 stepFaultIn bs at j =
-    firstMet (dueTests stepKind bs (stepPlace at j) ++ stepTests (rowFrom bs at) j)
+    firstMet (dueTests stepKind bs (stepPlace bs at j) ++ stepTests (rowFrom bs at) j)
 
 -- window record k of the row at a place
 unfoldable pub windowFaultIn : List ℕ → ℕ → ℕ → Checked
@@ -68,7 +70,9 @@ windowFaultIn bs at k =
 unfoldable pub ownFault : List ℕ → ℕ → ℕ → Checked
 ownFault bs i at =
     firstMet
-    (dueTests rowKind bs at ++ rowTests (rowFrom bs at) ++ takenTests (loadIn bs) i (rowFrom bs at))
+    (dueTests (rowKind (versionSaid bs)) bs at
+    ++ rowTests (rowFrom bs at)
+    ++ takenTests (loadIn bs) i (rowFrom bs at))
 
 -- its step records
 abbrev pub stepsFault : List ℕ → ℕ → Checked

@@ -1,6 +1,8 @@
 -- Demand 2 for load files: an accepted file reads to exactly one load, that load is written back to
--- the same bytes, and a written load reads back as itself. To be read after Writing and Reading.
+-- the same bytes, and a written load reads back as itself; in the version that the bytes name
+-- (2026-05). To be read after Writing and Reading. Rests on D92.
 use Prim.Native.Nat.{ℕ, _^_, _<_}
+use mathlib.Core.Bool.{true}
 use mathlib.Core.List.{List}
 use mathlib.Core.Path.{_≡_}
 use lib.ListN.{length}
@@ -11,9 +13,10 @@ use Rattle.load.specs.declared.Window.{Window}
 use Rattle.load.specs.declared.Row.{Row}
 use Rattle.load.specs.declared.Load.{Load}
 use Rattle.load.specs.Load.{mostRows, mostSteps, mostWindows, rowAt, stepAt, windowAt}
-use Rattle.load.specs.Check.{checkLoad}
-use Rattle.load_records.specs.Writing.{loadBytes}
+use Rattle.load_records.specs.Records.{isVersion}
+use Rattle.load_records.specs.Writing.{loadBytes, writeFault}
 use Rattle.load_file.specs.declared.Reading.{Reading}
+use Rattle.load_file.specs.Places.{versionSaid}
 use Rattle.load_file.specs.Reading.{readLoad}
 
 -- a step as it is held in memory: what its type alone says
@@ -35,6 +38,8 @@ pub record HeldRow (row : Row) : Type 0 where
   pub deadline-fits : row .deadline < 2 ^ 32
   pub steps-fit : row .steps < 256
   pub windows-fit : row .windows < 256
+  pub class-fits : row .class < 256
+  pub head-fits : row .head < 256
   pub step-places : length (row .step) ≡ mostSteps
   pub window-places : length (row .window) ≡ mostWindows
   pub each-step : (j : ℕ) → j < mostSteps → HeldStep (stepAt row j)
@@ -55,14 +60,21 @@ pub record AcceptedFile (bs : List ℕ) (load : Load) : Type 0 where
   pub bytes : Bytes bs
   pub reads : readLoad bs ≡ accepted load
 
--- a load held in memory that its check does not refuse, and the bytes that are its file
-pub record WrittenLoad (load : Load) (bs : List ℕ) : Type 0 where
+-- a load held in memory that is not refused where it is written in a version, and the bytes that
+-- are its file
+pub record WrittenLoad (v : ℕ) (load : Load) (bs : List ℕ) : Type 0 where
   pub held : Held load
-  pub good : checkLoad load ≡ Good
-  pub file : bs ≡ loadBytes load
+  pub good : writeFault v load ≡ Good
+  pub file : bs ≡ loadBytes v load
 
--- the two round trips: of bytes and a load, the bytes read to the load exactly when the load is
--- written as the bytes
+-- "A move from version 1 to version 2 and back gives the same bytes": the load of a file, written
+-- as version 2, reads back as itself, and is written as version 1 to the file's bytes
+pub record ThereAndBack (bs : List ℕ) (load : Load) : Type 0 where
+  pub there : AcceptedFile (loadBytes 2 load) load
+  pub back : WrittenLoad 1 load bs
+
+-- the round trips: of bytes and a load, the bytes read to the load exactly when the load is written
+-- as the bytes
 pub record RoundTrip : Type 0 where
   -- a file that is not refused reads to a load
   pub some-load : (bs : List ℕ) → Bytes bs → readLoad bs .answer ≡ Good
@@ -70,7 +82,13 @@ pub record RoundTrip : Type 0 where
   -- and to no other
   pub one-load : (bs : List ℕ) (load other : Load)
       → AcceptedFile bs load → AcceptedFile bs other → load ≡ other
-  -- an accepted file's load passes the check, and is written back to the same bytes
-  pub read-write : (bs : List ℕ) (load : Load) → AcceptedFile bs load → WrittenLoad load bs
+  -- an accepted file's load is not refused in the file's version, and is written back to the same
+  -- bytes
+  pub read-write : (bs : List ℕ) (load : Load) → AcceptedFile bs load
+      → WrittenLoad (versionSaid bs) load bs
   -- a written load reads back as itself
-  pub write-read : (bs : List ℕ) (load : Load) → WrittenLoad load bs → AcceptedFile bs load
+  pub write-read : (v : ℕ) → isVersion v ≡ true → (bs : List ℕ) (load : Load)
+      → WrittenLoad v load bs → AcceptedFile bs load
+  -- a file of version 1 moves to version 2 and back
+  pub there-and-back : (bs : List ℕ) (load : Load) → versionSaid bs ≡ 1 → AcceptedFile bs load
+      → ThereAndBack bs load

@@ -9,16 +9,8 @@ use Rattle.refusals.specs.declared.Refusal.the-variants.{EndDiffers}
 use Rattle.refusals.specs.declared.Checked.the-variants.{Good, Refused}
 use Rattle.refusals.specs.Refusals.{numberGiven}
 use Rattle.load.specs.Load.{zeroLoad}
-use Rattle.load_records.specs.WorkedFile.{
-  joined,
-  header,
-  row,
-  steps,
-  windows,
-  end,
-  file,
-  spelled,
-}
+use Rattle.load_records.specs.WorkedFile.{joined, header, header2, row, steps}
+use Rattle.load_records.specs.WorkedFile.{windows, end, file, spelled}
 use Rattle.load_file.specs.Reading.{readLoad}
 use Rattle.load_file.specs.Calls.{ReadLoad}
 
@@ -75,15 +67,17 @@ pub record WorkedCases : Type 0 where
       ∷ (header 1 ∷ row ∷ steps ∷ (0x57 ∷ 0x57 ∷ 0 ∷ drop 3 windows) ∷ drop 4 file)
       ∷ [])
       ≡ replicate 3 2
-  -- versions 0 and 2; version 2 with 25 rows is 2, and 25 rows alone are 3
+  -- versions 0, 3 and 255; version 3 with 25 rows is 2, and 25 rows of version 1 and 2 are 3
   pub versions :
       numbersRead
       (((0x4C ∷ 0x44 ∷ 0 ∷ 0 ∷ []) ∷ end 0 ∷ [])
-      ∷ ((0x4C ∷ 0x44 ∷ 2 ∷ 0 ∷ []) ∷ end 0 ∷ [])
-      ∷ ((0x4C ∷ 0x44 ∷ 2 ∷ 25 ∷ []) ∷ end 0 ∷ [])
-      ∷ ((0x4C ∷ 0x44 ∷ 1 ∷ 25 ∷ []) ∷ end 0 ∷ [])
+      ∷ ((0x4C ∷ 0x44 ∷ 3 ∷ 0 ∷ []) ∷ end 0 ∷ [])
+      ∷ ((0x4C ∷ 0x44 ∷ 255 ∷ 0 ∷ []) ∷ end 0 ∷ [])
+      ∷ ((0x4C ∷ 0x44 ∷ 3 ∷ 25 ∷ []) ∷ end 0 ∷ [])
+      ∷ (header 25 ∷ end 0 ∷ [])
+      ∷ (header2 25 ∷ end 0 ∷ [])
       ∷ [])
-      ≡ 2 ∷ 2 ∷ 2 ∷ 3 ∷ []
+      ≡ 2 ∷ 2 ∷ 2 ∷ 2 ∷ 3 ∷ 3 ∷ []
   -- the end record: no rows and no steps, a step too many, its upper byte, too few; one byte that
   -- follows is 8, and so it is with a wrong count
   pub ends :

@@ -2,6 +2,8 @@
 mod read;
 mod read_parts;
 mod read_row;
+mod read_steps;
+mod read_windows;
 
 use load::Load;
 pub use read::read_load;

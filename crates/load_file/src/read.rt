@@ -7,15 +7,15 @@ use load::BoxNumber;
 use load::Identifier;
 use load::Load;
 use load::MOST_ROWS;
-use load::Row;
 use load_records::END_MARK;
 use load_records::END_SIZE;
 use load_records::HEADER_MARK;
 use load_records::HEADER_SIZE;
-use load_records::ROW_SIZE;
 use load_records::STEP_SIZE;
-use load_records::VERSION;
+use load_records::VERSION_1;
+use load_records::VERSION_2;
 use load_records::WINDOW_SIZE;
+use load_records::row_size;
 use refusals::Checked;
 use refusals::Refusal;
 use words::byte_at;
@@ -26,11 +26,21 @@ ghost use Rattle.refusals.specs.declared.Checked.the-variants.{Refused};
 ghost use Rattle.refusals.specs.FirstMet.{firstMet};
 ghost use Rattle.load.specs.Load.{mostRows, zeroLoad};
 ghost use Rattle.load.specs.View.{viewOf, stepsInAll};
-ghost use Rattle.load_records.specs.Records.{windowKind};
-ghost use Rattle.load_file.specs.Places.{stepPlace, rowsSaid, loadIn};
+ghost use Rattle.load_records.specs.Records.{isVersion, rowKind, stepKind, windowKind};
+ghost use Rattle.load_file.specs.Places.{versionSaid, rowsSaid, loadIn};
 ghost use Rattle.load_file.specs.Reading.{headerTests, endTests};
 ghost use Rattle.load_file.specs.Calls.{ReadLoad};
 ghost use Rattle.load_file.specs.inner.ReadingSteps.{readRows};
+
+// Says whether there is such a version.
+fn is_version(version: u8) -> bool
+    ensures { λ r. ⌜ r ≡ isVersion version ⌝ }
+{
+    if version == VERSION_1 {
+        return true;
+    }
+    version == VERSION_2
+}
 
 // Checks the header: 1, 2 for its mark and its version, 3 for its row count.
 fn check_header(bytes: &[u8]) -> Checked
@@ -40,7 +50,7 @@ fn check_header(bytes: &[u8]) -> Checked
         Checked::Good => {}
         Checked::Refused(refusal) => return Checked::Refused(refusal),
     }
-    if byte_at(bytes, 2) != VERSION {
+    if !is_version(byte_at(bytes, 2)) {
         return Checked::Refused(Refusal::MarkDiffers);
     }
     if MOST_ROWS < byte_at(bytes, 3) as usize {
@@ -80,20 +90,23 @@ fn no_load(refusal: Refusal) -> Reading
     }
 }
 
-// Gives the place behind a row whose own record stands at a place.
-fn place_behind(at: usize, row: Row) -> usize
+// Gives the place behind a row of a version, with its steps and windows, whose own record stands at
+// a place.
+fn place_behind(at: usize, version: u8, steps: u8, windows: u8) -> usize
     requires { ⌜ at ≤ 4096 ⌝ }
-    ensures { λ r. ⌜ r ≡ stepPlace at (row .steps) + windowKind .size * row .windows ⌝ }
+    ensures { λ r. ⌜ r ≡ at + rowKind version .size + stepKind .size * steps
+        + windowKind .size * windows ⌝ }
 {
-    at + ROW_SIZE + STEP_SIZE * row.steps as usize + WINDOW_SIZE * row.windows as usize
+    at + row_size(version) + STEP_SIZE * steps as usize + WINDOW_SIZE * windows as usize
 }
 
 // Reads the rows behind the header, of which it announces at most 24, and then the end record:
 // gives the first refusal that is met and the all-zero load, or Good and the load. A refused
 // reading clears what it kept and leaves by the one exit: a second would cost the frame one load
 // more.
-fn read_rows(bytes: &[u8], rows: u8) -> Reading
-    requires { ⌜ (rows ≡ rowsSaid (now bytes)) × (rows ≤ mostRows) ⌝ }
+fn read_rows(bytes: &[u8], version: u8, rows: u8) -> Reading
+    requires { ⌜ (version ≡ versionSaid (now bytes)) × (rows ≡ rowsSaid (now bytes))
+        × (rows ≤ mostRows) ⌝ }
     ensures { λ r. ⌜ r ≡ readRows (now (bytes .entry)) ⌝ }
 {
     let mut identifiers = [Identifier(0); MOST_ROWS];
@@ -104,7 +117,7 @@ fn read_rows(bytes: &[u8], rows: u8) -> Reading
     let count = rows as usize;
     let mut answer = Checked::Good;
     for i in 0..count {
-        let reading = read_row(bytes, at, identifiers, boxes, i);
+        let reading = read_row(bytes, at, version, identifiers, boxes, i);
         answer = reading.answer;
         if let Checked::Refused(_) = answer {
             break;
@@ -116,20 +129,17 @@ fn read_rows(bytes: &[u8], rows: u8) -> Reading
         boxes[i] = box_number;
         kept[i] = row;
         steps += row.steps as u16;
-        at = place_behind(at, row);
+        at = place_behind(at, version, row.steps, row.windows);
     }
     if let Checked::Good = answer {
         answer = check_end(bytes, at, steps);
     }
-    let mut told = rows;
+    let mut rows = rows;
     if let Checked::Refused(_) = answer {
-        told = 0;
+        rows = 0;
         kept = [load::zero_row(); MOST_ROWS];
     }
-    let load = Load {
-        rows: told,
-        row: kept,
-    };
+    let load = Load { rows, row: kept };
     Reading { answer, load }
 }
 
@@ -139,7 +149,7 @@ pub fn read_load(bytes: &[u8]) -> Reading
     ensures { λ r. ⌜ ReadLoad (now (bytes .entry)) r ⌝ }
 {
     match check_header(bytes) {
-        Checked::Good => read_rows(bytes, byte_at(bytes, 3)),
+        Checked::Good => read_rows(bytes, byte_at(bytes, 2), byte_at(bytes, 3)),
         Checked::Refused(refusal) => no_load(refusal),
     }
 }

@@ -4,34 +4,27 @@ use load::BoxNumber;
 use load::Identifier;
 use load::MOST_STEPS;
 use load::MOST_WINDOWS;
+use load::ONLY_HEAD;
 use load::Row;
 use load::Step;
 use load::Window;
-use load_records::ROW_SIZE;
-use load_records::STEP_SIZE;
-use load_records::WINDOW_SIZE;
+use load_records::VERSION_2;
 use refusals::Checked;
 use refusals::Refusal;
 use words::byte_at;
 use words::number16_at;
 use words::number32_at;
 ghost use mathlib.Core.Path.{_≡_};
-ghost use Prim.Native.Nat.{min, _≤_};
+ghost use Prim.Native.Nat.{_≤_};
 ghost use Rattle.refusals.specs.FirstMet.{firstMet};
-ghost use Rattle.load.specs.Load.{mostSteps, mostWindows};
-ghost use Rattle.load_records.specs.Records.{rowKind};
-ghost use Rattle.load_file.specs.Places.{stepIn, windowIn, rowWith};
+ghost use Rattle.load_records.specs.Records.{newest, rowKind};
+ghost use Rattle.load_file.specs.Places.{stepIn, windowIn, classSaid, headSaid};
 ghost use Rattle.load_file.specs.Reading.{dueTests};
-ghost use Rattle.load_file.specs.inner.ReadingSteps.{
-  kindOf,
-  stepsFrom,
-  windowsFrom,
-  rowWithin,
-};
+ghost use Rattle.load_file.specs.inner.ReadingSteps.{kindOf, ownFields};
 
 // Checks a record that is due at a place: that the file holds it whole, and then its mark.
 pub fn check_due(bytes: &[u8], at: usize, mark: [u8; 2], size: usize) -> Checked
-    requires { ⌜ (at ≤ 8192) × (size ≤ rowKind .size) ⌝ }
+    requires { ⌜ (at ≤ 8192) × (size ≤ rowKind newest .size) ⌝ }
     ensures { λ r. ⌜ r ≡ firstMet (dueTests (kindOf mark size) (now (bytes .entry)) at) ⌝ }
 {
     if bytes.len() < at + size {
@@ -47,7 +40,7 @@ pub fn check_due(bytes: &[u8], at: usize, mark: [u8; 2], size: usize) -> Checked
 }
 
 // Gives the step that the record at a place spells.
-fn step_in(bytes: &[u8], at: usize) -> Step
+pub fn step_in(bytes: &[u8], at: usize) -> Step
     requires { ⌜ at ≤ 8192 ⌝ }
     ensures { λ r. ⌜ r ≡ stepIn (now (bytes .entry)) at ⌝ }
 {
@@ -57,20 +50,8 @@ fn step_in(bytes: &[u8], at: usize) -> Step
     }
 }
 
-// Gives the steps of so many records from a place on, and zeros in the places behind them.
-fn steps_from(bytes: &[u8], from: usize, count: usize) -> [Step; MOST_STEPS]
-    requires { ⌜ (from ≤ 8000) × (count ≤ mostSteps) ⌝ }
-    ensures { λ r. ⌜ r ≡ stepsFrom (now (bytes .entry)) from count ⌝ }
-{
-    let mut steps = [Step { cost: 0, wait: 0 }; MOST_STEPS];
-    for j in 0..count {
-        steps[j] = step_in(bytes, from + STEP_SIZE * j);
-    }
-    steps
-}
-
 // Gives the window that the record at a place spells.
-fn window_in(bytes: &[u8], at: usize) -> Window
+pub fn window_in(bytes: &[u8], at: usize) -> Window
     requires { ⌜ at ≤ 8192 ⌝ }
     ensures { λ r. ⌜ r ≡ windowIn (now (bytes .entry)) at ⌝ }
 {
@@ -81,31 +62,35 @@ fn window_in(bytes: &[u8], at: usize) -> Window
     }
 }
 
-// Gives the windows of so many records from a place on, and zeros in the places behind them.
-fn windows_from(bytes: &[u8], from: usize, count: usize) -> [Window; MOST_WINDOWS]
-    requires { ⌜ (from ≤ 8000) × (count ≤ mostWindows) ⌝ }
-    ensures { λ r. ⌜ r ≡ windowsFrom (now (bytes .entry)) from count ⌝ }
+// Gives the class of the row whose own record stands at a place: version 1 has none, and is read as
+// class 0.
+fn class_in(bytes: &[u8], at: usize) -> u8
+    requires { ⌜ at ≤ 8192 ⌝ }
+    ensures { λ r. ⌜ r ≡ classSaid (now (bytes .entry)) at ⌝ }
 {
-    let mut windows = [Window {
-        first: 0,
-        last: 0,
-        limit: 0,
-    }; MOST_WINDOWS];
-    for k in 0..count {
-        windows[k] = window_in(bytes, from + WINDOW_SIZE * k);
+    if byte_at(bytes, 2) == VERSION_2 {
+        byte_at(bytes, at + 20)
+    } else {
+        0
     }
-    windows
 }
 
-// Gives the row whose own record stands at a place, with these steps and windows.
-fn row_with(
-    bytes: &[u8],
-    at: usize,
-    step: [Step; MOST_STEPS],
-    window: [Window; MOST_WINDOWS],
-) -> Row
+// Gives its head: version 1 has none, and is read as head 1.
+fn head_in(bytes: &[u8], at: usize) -> u8
     requires { ⌜ at ≤ 8192 ⌝ }
-    ensures { λ r. ⌜ r ≡ rowWith (now (bytes .entry)) at step window ⌝ }
+    ensures { λ r. ⌜ r ≡ headSaid (now (bytes .entry)) at ⌝ }
+{
+    if byte_at(bytes, 2) == VERSION_2 {
+        byte_at(bytes, at + 21)
+    } else {
+        ONLY_HEAD
+    }
+}
+
+// Gives the fields of the row's own record at a place, with no steps and no windows read yet.
+pub fn own_fields(bytes: &[u8], at: usize) -> Row
+    requires { ⌜ at ≤ 4096 ⌝ }
+    ensures { λ r. ⌜ r ≡ ownFields (now (bytes .entry)) at ⌝ }
 {
     Row {
         identifier: Identifier(number32_at(bytes, at + 2)),
@@ -114,32 +99,13 @@ fn row_with(
         deadline: number32_at(bytes, at + 14),
         steps: byte_at(bytes, at + 18),
         windows: byte_at(bytes, at + 19),
-        step,
-        window,
+        class: class_in(bytes, at),
+        head: head_in(bytes, at),
+        step: [Step { cost: 0, wait: 0 }; MOST_STEPS],
+        window: [Window {
+            first: 0,
+            last: 0,
+            limit: 0,
+        }; MOST_WINDOWS],
     }
-}
-
-// Gives n, or the most where that is less.
-fn at_most(n: usize, most: usize) -> usize
-    ensures { λ r. ⌜ r ≡ min n most ⌝ }
-{
-    if n < most { n } else { most }
-}
-
-// Gives the row whose record stands at a place, with its steps and its windows. Where the record
-// announces more than a row has places for, the row has the first 8 and the first 4 of them.
-pub fn row_from(bytes: &[u8], at: usize) -> Row
-    requires { ⌜ at ≤ 4096 ⌝ }
-    ensures { λ r. ⌜ r ≡ rowWithin (now (bytes .entry)) at ⌝ }
-{
-    let steps = byte_at(bytes, at + 18) as usize;
-    let windows = byte_at(bytes, at + 19) as usize;
-    let from = at + ROW_SIZE;
-    let behind = from + STEP_SIZE * steps;
-    row_with(
-        bytes,
-        at,
-        steps_from(bytes, from, at_most(steps, MOST_STEPS)),
-        windows_from(bytes, behind, at_most(windows, MOST_WINDOWS)),
-    )
 }

@@ -1,30 +1,34 @@
-// A row of a load file, as it is read: the tests of its own record, of its steps and of its
-// windows, in the order in which they are asked, and the row.
+// A row of a load file, as it is read, front to back: its own record, its steps and its windows.
+// Each record is checked that it is due, then what it spells is asked and kept, before the next one
+// is looked at.
 use crate::read_parts::check_due;
-use crate::read_parts::row_from;
+use crate::read_parts::own_fields;
+use crate::read_steps::read_steps;
+use crate::read_windows::read_windows;
 use load::BoxNumber;
 use load::Identifier;
 use load::MOST_ROWS;
 use load::Row;
 use load_records::ROW_MARK;
-use load_records::ROW_SIZE;
-use load_records::STEP_MARK;
 use load_records::STEP_SIZE;
-use load_records::WINDOW_MARK;
-use load_records::WINDOW_SIZE;
+use load_records::row_size;
 use refusals::Checked;
 use refusals::Refusal;
-ghost use mathlib.Core.List.{List, _++_};
+ghost use mathlib.Core.List.{List};
 ghost use mathlib.Core.Path.{_≡_};
 ghost use Prim.Native.Nat.{ℕ, _≤_};
-ghost use Rattle.refusals.specs.declared.Checked.the-variants.{Refused};
-ghost use Rattle.refusals.specs.FirstMet.{firstMet};
-ghost use Rattle.load.specs.Load.{zeroRow};
-ghost use Rattle.load.specs.Faults.{stepTests, windowTests};
-ghost use Rattle.load_records.specs.Records.{stepKind, windowKind};
-ghost use Rattle.load_file.specs.Places.{rowFrom};
-ghost use Rattle.load_file.specs.Reading.{dueTests, stepsFault, windowsFault};
-ghost use Rattle.load_file.specs.inner.ReadingSteps.{RowsBefore, fieldsFault, readRow};
+ghost use Rattle.refusals.specs.declared.Checked.the-variants.{Good, Refused};
+ghost use Rattle.load.specs.Load.{mostSteps, mostWindows, zeroRow};
+ghost use Rattle.load_records.specs.Records.{rowKind};
+ghost use Rattle.load_file.specs.Places.{versionSaid, stepsSaid, windowsSaid};
+ghost use Rattle.load_file.specs.Reading.{ownFault};
+ghost use Rattle.load_file.specs.inner.ReadingSteps.{
+  RowsBefore,
+  fieldsFault,
+  ownFields,
+  readParts,
+  readRow,
+};
 
 // What reading a row gives: the refusal that comes first, or Good and the row. A refused row is the
 // row of zeros.
@@ -57,64 +61,6 @@ fn check_own(
     Checked::Good
 }
 
-// Checks the record of a row's step j, which is due at a place, and then the step.
-fn check_step_at(bytes: &[u8], place: usize, row: Row, j: usize) -> Checked
-    requires { ⌜ place ≤ 8192 ⌝ }
-    ensures { λ r. ⌜ r
-        ≡ firstMet (dueTests stepKind (now (bytes .entry)) place ++ stepTests row j) ⌝ }
-{
-    match check_due(bytes, place, STEP_MARK, STEP_SIZE) {
-        Checked::Good => load::check_step(row, j),
-        Checked::Refused(refusal) => Checked::Refused(refusal),
-    }
-}
-
-// Checks the records of the steps of a row whose own record stands at a place, in order.
-fn check_steps(bytes: &[u8], at: usize, row: Row) -> Checked
-    requires { ⌜ at ≤ 4096 ⌝ }
-    requires { ⌜ row ≡ rowFrom (now bytes) at ⌝ }
-    ensures { λ r. ⌜ r ≡ stepsFault (now (bytes .entry)) at ⌝ }
-{
-    let from = at + ROW_SIZE;
-    let count = row.steps as usize;
-    for j in 0..count {
-        match check_step_at(bytes, from + STEP_SIZE * j, row, j) {
-            Checked::Good => {}
-            Checked::Refused(refusal) => return Checked::Refused(refusal),
-        }
-    }
-    Checked::Good
-}
-
-// Checks the record of a row's window k, which is due at a place, and then the window.
-fn check_window_at(bytes: &[u8], place: usize, row: Row, k: usize) -> Checked
-    requires { ⌜ place ≤ 8192 ⌝ }
-    ensures { λ r. ⌜ r
-        ≡ firstMet (dueTests windowKind (now (bytes .entry)) place ++ windowTests row k) ⌝ }
-{
-    match check_due(bytes, place, WINDOW_MARK, WINDOW_SIZE) {
-        Checked::Good => load::check_window(row, k),
-        Checked::Refused(refusal) => Checked::Refused(refusal),
-    }
-}
-
-// Checks the records of the windows of a row whose own record stands at a place, in order.
-fn check_windows(bytes: &[u8], at: usize, row: Row) -> Checked
-    requires { ⌜ at ≤ 4096 ⌝ }
-    requires { ⌜ row ≡ rowFrom (now bytes) at ⌝ }
-    ensures { λ r. ⌜ r ≡ windowsFault (now (bytes .entry)) at ⌝ }
-{
-    let from = at + ROW_SIZE + STEP_SIZE * row.steps as usize;
-    let count = row.windows as usize;
-    for k in 0..count {
-        match check_window_at(bytes, from + WINDOW_SIZE * k, row, k) {
-            Checked::Good => {}
-            Checked::Refused(refusal) => return Checked::Refused(refusal),
-        }
-    }
-    Checked::Good
-}
-
 // Gives what the reading of a refused row gives.
 fn no_row(refusal: Refusal) -> RowReading
     ensures { λ r. ⌜ r ≡ record { answer = Refused refusal; row = zeroRow } ⌝ }
@@ -125,37 +71,82 @@ fn no_row(refusal: Refusal) -> RowReading
     }
 }
 
-// Reads row i at a place, with its steps and then its windows: gives the first refusal that is met
-// and the row of zeros, or Good and the row.
-pub fn read_row(
+// Reads the own record of row i at a place, of so many bytes: gives the first refusal that is met,
+// or Good and the row with no steps and no windows read yet.
+fn read_own(
     bytes: &[u8],
     at: usize,
+    size: usize,
     identifiers: [Identifier; MOST_ROWS],
     boxes: [BoxNumber; MOST_ROWS],
     i: usize,
 ) -> RowReading
-    requires { ⌜ at ≤ 4096 ⌝ }
+    requires { ⌜ (at ≤ 4096) × (size ≡ rowKind (versionSaid (now bytes)) .size) ⌝ }
+    requires { ⌜ RowsBefore (now bytes) i identifiers boxes ⌝ }
+    ensures { λ r. ⌜ r .answer ≡ ownFault (now (bytes .entry)) i at ⌝ }
+    ensures { λ r. ⌜ (r .answer ≡ Good → r .row ≡ ownFields (now (bytes .entry)) at) ⌝ }
+{
+    match check_due(bytes, at, ROW_MARK, size) {
+        Checked::Good => {}
+        Checked::Refused(refusal) => return no_row(refusal),
+    }
+    let row = own_fields(bytes, at);
+    let answer = check_own(row, identifiers, boxes, i);
+    RowReading { answer, row }
+}
+
+// Reads the steps and then the windows of a row whose own record, of so many bytes, stands at a
+// place and is read: gives the first refusal that is met and the row of zeros, or Good and the row.
+fn read_parts(bytes: &[u8], at: usize, size: usize, own: Row) -> RowReading
+    requires { ⌜ (at ≤ 4096) × (size ≡ rowKind (versionSaid (now bytes)) .size) ⌝ }
+    requires { ⌜ (own ≡ ownFields (now bytes) at) × (stepsSaid (now bytes) at ≤ mostSteps)
+        × (windowsSaid (now bytes) at ≤ mostWindows) ⌝ }
+    ensures { λ r. ⌜ r ≡ readParts (now (bytes .entry)) at ⌝ }
+{
+    let mut row = own;
+    let from = at + size;
+    let steps = read_steps(bytes, at, from, row.steps as usize);
+    let found = steps.answer;
+    match found {
+        Checked::Good => {}
+        Checked::Refused(refusal) => return no_row(refusal),
+    }
+    let step = steps.step;
+    row.step = step;
+    let behind = from + STEP_SIZE * row.steps as usize;
+    let windows = read_windows(bytes, at, behind, row.windows as usize, row);
+    let found = windows.answer;
+    match found {
+        Checked::Good => {}
+        Checked::Refused(refusal) => return no_row(refusal),
+    }
+    let window = windows.window;
+    row.window = window;
+    RowReading {
+        answer: Checked::Good,
+        row,
+    }
+}
+
+// Reads row i of a file of a version, at a place, with its steps and then its windows: gives the
+// first refusal that is met and the row of zeros, or Good and the row.
+pub fn read_row(
+    bytes: &[u8],
+    at: usize,
+    version: u8,
+    identifiers: [Identifier; MOST_ROWS],
+    boxes: [BoxNumber; MOST_ROWS],
+    i: usize,
+) -> RowReading
+    requires { ⌜ (at ≤ 4096) × (version ≡ versionSaid (now bytes)) ⌝ }
     requires { ⌜ RowsBefore (now bytes) i identifiers boxes ⌝ }
     ensures { λ r. ⌜ r ≡ readRow (now (bytes .entry)) i at ⌝ }
 {
-    match check_due(bytes, at, ROW_MARK, ROW_SIZE) {
-        Checked::Good => {}
-        Checked::Refused(refusal) => return no_row(refusal),
-    }
-    let row = row_from(bytes, at);
-    match check_own(row, identifiers, boxes, i) {
-        Checked::Good => {}
-        Checked::Refused(refusal) => return no_row(refusal),
-    }
-    match check_steps(bytes, at, row) {
-        Checked::Good => {}
-        Checked::Refused(refusal) => return no_row(refusal),
-    }
-    match check_windows(bytes, at, row) {
-        Checked::Good => RowReading {
-            answer: Checked::Good,
-            row,
-        },
+    let size = row_size(version);
+    let own = read_own(bytes, at, size, identifiers, boxes, i);
+    let found = own.answer;
+    match found {
+        Checked::Good => read_parts(bytes, at, size, own.row),
         Checked::Refused(refusal) => no_row(refusal),
     }
 }

@@ -12,28 +12,35 @@ use Rattle.words.proofs.OverwriteLaws.{sets-more, sets-alone}
 use Rattle.load.specs.declared.Row.{Row}
 use Rattle.load.specs.Load.{mostSteps, mostWindows, stepAt, windowAt}
 use Rattle.load_records.specs.declared.RowRecords.{RowRecords}
-use Rattle.load_records.specs.Records.{mostRowBytes, rowRecord, stepRecord, windowRecord}
+use Rattle.load_records.specs.Records.{rowKind, mostRowBytes, rowRecord, stepRecord, windowRecord}
 use Rattle.load_records.specs.Writing.{rowBytes, countedRow}
-use Rattle.load_records.specs.Calls.{recordsHolding, RowRecordsOf}
-use Rattle.load_records.proofs.LengthLaws.{rowRecord-length, stepRecord-length, rowBytes-length}
+use Rattle.load_records.specs.Calls.{recordsHolding}
+use Rattle.load_records.proofs.LengthLaws.{
+  rowKind-most,
+  rowRecord-length,
+  stepRecord-length,
+  rowBytes-length,
+}
 
 -- a row's own record, its steps and its windows, written one behind the other
-pub row-written : (row : Row) (out after-own after-steps after : List ℕ) (at : ℕ)
-    → after-own ≡ sets out at (rowRecord row)
-    → after-steps ≡ sets after-own (at + 20) (joinTo (λ j. stepRecord (stepAt row j)) (row .steps))
+pub row-written : (v : ℕ) (row : Row) (out after-own after-steps after : List ℕ)
+    → after-own ≡ sets out 0 (rowRecord v row)
+    → after-steps ≡ sets after-own (rowKind v .size) (joinTo (λ j. stepRecord (stepAt row j)) (row .steps))
     → after
-    ≡ sets after-steps (at + 20 + 6 * row .steps) (joinTo (λ k. windowRecord (windowAt row k)) (row .windows))
-    → after ≡ sets out at (rowBytes row)
+    ≡ sets after-steps (rowKind v .size + 6 * row .steps)
+    (joinTo (λ k. windowRecord (windowAt row k)) (row .windows))
+    → after ≡ sets out 0 (rowBytes v row)
 unfolding rowBytes
-row-written row out after-own after-steps after at p q r =
+row-written v row out after-own after-steps after p q r =
     let steps : List ℕ = joinTo (λ j. stepRecord (stepAt row j)) (row .steps) in
     let steps-length : length steps ≡ row .steps * 6 =
     joinTo-length-same (λ j. stepRecord (stepAt row j)) 6 (row .steps) (λ j. stepRecord-length (stepAt row j)) in
-    let front-length : length (rowRecord row ++ steps) ≡ 20 + row .steps * 6 =
-    omega (arith, length-append (rowRecord row) steps, rowRecord-length row) in
-    let front-written : after-steps ≡ sets out at (rowRecord row ++ steps) =
-    sets-more out after-own after-steps at (at + 20) (rowRecord row) steps (rw (rowRecord-length row)) p q in
-    sets-more out after-steps after at (at + 20 + 6 * row .steps) (rowRecord row ++ steps) _ (omega arith)
+    let size : ℕ = rowKind v .size in
+    let front-length : length (rowRecord v row ++ steps) ≡ size + row .steps * 6 =
+    omega (arith, length-append (rowRecord v row) steps, rowRecord-length v row) in
+    let front-written : after-steps ≡ sets out 0 (rowRecord v row ++ steps) =
+    sets-more out after-own after-steps 0 size (rowRecord v row) steps (omega (arith, rowRecord-length v row)) p q in
+    sets-more out after-steps after 0 (size + 6 * row .steps) (rowRecord v row ++ steps) _ (omega arith)
     front-written r
 
 -- what was written over zeros is what the call gives, with its length
@@ -52,8 +59,9 @@ module _ (row : Row) where
   counted-windows-le = omega arith
 
   -- there is room for every row
-  pub counted-length-le : length (rowBytes (countedRow row)) ≤ mostRowBytes
-  counted-length-le = omega (arith, rowBytes-length (countedRow row), counted-steps-le, counted-windows-le)
+  pub counted-length-le : (v : ℕ) → length (rowBytes v (countedRow row)) ≤ mostRowBytes
+  counted-length-le v =
+      omega (arith, rowBytes-length v (countedRow row), rowKind-most v, counted-steps-le, counted-windows-le)
 
   pub countedRow-same : row .steps ≤ mostSteps → row .windows ≤ mostWindows → countedRow row ≡ row
   unfolding countedRow
@@ -68,32 +76,34 @@ module _ (row : Row) where
         deadline = row .deadline;
         steps = s;
         windows = w;
+        class = row .class;
+        head = row .head;
         step = row .step;
         window = row .window;
       })
       steps-same windows-same
 
--- what the call gives of a row: its length, which its places hold, and its bytes at the front
-module _ (row : Row) (r : RowRecords) (e : RowRecordsOf row r) where
-  pub records-length : r .length ≡ length (rowBytes (countedRow row))
+-- what is given of a row: its length, which its places hold, and its bytes at the front
+module _ (v : ℕ) (row : Row) (r : RowRecords) (e : r ≡ recordsHolding (rowBytes v (countedRow row))) where
+  pub records-length : r .length ≡ length (rowBytes v (countedRow row))
   records-length = ap (λ (x : RowRecords). x .length) e
 
   records-places : length (r .bytes) ≡ mostRowBytes
   records-places =
-      let bs = rowBytes (countedRow row) in
+      let bs = rowBytes v (countedRow row) in
       ap (λ (x : RowRecords). length (x .bytes)) e
       ∙ omega (
         arith,
         length-append bs (replicate (mostRowBytes - length bs) 0),
         length-replicate {A = ℕ} (mostRowBytes - length bs) 0,
-        counted-length-le row,
+        counted-length-le row v,
       )
 
   pub records-inside : r .length ≤ length (r .bytes)
-  records-inside = omega (arith, records-length, records-places, counted-length-le row)
+  records-inside = omega (arith, records-length, records-places, counted-length-le row v)
 
-  pub records-taken : take (r .length) (r .bytes) ≡ rowBytes (countedRow row)
+  pub records-taken : take (r .length) (r .bytes) ≡ rowBytes v (countedRow row)
   records-taken =
-      let bs = rowBytes (countedRow row) in
+      let bs = rowBytes v (countedRow row) in
       ap (λ (x : RowRecords). take (x .length) (x .bytes)) e
       ∙ take-append-seam bs (replicate (mostRowBytes - length bs) 0)

@@ -8,25 +8,45 @@ use Rattle.refusals.specs.declared.Checked.{Checked}
 use Rattle.refusals.specs.Given.{ifGood, Given}
 use Rattle.load.specs.declared.Row.{Row}
 use Rattle.load.specs.declared.Load.{Load}
-use Rattle.load.specs.Check.{checkLoad}
 use Rattle.load_records.specs.declared.RowRecords.{RowRecords}
-use Rattle.load_records.specs.Records.{mostRowBytes}
-use Rattle.load_records.specs.Writing.{rowBytes, countedRow, loadBytes}
+use Rattle.load_records.specs.Records.{rowKind, newest, mostRowBytes}
+use Rattle.load_records.specs.Writing.{rowBytes, countedRow, loadBytes, writeFault}
 
 -- bytes as a row's records: how many there are, the bytes, and 0 in the places behind them
 abbrev pub recordsHolding : List ℕ → RowRecords
 recordsHolding bs =
     record { length = length bs; bytes = bs ++ replicate (mostRowBytes - length bs) 0 }
 
--- row_records(row): the row's own record, then its steps' and its windows' records
+-- row_size(version): how many bytes a row's own record has, in version 2 and in any other
+abbrev pub RowSize : ℕ → ℕ → Type 0
+RowSize v r = r ≡ rowKind v .size
+
+-- row_records(row): the row's own record, then its steps' and its windows' records, as the newest
+-- version has them
 abbrev pub RowRecordsOf : Row → RowRecords → Type 0
-RowRecordsOf row r = r ≡ recordsHolding (rowBytes (countedRow row))
+RowRecordsOf row r = r ≡ recordsHolding (rowBytes newest (countedRow row))
 
--- file_size(load): how many bytes the load's file has; 0 where the load is refused
-abbrev pub FileSize : Load → ℕ → Type 0
-FileSize load r = r ≡ ifGood (checkLoad load) (length (loadBytes load)) 0
+-- how many bytes the load's file has in a version; 0 where the load is refused
+abbrev pub SizeIn : ℕ → Load → ℕ → Type 0
+SizeIn v load r = r ≡ ifGood (writeFault v load) (length (loadBytes v load)) 0
 
--- write_load(load, out): the load's own numbers, then 9, and the output as it was; or Good, and the
--- file at the output's front
-abbrev pub WriteLoad : Load → List ℕ → Checked → List ℕ → Type 0
-WriteLoad load out r after = Given (checkLoad load) (loadBytes load) out r after
+-- the numbers of a load to be written in a version, then 9, and the output as it was; or Good, and
+-- the file at the output's front
+abbrev pub WriteIn : ℕ → Load → List ℕ → Checked → List ℕ → Type 0
+WriteIn v load out r after = Given (writeFault v load) (loadBytes v load) out r after
+
+-- version_1_size(load)
+abbrev pub Version1Size : Load → ℕ → Type 0
+Version1Size load r = SizeIn 1 load r
+
+-- version_2_size(load)
+abbrev pub Version2Size : Load → ℕ → Type 0
+Version2Size load r = SizeIn 2 load r
+
+-- write_version_1(load, out): the load's own numbers, then 22, then 9
+abbrev pub WriteVersion1 : Load → List ℕ → Checked → List ℕ → Type 0
+WriteVersion1 load out r after = WriteIn 1 load out r after
+
+-- write_version_2(load, out): the load's own numbers, then 9
+abbrev pub WriteVersion2 : Load → List ℕ → Checked → List ℕ → Type 0
+WriteVersion2 load out r after = WriteIn 2 load out r after

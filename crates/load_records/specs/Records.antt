@@ -1,7 +1,9 @@
 -- "Load file", the table: the mark that opens each record, how long the record is, and the bytes of
--- each record.
+-- each record, in version 1 and in version 2 (2026-05). Rests on D92.
 use Prim.Native.Nat.{ℕ, _+_, _*_}
+use mathlib.Core.Bool.{Bool, cond, _||_}
 use mathlib.Core.List.{List, [], _∷_, _++_}
+use lib.Dec.{eqb}
 use Rattle.words.specs.LittleEndian.{littleEndian}
 use Rattle.load.specs.declared.Step.{Step}
 use Rattle.load.specs.declared.Window.{Window}
@@ -14,13 +16,26 @@ pub record Kind : Type 0 where
   pub mark₂ : ℕ
   pub size : ℕ
 
+-- the versions that there are
+abbrev pub isVersion : ℕ → Bool
+isVersion v = eqb v 1 || eqb v 2
+
+-- "Version 2 of the load file carries class and head"
+abbrev pub carries : ℕ → Bool
+carries v = eqb v 2
+
+-- the version that carries the most
+abbrev pub newest : ℕ
+newest = 2
+
 -- 4C 44, version (1), row count (1)
 abbrev pub headerKind : Kind
 headerKind = record { mark₁ = 0x4C; mark₂ = 0x44; size = 4 }
 
--- 52 57, identifier (4), box (4), phase (4), deadline (4), steps (1), windows (1)
-abbrev pub rowKind : Kind
-rowKind = record { mark₁ = 0x52; mark₂ = 0x57; size = 20 }
+-- 52 57, identifier (4), box (4), phase (4), deadline (4), steps (1), windows (1); in version 2
+-- class (1) and head (1) "after the row's window count"
+abbrev pub rowKind : ℕ → Kind
+rowKind v = record { mark₁ = 0x52; mark₂ = 0x57; size = cond (carries v) 22 20 }
 
 -- 53 54, cost (2), wait (2)
 abbrev pub stepKind : Kind
@@ -34,15 +49,11 @@ windowKind = record { mark₁ = 0x57; mark₂ = 0x4E; size = 6 }
 abbrev pub endKind : Kind
 endKind = record { mark₁ = 0x45; mark₂ = 0x4E; size = 4 }
 
--- the version that files have
-abbrev pub version : ℕ
-version = 1
-
 -- the most bytes that a row has with its steps and its windows
 abbrev pub mostRowBytes : ℕ
-mostRowBytes = rowKind .size + mostSteps * stepKind .size + mostWindows * windowKind .size
+mostRowBytes = rowKind newest .size + mostSteps * stepKind .size + mostWindows * windowKind .size
 
--- the most bytes that a load file has: 4 + 24 x (20 + 8 x 6 + 4 x 6) + 4
+-- the most bytes that a load file has: 4 + 24 x (22 + 8 x 6 + 4 x 6) + 4
 abbrev pub mostFileBytes : ℕ
 mostFileBytes = headerKind .size + mostRows * mostRowBytes + endKind .size
 
@@ -50,19 +61,23 @@ mostFileBytes = headerKind .size + mostRows * mostRowBytes + endKind .size
 abbrev pub recordOf : Kind → List ℕ → List ℕ
 recordOf kind fields = kind .mark₁ ∷ kind .mark₂ ∷ fields
 
--- the header of a load of so many rows
-abbrev pub headerRecord : ℕ → List ℕ
-headerRecord rows = recordOf headerKind (version ∷ rows ∷ [])
+-- the header of a file of a version, with so many rows
+abbrev pub headerRecord : ℕ → ℕ → List ℕ
+headerRecord v rows = recordOf headerKind (v ∷ rows ∷ [])
+
+-- the class and the head of a row, where the version carries them
+abbrev pub classAndHead : ℕ → Row → List ℕ
+classAndHead v row = cond (carries v) (row .class ∷ row .head ∷ []) []
 
 -- a row's own record
-abbrev pub rowRecord : Row → List ℕ
-rowRecord row =
-    recordOf rowKind
+abbrev pub rowRecord : ℕ → Row → List ℕ
+rowRecord v row =
+    recordOf (rowKind v)
     (littleEndian 4 (row .identifier .0)
     ++ littleEndian 4 (row .«box_number» .0)
     ++ littleEndian 4 (row .phase)
     ++ littleEndian 4 (row .deadline)
-    ++ row .steps ∷ row .windows ∷ [])
+    ++ row .steps ∷ row .windows ∷ classAndHead v row)
 
 -- a step's record
 abbrev pub stepRecord : Step → List ℕ

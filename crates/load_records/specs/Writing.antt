@@ -1,13 +1,19 @@
 -- "Load file": "Header, then each row with its steps and then its windows, then the end record and
--- nothing more." To be read after Records.
+-- nothing more." What is refused that is to be written: the load's own numbers and, as version 1,
+-- 22. To be read after Records. Rests on D92.
 use Prim.Native.Nat.{ℕ, min}
+use mathlib.Core.Bool.{cond}
 use mathlib.Core.List.{List, _++_}
 use Rattle.counting.specs.Lists.{joinTo}
+use Rattle.refusals.specs.declared.Checked.{Checked}
 use Rattle.load.specs.declared.Row.{Row}
 use Rattle.load.specs.declared.Load.{Load}
 use Rattle.load.specs.Load.{mostSteps, mostWindows, rowAt, stepAt, windowAt}
 use Rattle.load.specs.View.{viewOf, stepsInAll}
+use Rattle.load.specs.Check.{checkLoad}
+use Rattle.load.specs.Plain.{checkPlain}
 use Rattle.load_records.specs.Records.{
+  carries,
   headerRecord,
   rowRecord,
   stepRecord,
@@ -15,10 +21,10 @@ use Rattle.load_records.specs.Records.{
   endRecord,
 }
 
--- a row with its steps and then its windows
-unfoldable pub rowBytes : Row → List ℕ
-rowBytes row =
-    rowRecord row
+-- a row with its steps and then its windows, in a version
+unfoldable pub rowBytes : ℕ → Row → List ℕ
+rowBytes v row =
+    rowRecord v row
     ++ joinTo (λ j. stepRecord (stepAt row j)) (row .steps)
     ++ joinTo (λ k. windowRecord (windowAt row k)) (row .windows)
 
@@ -32,13 +38,20 @@ countedRow row =
       deadline = row .deadline;
       steps = min (row .steps) mostSteps;
       windows = min (row .windows) mostWindows;
+      class = row .class;
+      head = row .head;
       step = row .step;
       window = row .window;
     }
 
--- the file of a load
-unfoldable pub loadBytes : Load → List ℕ
-loadBytes load =
-    headerRecord (load .rows)
-    ++ joinTo (λ i. rowBytes (rowAt load i)) (load .rows)
+-- the file of a load, in a version
+unfoldable pub loadBytes : ℕ → Load → List ℕ
+loadBytes v load =
+    headerRecord v (load .rows)
+    ++ joinTo (λ i. rowBytes v (rowAt load i)) (load .rows)
     ++ endRecord (stepsInAll (viewOf load))
+
+-- what a load is refused for that is to be written in a version: a version that carries no class
+-- and no head refuses with 22 what is not class 0 and head 1
+abbrev pub writeFault : ℕ → Load → Checked
+writeFault v load = cond (carries v) (checkLoad load) (checkPlain load)

@@ -1,5 +1,5 @@
-// The records of a load file: the mark that opens each, how long it is, and its bytes. No call
-// refuses.
+// The records of a load file: the mark that opens each, how long it is in a version, and its bytes.
+// No call refuses.
 use load::MOST_ROWS;
 use load::MOST_STEPS;
 use load::MOST_WINDOWS;
@@ -8,12 +8,14 @@ use load::Step;
 use load::Window;
 ghost use mathlib.Core.Path.{_≡_};
 ghost use Rattle.load_records.specs.Records.{
+  newest,
   headerRecord,
   rowRecord,
   stepRecord,
   windowRecord,
   endRecord,
 };
+ghost use Rattle.load_records.specs.Calls.{RowSize};
 
 // The marks.
 pub const HEADER_MARK: [u8; 2] = [0x4C, 0x44];
@@ -29,7 +31,10 @@ pub const END_MARK: [u8; 2] = [0x45, 0x4E];
 // How many bytes a record has, its mark counted.
 pub const HEADER_SIZE: usize = 4;
 
-pub const ROW_SIZE: usize = 20;
+// Version 2 has the class and the head behind what version 1 has.
+pub const ROW_SIZE_1: usize = 20;
+
+pub const ROW_SIZE_2: usize = 22;
 
 pub const STEP_SIZE: usize = 6;
 
@@ -38,24 +43,37 @@ pub const WINDOW_SIZE: usize = 6;
 pub const END_SIZE: usize = 4;
 
 // The most bytes that a row has with its steps and its windows.
-pub const MOST_ROW_BYTES: usize = ROW_SIZE + MOST_STEPS * STEP_SIZE + MOST_WINDOWS * WINDOW_SIZE;
+pub const MOST_ROW_BYTES: usize = ROW_SIZE_2 + MOST_STEPS * STEP_SIZE + MOST_WINDOWS * WINDOW_SIZE;
 
 // The most bytes that a load file has.
 pub const MOST_FILE_BYTES: usize = HEADER_SIZE + MOST_ROWS * MOST_ROW_BYTES + END_SIZE;
 
-// The version that files have.
-pub const VERSION: u8 = 1;
+// The versions that files have.
+pub const VERSION_1: u8 = 1;
 
-// Gives the header of a load of so many rows.
-pub fn header_record(rows: u8) -> [u8; HEADER_SIZE]
-    ensures { λ r. ⌜ r ≡ headerRecord rows ⌝ }
+pub const VERSION_2: u8 = 2;
+
+// Gives how many bytes a row's own record has in version 2, and in any other.
+pub fn row_size(version: u8) -> usize
+    ensures { λ r. ⌜ RowSize version r ⌝ }
 {
-    [HEADER_MARK[0], HEADER_MARK[1], VERSION, rows]
+    if version == VERSION_2 {
+        ROW_SIZE_2
+    } else {
+        ROW_SIZE_1
+    }
 }
 
-// Gives a row's own record.
-pub fn row_record(row: Row) -> [u8; ROW_SIZE]
-    ensures { λ r. ⌜ r ≡ rowRecord row ⌝ }
+// Gives the header of a file of a version, with so many rows.
+pub fn header_record(version: u8, rows: u8) -> [u8; HEADER_SIZE]
+    ensures { λ r. ⌜ r ≡ headerRecord version rows ⌝ }
+{
+    [HEADER_MARK[0], HEADER_MARK[1], version, rows]
+}
+
+// Gives a row's own record as version 2 has it. Version 1 has the front of it.
+pub fn row_record(row: Row) -> [u8; ROW_SIZE_2]
+    ensures { λ r. ⌜ r ≡ rowRecord newest row ⌝ }
 {
     let identifier = words::bytes32(row.identifier.0);
     let number = words::bytes32(row.box_number.0);
@@ -82,6 +100,8 @@ pub fn row_record(row: Row) -> [u8; ROW_SIZE]
         deadline[3],
         row.steps,
         row.windows,
+        row.class,
+        row.head,
     ]
 }
 

@@ -2,10 +2,11 @@
 // refuses.
 use crate::RowRecords;
 use crate::records::MOST_ROW_BYTES;
-use crate::records::ROW_SIZE;
 use crate::records::STEP_SIZE;
+use crate::records::VERSION_2;
 use crate::records::WINDOW_SIZE;
 use crate::records::row_record;
+use crate::records::row_size;
 use crate::records::step_record;
 use crate::records::window_record;
 use load::MOST_STEPS;
@@ -17,9 +18,9 @@ ghost use lib.ListN.{length};
 ghost use lib.Seq.{sets};
 ghost use Rattle.counting.specs.Lists.{joinTo};
 ghost use Rattle.load.specs.Load.{mostSteps, mostWindows, stepAt, windowAt};
-ghost use Rattle.load_records.specs.Records.{stepRecord, windowRecord};
+ghost use Rattle.load_records.specs.Records.{rowRecord, stepRecord, windowRecord};
 ghost use Rattle.load_records.specs.Writing.{countedRow, rowBytes};
-ghost use Rattle.load_records.specs.Calls.{RowRecordsOf};
+ghost use Rattle.load_records.specs.Calls.{recordsHolding, RowRecordsOf};
 
 // Gives a count, and no more than so many.
 fn at_most(count: u8, most: u8) -> u8
@@ -43,9 +44,19 @@ fn counted_row(row: Row) -> Row
         deadline: row.deadline,
         steps: at_most(row.steps, MOST_STEPS as u8),
         windows: at_most(row.windows, MOST_WINDOWS as u8),
+        class: row.class,
+        head: row.head,
         step,
         window,
     }
+}
+
+// Writes a row's own record at the output's front, as a version has it.
+fn write_own(out: &mut [u8], version: u8, row: Row)
+    ensures { λ _. ⌜ now (out .exit) ≡ sets (now (out .entry)) 0 (rowRecord version row) ⌝ }
+{
+    let own = row_record(row);
+    words::overwrite(out, 0, &own[..row_size(version)]);
 }
 
 // Writes the records of a row's steps from a place on.
@@ -74,30 +85,38 @@ fn write_windows(out: &mut [u8], at: usize, row: Row)
     }
 }
 
-// Gives how many bytes a row has with its steps and its windows.
-pub fn row_size(row: Row) -> usize
-    ensures { λ r. ⌜ r ≡ length (rowBytes row) ⌝ }
+// Gives how many bytes a row has in a version with its steps and its windows.
+pub fn row_length(version: u8, row: Row) -> usize
+    ensures { λ r. ⌜ r ≡ length (rowBytes version row) ⌝ }
 {
-    ROW_SIZE + STEP_SIZE * row.steps as usize + WINDOW_SIZE * row.windows as usize
+    row_size(version) + STEP_SIZE * row.steps as usize + WINDOW_SIZE * row.windows as usize
 }
 
-// Gives a row's own record, then its steps' and its windows' records, and zeros behind them. Steps
-// and windows that have no place do not count.
-pub fn row_records(row: Row) -> RowRecords
-    ensures { λ r. ⌜ RowRecordsOf row r ⌝ }
+// Gives a row's own record, then its steps' and its windows' records, as a version has them, and
+// zeros behind them. Steps and windows that have no place do not count.
+pub fn records_in(version: u8, row: Row) -> RowRecords
+    ensures { λ r. ⌜ r ≡ recordsHolding (rowBytes version (countedRow row)) ⌝ }
 {
     let counted = counted_row(row);
     let mut bytes = [0u8; MOST_ROW_BYTES];
-    let own = row_record(counted);
-    words::overwrite(&mut bytes, 0, &own);
-    write_steps(&mut bytes, ROW_SIZE, counted);
+    let size = row_size(version);
+    write_own(&mut bytes, version, counted);
+    write_steps(&mut bytes, size, counted);
     write_windows(
         &mut bytes,
-        ROW_SIZE + STEP_SIZE * counted.steps as usize,
+        size + STEP_SIZE * counted.steps as usize,
         counted,
     );
     RowRecords {
-        length: row_size(counted),
+        length: row_length(version, counted),
         bytes,
     }
+}
+
+// Gives a row's own record, then its steps' and its windows' records, as the newest version has
+// them, and zeros behind them. Steps and windows that have no place do not count.
+pub fn row_records(row: Row) -> RowRecords
+    ensures { λ r. ⌜ RowRecordsOf row r ⌝ }
+{
+    records_in(VERSION_2, row)
 }

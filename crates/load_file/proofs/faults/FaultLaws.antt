@@ -1,11 +1,12 @@
 -- What the reading of a file asks, part by part: its finding is Good exactly when each record is due where it stands
 -- and passes the tests that the check in memory has.
 use Prim.Native.Nat.{ℕ, _+_, _≤_, _<_}
+use mathlib.Core.Bool.{true, not}
 use mathlib.Core.List.{List, [], _∷_, _++_}
-use mathlib.Core.Path.{_≡_}
+use mathlib.Core.Path.{_≡_, ap}
 use lib.ListN.{length, drop}
-use borrow.Author.Tests.{ltb-false, le-ltb}
-use Rattle.words.specs.LittleEndian.{byteAt, numberAt}
+use borrow.Author.Tests.{ltb-false, le-ltb, not-false}
+use Rattle.words.specs.LittleEndian.{numberAt}
 use Rattle.refusals.specs.declared.Checked.the-variants.{Good}
 use Rattle.refusals.specs.FirstMet.{firstMet}
 use Rattle.refusals.proofs.FirstMetLaws.{
@@ -20,8 +21,9 @@ use Rattle.load.specs.Load.{mostRows}
 use Rattle.load.specs.View.{viewOf, stepsInAll}
 use Rattle.load.specs.Faults.{rowTests, takenTests, stepTests, windowTests}
 use Rattle.load.specs.Check.{checkFields, checkTaken, checkStep, checkWindow}
-use Rattle.load_records.specs.Records.{headerKind, rowKind, stepKind, windowKind, endKind, version}
+use Rattle.load_records.specs.Records.{headerKind, rowKind, stepKind, windowKind, endKind, isVersion}
 use Rattle.load_file.specs.Places.{
+  versionSaid,
   stepsSaid,
   windowsSaid,
   stepPlace,
@@ -52,10 +54,10 @@ use Rattle.load_file.proofs.layout.RecordLaws.{
 
 -- what the reading asks of row i, whose record stands at a place
 pub record RowAccepted (bs : List ℕ) (i at : ℕ) : Type 0 where
-  pub due : Due rowKind bs at
+  pub due : Due (rowKind (versionSaid bs)) bs at
   pub fields-good : checkFields (rowFrom bs at) ≡ Good
   pub taken-good : checkTaken (loadIn bs) i (rowFrom bs at) ≡ Good
-  pub each-step-due : (j : ℕ) → j < stepsSaid bs at → Due stepKind bs (stepPlace at j)
+  pub each-step-due : (j : ℕ) → j < stepsSaid bs at → Due stepKind bs (stepPlace bs at j)
   pub each-step-good : (j : ℕ) → j < stepsSaid bs at → checkStep (rowFrom bs at) j ≡ Good
   pub each-window-due : (k : ℕ) → k < windowsSaid bs at → Due windowKind bs (windowPlace bs at k)
   pub each-window-good : (k : ℕ) → k < windowsSaid bs at → checkWindow (rowFrom bs at) k ≡ Good
@@ -66,20 +68,24 @@ module _ (bs : List ℕ) (i at : ℕ) where
   rowFaultAt-good h =
       let finding = firstFault-good (_ ∷ _ ∷ _ ∷ []) h in
       let row = rowFrom bs at in
-      let front = append-good-first (dueTests rowKind bs at ++ rowTests row) _ (finding 0) in
+      let front = append-good-first (dueTests (rowKind (versionSaid bs)) bs at ++ rowTests row) _ (finding 0) in
       let step = firstFaultTo-good (stepFaultIn bs at) (stepsSaid bs at) (finding 1) in
       let window = firstFaultTo-good (windowFaultIn bs at) (windowsSaid bs at) (finding 2) in
       record {
-        due = good-due rowKind bs at (append-good-first (dueTests rowKind bs at) (rowTests row) front);
-        fields-good = append-good-second (dueTests rowKind bs at) (rowTests row) front;
+        due =
+            good-due (rowKind (versionSaid bs)) bs at
+            (append-good-first (dueTests (rowKind (versionSaid bs)) bs at) (rowTests row) front);
+        fields-good = append-good-second (dueTests (rowKind (versionSaid bs)) bs at) (rowTests row) front;
         taken-good =
-            append-good-second (dueTests rowKind bs at ++ rowTests row) (takenTests (loadIn bs) i row) (finding 0);
+            append-good-second (dueTests (rowKind (versionSaid bs)) bs at ++ rowTests row)
+            (takenTests (loadIn bs) i row)
+            (finding 0);
         each-step-due =
             λ j l.
-            good-due stepKind bs (stepPlace at j)
-            (append-good-first (dueTests stepKind bs (stepPlace at j)) (stepTests row j) (step j l));
+            good-due stepKind bs (stepPlace bs at j)
+            (append-good-first (dueTests stepKind bs (stepPlace bs at j)) (stepTests row j) (step j l));
         each-step-good =
-            λ j l. append-good-second (dueTests stepKind bs (stepPlace at j)) (stepTests row j) (step j l);
+            λ j l. append-good-second (dueTests stepKind bs (stepPlace bs at j)) (stepTests row j) (step j l);
         each-window-due =
             λ k l.
             good-due windowKind bs (windowPlace bs at k)
@@ -94,14 +100,17 @@ module _ (bs : List ℕ) (i at : ℕ) where
   good-rowFaultAt r =
       let row = rowFrom bs at in
       let fields =
-      append-good-both (dueTests rowKind bs at) (rowTests row) (due-good rowKind bs at (r .due)) (r .fields-good) in
+      append-good-both (dueTests (rowKind (versionSaid bs)) bs at) (rowTests row)
+      (due-good (rowKind (versionSaid bs)) bs at (r .due))
+      (r .fields-good) in
       let own =
-      append-good-both (dueTests rowKind bs at ++ rowTests row) (takenTests (loadIn bs) i row) fields (r .taken-good) in
+      append-good-both (dueTests (rowKind (versionSaid bs)) bs at ++ rowTests row) (takenTests (loadIn bs) i row) fields
+      (r .taken-good) in
       let steps =
       good-firstFaultTo (stepFaultIn bs at) (stepsSaid bs at)
       (λ j l.
-      append-good-both (dueTests stepKind bs (stepPlace at j)) (stepTests row j)
-      (due-good stepKind bs (stepPlace at j) (r .each-step-due j l)) (r .each-step-good j l)) in
+      append-good-both (dueTests stepKind bs (stepPlace bs at j)) (stepTests row j)
+      (due-good stepKind bs (stepPlace bs at j) (r .each-step-due j l)) (r .each-step-good j l)) in
       let windows =
       good-firstFaultTo (windowFaultIn bs at) (windowsSaid bs at)
       (λ k l.
@@ -116,7 +125,7 @@ endPlace bs = rowPlace bs (rowsSaid bs)
 -- what the reading asks of a file
 pub record FileAccepted (bs : List ℕ) : Type 0 where
   pub header-due : Due headerKind bs 0
-  pub version-is : byteAt bs 2 ≡ version
+  pub version-is : isVersion (versionSaid bs) ≡ true
   pub few-rows : rowsSaid bs ≤ mostRows
   pub each-row : (i : ℕ) → i < rowsSaid bs → RowAccepted bs i (rowPlace bs i)
   pub end-due : Due endKind bs (endPlace bs)
@@ -137,7 +146,7 @@ module _ (bs : List ℕ) where
         header-due =
             good-due headerKind bs 0
             (append-good-first (dueTests headerKind bs 0) (drop 3 (headerTests bs)) (finding 0));
-        version-is = differs-false (byteAt bs 2) version (head 3);
+        version-is = not-false (isVersion (versionSaid bs)) (head 3);
         few-rows = ltb-false mostRows (rowsSaid bs) (head 4);
         each-row = λ i l. rowFaultAt-good bs i (rowPlace bs i) (row i l);
         end-due =
@@ -151,7 +160,7 @@ module _ (bs : List ℕ) where
   unfolding fileFault headerTests endTests
   good-fileFault f =
       let said : ℕ = numberAt 2 bs (endPlace bs + 2) in
-      let same-version = eq-differs (byteAt bs 2) version (f .version-is) in
+      let same-version = ap not (f .version-is) in
       let few = le-ltb mostRows (rowsSaid bs) (f .few-rows) in
       let header : firstMet (headerTests bs) ≡ Good =
       append-good-both (dueTests headerKind bs 0) (drop 3 (headerTests bs))

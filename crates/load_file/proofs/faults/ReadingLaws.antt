@@ -1,5 +1,5 @@
 -- Laws that the reading call rests on: the tests behind tests that are found, the parts of a row's fault, what the rows
--- before a row hold, and the row that its parts make, which is read whole where its own record is Good.
+-- before a row hold, and what reading a row gives.
 use Prim.Native.Nat.{ℕ, min, _≤_, _<_}
 use mathlib.Core.Bool.{Bool}
 use mathlib.Core.List.{List, _++_}
@@ -27,12 +27,39 @@ use Rattle.load.specs.declared.Step.{Step}
 use Rattle.load.specs.declared.Window.{Window}
 use Rattle.load.specs.Load.{mostRows, mostSteps, mostWindows, noRow, zeroRow, rowAt}
 use Rattle.load.specs.View.{viewOf, stepsInAll}
-use Rattle.load.specs.Faults.{rowTests, takenTests, identifierTaken, boxTaken}
+use Rattle.load.specs.Faults.{
+  rowTests,
+  takenTests,
+  identifierTaken,
+  boxTaken,
+}
 use Rattle.load.proofs.CheckLaws.{fields-steps-le, fields-windows-le}
 use Rattle.load_records.specs.Records.{rowKind}
-use Rattle.load_file.specs.Places.{stepsSaid, windowsSaid, rowFrom, rowPlace, rowsSaid, loadIn, rowWith}
-use Rattle.load_file.specs.Reading.{dueTests, rowFaultAt, ownFault, stepsFault, windowsFault}
-use Rattle.load_file.specs.inner.ReadingSteps.{RowsBefore, rowWithin, fieldsFault, readRow}
+use Rattle.load_file.specs.Places.{
+  versionSaid,
+  stepsSaid,
+  windowsSaid,
+  rowFrom,
+  rowPlace,
+  rowsSaid,
+  loadIn,
+  rowWith,
+}
+use Rattle.load_file.specs.Reading.{
+  dueTests,
+  rowFaultAt,
+  ownFault,
+  stepsFault,
+  windowsFault,
+}
+use Rattle.load_file.specs.inner.ReadingSteps.{
+  RowsBefore,
+  ownFields,
+  fieldsFault,
+  partsFault,
+  readParts,
+  readRow,
+}
 
 -- tests, of which the first is found, and the tests behind them
 module _ (ts us : List (Bool × Refusal)) {c : Checked} (found : c ≡ firstMet ts) where
@@ -100,14 +127,6 @@ module _ (bs : List ℕ) (at : ℕ) where
   unfolding rowWith rowFrom
   box-with step window = refl
 
-  -- of a row that announces no more steps and windows than a row has, all are read
-  rowWithin-few : stepsSaid bs at ≤ mostSteps → windowsSaid bs at ≤ mostWindows → rowWithin bs at ≡ rowFrom bs at
-  unfolding rowWithin rowFrom
-  rowWithin-few steps windows =
-      let all-steps : min (stepsSaid bs at) mostSteps ≡ stepsSaid bs at = omega arith in
-      let all-windows : min (windowsSaid bs at) mostWindows ≡ windowsSaid bs at = omega arith in
-      rw (all-steps, all-windows)
-
   module _ (i : ℕ) where
     -- the parts of a row's fault, in their order
     pub rowFaultAt-parts : rowFaultAt bs i at
@@ -118,24 +137,24 @@ module _ (bs : List ℕ) (at : ℕ) where
 
     -- what the tests of a record that is due find of a row's own: a refusal is its fault; else its fields decide,
     -- whatever steps and windows are read beside them
-    module _ {c : Checked} (found : c ≡ firstMet (dueTests rowKind bs at)) where
+    module _ {c : Checked} (found : c ≡ firstMet (dueTests (rowKind (versionSaid bs)) bs at)) where
       pub ownFault-refused : {r : Refusal} → c ≡ Refused r → ownFault bs i at ≡ Refused r
       unfolding ownFault
       ownFault-refused e =
           let fields = rowTests (rowFrom bs at) ++ takenTests (loadIn bs) i (rowFrom bs at) in
-          sym (behind-refused (dueTests rowKind bs at) fields found e)
+          sym (behind-refused (dueTests (rowKind (versionSaid bs)) bs at) fields found e)
 
-      pub ownFault-fields : c ≡ Good → fieldsFault bs i (rowWithin bs at) ≡ ownFault bs i at
-      unfolding ownFault fieldsFault rowTests takenTests rowWithin rowWith rowFrom
+      pub ownFault-fields : c ≡ Good → fieldsFault bs i (ownFields bs at) ≡ ownFault bs i at
+      unfolding ownFault fieldsFault rowTests takenTests rowWith rowFrom
       ownFault-fields e =
           let fields = rowTests (rowFrom bs at) ++ takenTests (loadIn bs) i (rowFrom bs at) in
-          behind-good (dueTests rowKind bs at) fields found e
+          behind-good (dueTests (rowKind (versionSaid bs)) bs at) fields found e
 
     -- a row whose own record is Good announces no more steps and windows than a row has
     fields-good : ownFault bs i at ≡ Good → firstMet (rowTests (rowFrom bs at)) ≡ Good
     unfolding ownFault
     fields-good h =
-        let front = dueTests rowKind bs at in
+        let front = dueTests (rowKind (versionSaid bs)) bs at in
         let fields = rowTests (rowFrom bs at) in
         let taken = takenTests (loadIn bs) i (rowFrom bs at) in
         append-good-second front fields (append-good-first (front ++ fields) taken h)
@@ -148,15 +167,22 @@ module _ (bs : List ℕ) (at : ℕ) where
     unfolding rowFrom rowWith
     own-windows-le h = fields-windows-le (rowFrom bs at) (fields-good h)
 
-    pub rowWithin-good : ownFault bs i at ≡ Good → rowWithin bs at ≡ rowFrom bs at
-    rowWithin-good h = rowWithin-few (own-steps-le h) (own-windows-le h)
-
-    -- what reading a row gives, by what it finds
-    pub readRow-refused : (r : Refusal) → rowFaultAt bs i at ≡ Refused r
+    -- what reading a row gives, by what is found of its own record
+    pub readRow-refused : (r : Refusal) → ownFault bs i at ≡ Refused r
         → record { answer = Refused r; row = zeroRow } ≡ readRow bs i at
     unfolding readRow
-    readRow-refused r h = rw h
+    readRow-refused r h = let z : rowFaultAt bs i at ≡ Refused r = rowFaultAt-parts ∙ rw h in rw z
 
-    pub readRow-good : rowFaultAt bs i at ≡ Good → record { answer = Good; row = rowFrom bs at } ≡ readRow bs i at
-    unfolding readRow
-    readRow-good h = rw h
+    pub readRow-parts : ownFault bs i at ≡ Good → readParts bs at ≡ readRow bs i at
+    unfolding readRow readParts
+    readRow-parts h = let z : rowFaultAt bs i at ≡ partsFault bs at = rowFaultAt-parts ∙ rw h in rw z
+
+  -- what reading its parts gives, by what is found of them
+  pub readParts-refused : (r : Refusal) → partsFault bs at ≡ Refused r
+      → record { answer = Refused r; row = zeroRow } ≡ readParts bs at
+  unfolding readParts
+  readParts-refused r h = rw h
+
+  pub readParts-good : partsFault bs at ≡ Good → record { answer = Good; row = rowFrom bs at } ≡ readParts bs at
+  unfolding readParts
+  readParts-good h = rw h

@@ -29,9 +29,11 @@ use Rattle.load.specs.declared.BoxNumber.{BoxNumber}
 use Rattle.load.specs.declared.Row.{Row}
 use Rattle.load.specs.Load.{mostRows, mostSteps, mostWindows, zeroRow, zeroLoad}
 use Rattle.load.specs.View.{viewOf, stepsInAll}
-use Rattle.load_records.specs.Records.{mostRowBytes}
+use Rattle.load_records.specs.Records.{rowKind, mostRowBytes}
+use Rattle.load_records.proofs.LengthLaws.{rowKind-most}
 use Rattle.load_file.specs.declared.read_row.RowReading.{RowReading}
 use Rattle.load_file.specs.Places.{
+  versionSaid,
   stepsSaid,
   windowsSaid,
   rowFrom,
@@ -149,7 +151,7 @@ module _ {bs : List ℕ} {i : ℕ} {identifiers : List Identifier} {boxes : List
       pub rows-next : RowsRead bs (i + 1) (set identifiers i (r .row .identifier))
           (set boxes i (r .row .«box_number»))
           (set rows i (r .row))
-          (at + 20 + 6 * r .row .steps + 6 * r .row .windows)
+          (at + rowKind (versionSaid bs) .size + 6 * r .row .steps + 6 * r .row .windows)
           (steps + r .row .steps)
       rows-next =
           let few : i < mostRows = omega arith in
@@ -177,7 +179,7 @@ module _ {bs : List ℕ} {i : ℕ} {identifiers : List Identifier} {boxes : List
                 in-place few;
             place-is =
                 rw (steps-said, windows-said) (ap (placeBehind bs) (so-far .place-is)) ∙ sym (rowPlace-next bs i);
-            place-le = omega arith;
+            place-le = omega (arith, rowKind-most (versionSaid bs));
             steps-are =
                 ap₂ _+_ (so-far .steps-are) (steps-said ∙ ap (stepsSaid bs) (so-far .place-is))
                 ∙ sym (sumTo-next (λ k. stepsSaid bs (rowPlace bs k)) i);

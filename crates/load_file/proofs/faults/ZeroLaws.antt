@@ -83,6 +83,8 @@ zeroRow-held =
       deadline-fits = omega arith;
       steps-fit = omega arith;
       windows-fit = omega arith;
+      class-fits = omega arith;
+      head-fits = omega arith;
       step-places = refl;
       window-places = refl;
       each-step = λ j l. rw (getD-replicate mostSteps j noStep noStep l) noStep-held;
@@ -97,14 +99,20 @@ record FieldsZero (row : Row) : Type 0 where
   deadline-zero : row .deadline ≡ 0
   steps-zero : row .steps ≡ 0
   windows-zero : row .windows ≡ 0
+  class-zero : row .class ≡ 0
+  head-zero : row .head ≡ 0
 
 fields-zero : (row : Row) → zeroFields row ≡ true → FieldsZero row
-fields-zero row h₆ =
+fields-zero row h₈ =
     let t₁ : Bool = eqb (row .identifier .0) 0 in
     let t₂ : Bool = t₁ && eqb (row .«box_number» .0) 0 in
     let t₃ : Bool = t₂ && eqb (row .phase) 0 in
     let t₄ : Bool = t₃ && eqb (row .deadline) 0 in
     let t₅ : Bool = t₄ && eqb (row .steps) 0 in
+    let t₆ : Bool = t₅ && eqb (row .windows) 0 in
+    let t₇ : Bool = t₆ && eqb (row .class) 0 in
+    let h₇ : t₇ ≡ true = and-left t₇ (eqb (row .head) 0) h₈ in
+    let h₆ : t₆ ≡ true = and-left t₆ (eqb (row .class) 0) h₇ in
     let h₅ : t₅ ≡ true = and-left t₅ (eqb (row .windows) 0) h₆ in
     let h₄ : t₄ ≡ true = and-left t₄ (eqb (row .steps) 0) h₅ in
     let h₃ : t₃ ≡ true = and-left t₃ (eqb (row .deadline) 0) h₄ in
@@ -116,6 +124,8 @@ fields-zero row h₆ =
       deadline-zero = last-zero t₃ (row .deadline) h₄;
       steps-zero = last-zero t₄ (row .steps) h₅;
       windows-zero = last-zero t₅ (row .windows) h₆;
+      class-zero = last-zero t₆ (row .class) h₇;
+      head-zero = last-zero t₇ (row .head) h₈;
     }
 
 -- a row of zeros, held in memory, is that row
@@ -143,6 +153,8 @@ zero-row row held h =
       deadline = z .deadline-zero i;
       steps = z .steps-zero i;
       windows = z .windows-zero i;
+      class = z .class-zero i;
+      head = z .head-zero i;
       step = s i;
       window = w i;
     }

@@ -22,7 +22,9 @@ use Rattle.load.specs.declared.Row.{Row}
 use Rattle.load.specs.Load.{mostRows, mostSteps, mostWindows, rowAt}
 use Rattle.load.specs.Faults.{takenTests, stepTests, windowTests}
 use Rattle.load_records.specs.Records.{rowKind, stepKind, windowKind, mostRowBytes, mostFileBytes}
+use Rattle.load_records.proofs.LengthLaws.{rowKind-least, rowKind-most}
 use Rattle.load_file.specs.Places.{
+  versionSaid,
   stepsSaid,
   windowsSaid,
   stepPlace,
@@ -50,12 +52,14 @@ use Rattle.load_file.proofs.faults.ReadingLaws.{
 }
 use Rattle.load_file.proofs.front.AgreeLaws.{
   Agree,
+  version-agree,
   dueTests-agree,
   stepsSaid-agree,
   windowsSaid-agree,
   rowTests-agree,
   identifier-agree,
   box-agree,
+  stepPlace-agree,
   windowPlace-agree,
   rowFrom-agree,
 }
@@ -79,11 +83,13 @@ module _ (bs cs : List ℕ) (a : Agree (mostFileBytes + 1) bs cs) where
       let windows = own-windows-le bs at i own in
       let same-steps = stepsSaid-agree _ bs cs a at (omega arith) in
       let same-windows = windowsSaid-agree _ bs cs a at (omega arith) in
+      let same-version = version-agree _ bs cs a (omega arith) in
       record {
         place-same =
-            ap₂ (λ s w. at + 20 + 6 * s + 6 * w) same-steps same-windows
+            ap (λ v. at + rowKind v .size + 6 * stepsSaid bs at + 6 * windowsSaid bs at) same-version
+            ∙ ap₂ (λ s w. at + rowKind (versionSaid cs) .size + 6 * s + 6 * w) same-steps same-windows
             ∙ ap (λ p. windowPlace cs p (windowsSaid cs p)) (p .place-same);
-        place-le = omega arith;
+        place-le = omega (arith, rowKind-most (versionSaid bs));
       }
 
   pub placed : (i : ℕ) → i ≤ mostRows → firstFaultTo (rowFaultIn bs) i ≡ Good → Placed bs cs i
@@ -139,13 +145,20 @@ module _ (bs cs : List ℕ) (a : Agree (mostFileBytes + 1) bs cs) where
           (anyTo-ext _ _ i
           (λ k h. ap₂ (λ x y. eqb (x .0) (y .0)) (box-earlier k h) (box-agree _ bs cs a at (omega arith))))
 
+      due-agree : dueTests (rowKind (versionSaid bs)) bs at ≡ dueTests (rowKind (versionSaid cs)) cs at
+      unfolding at
+      due-agree =
+          let le = here .place-le in
+          dueTests-agree _ bs cs a (rowKind (versionSaid bs)) at (omega (arith, rowKind-most (versionSaid bs)))
+          (omega (arith, rowKind-least (versionSaid bs)))
+          ∙ ap (λ v. dueTests (rowKind v) cs at) (version-agree _ bs cs a (omega arith))
+
       own-agree : ownFault bs i at ≡ ownFault cs i at
       unfolding ownFault at
       own-agree =
           let le = here .place-le in
           ap₂ (λ d t. firstMet (d ++ t))
-          (ap₂ _++_ (dueTests-agree _ bs cs a rowKind at (omega arith) (omega arith))
-          (rowTests-agree _ bs cs a at (omega arith)))
+          (ap₂ _++_ due-agree (rowTests-agree _ bs cs a at (omega arith)))
           taken-agree
 
       -- the steps and windows of a row whose own record is Good
@@ -171,7 +184,10 @@ module _ (bs cs : List ℕ) (a : Agree (mostFileBytes + 1) bs cs) where
             firstFaultTo-ext (stepFaultIn bs at) (stepFaultIn cs at) (stepsSaid bs at)
             (λ j h.
             ap₂ (λ d row. firstMet (d ++ stepTests row j))
-            (dueTests-agree _ bs cs a stepKind (stepPlace at j) (omega arith) (omega arith)) row-agree)
+            (dueTests-agree _ bs cs a stepKind (stepPlace bs at j) (omega (arith, rowKind-most (versionSaid bs)))
+            (omega arith)
+            ∙ ap (dueTests stepKind cs) (stepPlace-agree _ bs cs a at whole steps-most windows-most j))
+            row-agree)
             ∙ ap (firstFaultTo (stepFaultIn cs at)) (stepsSaid-agree _ bs cs a at (omega arith))
 
         windows-agree : windowsFault bs at ≡ windowsFault cs at
@@ -183,7 +199,8 @@ module _ (bs cs : List ℕ) (a : Agree (mostFileBytes + 1) bs cs) where
             firstFaultTo-ext (windowFaultIn bs at) (windowFaultIn cs at) (windowsSaid bs at)
             (λ k h.
             ap₂ (λ d row. firstMet (d ++ windowTests row k))
-            (dueTests-agree _ bs cs a windowKind (windowPlace bs at k) (omega arith) (omega arith)
+            (dueTests-agree _ bs cs a windowKind (windowPlace bs at k) (omega (arith, rowKind-most (versionSaid bs)))
+            (omega arith)
             ∙ ap (dueTests windowKind cs) (windowPlace-agree _ bs cs a at whole steps-most windows-most k))
             row-agree)
             ∙ ap (firstFaultTo (windowFaultIn cs at)) (windowsSaid-agree _ bs cs a at (omega arith))

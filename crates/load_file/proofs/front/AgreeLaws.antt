@@ -17,8 +17,10 @@ use Rattle.load.specs.declared.Window.{Window}
 use Rattle.load.specs.declared.Row.{Row}
 use Rattle.load.specs.Load.{mostSteps, mostWindows, noStep, noWindow}
 use Rattle.load.specs.Faults.{rowTests}
-use Rattle.load_records.specs.Records.{Kind, mostRowBytes}
+use Rattle.load_records.specs.Records.{Kind, rowKind, mostRowBytes}
+use Rattle.load_records.proofs.LengthLaws.{rowKind-most}
 use Rattle.load_file.specs.Places.{
+  versionSaid,
   stepIn,
   windowIn,
   stepsSaid,
@@ -58,7 +60,11 @@ module _ (n : ℕ) (bs cs : List ℕ) (a : Agree n bs cs) where
       ∙ ap₂ (dueBy kind (ltb (length cs) (at + kind .size))) (a .same at (omega arith))
       (a .same (at + 1) (omega arith))
 
-  module _ (at : ℕ) (own : at + 20 ≤ n) where
+  -- the version that they name
+  pub version-agree : 3 ≤ n → versionSaid bs ≡ versionSaid cs
+  version-agree l = a .same 2 (omega arith)
+
+  module _ (at : ℕ) (own : at + 22 ≤ n) where
     pub stepsSaid-agree : stepsSaid bs at ≡ stepsSaid cs at
     stepsSaid-agree = a .same (at + 18) (omega arith)
 
@@ -76,6 +82,9 @@ module _ (n : ℕ) (bs cs : List ℕ) (a : Agree n bs cs) where
           numberAt-agree 4 (at + 14) (omega arith),
           stepsSaid-agree,
           windowsSaid-agree,
+          version-agree (omega arith),
+          a .same (at + 20) (omega arith),
+          a .same (at + 21) (omega arith),
         )
 
     pub rowTests-agree : rowTests (rowFrom bs at) ≡ rowTests (rowFrom cs at)
@@ -109,23 +118,32 @@ module _ (n : ℕ) (bs cs : List ℕ) (a : Agree n bs cs) where
   -- a row that announces no more steps and windows than a row has
   module _ (at : ℕ) (whole : at + mostRowBytes ≤ n) (steps : stepsSaid bs at ≤ mostSteps)
       (windows : windowsSaid bs at ≤ mostWindows) where
-    pub windowPlace-agree : (k : ℕ) → windowPlace bs at k ≡ windowPlace cs at k
-    windowPlace-agree k = ap (λ s. stepPlace at s + 6 * k) (stepsSaid-agree at (omega arith))
+    pub stepPlace-agree : (j : ℕ) → stepPlace bs at j ≡ stepPlace cs at j
+    stepPlace-agree j = ap (λ v. at + rowKind v .size + 6 * j) (version-agree (omega arith))
 
-    steps-agree : filled (λ j. stepIn bs (stepPlace at j)) (stepsSaid bs at) mostSteps noStep
-        ≡ filled (λ j. stepIn cs (stepPlace at j)) (stepsSaid cs at) mostSteps noStep
+    pub windowPlace-agree : (k : ℕ) → windowPlace bs at k ≡ windowPlace cs at k
+    windowPlace-agree k =
+        ap (_+ 6 * k)
+        (stepPlace-agree (stepsSaid bs at) ∙ ap (stepPlace cs at) (stepsSaid-agree at (omega arith)))
+
+    size-most : rowKind (versionSaid bs) .size ≤ 22
+    size-most = rowKind-most (versionSaid bs)
+
+    steps-agree : filled (λ j. stepIn bs (stepPlace bs at j)) (stepsSaid bs at) mostSteps noStep
+        ≡ filled (λ j. stepIn cs (stepPlace cs at j)) (stepsSaid cs at) mostSteps noStep
     steps-agree =
-        filled-ext (λ j. stepIn bs (stepPlace at j)) (λ j. stepIn cs (stepPlace at j)) (stepsSaid bs at) mostSteps
+        filled-ext (λ j. stepIn bs (stepPlace bs at j)) (λ j. stepIn cs (stepPlace cs at j)) (stepsSaid bs at) mostSteps
         noStep
-        (λ j l. stepIn-agree (stepPlace at j) (omega arith))
-        ∙ ap (λ m. filled (λ j. stepIn cs (stepPlace at j)) m mostSteps noStep) (stepsSaid-agree at (omega arith))
+        (λ j l. stepIn-agree (stepPlace bs at j) (omega (arith, size-most)) ∙ ap (stepIn cs) (stepPlace-agree j))
+        ∙ ap (λ m. filled (λ j. stepIn cs (stepPlace cs at j)) m mostSteps noStep) (stepsSaid-agree at (omega arith))
 
     windows-agree : filled (λ k. windowIn bs (windowPlace bs at k)) (windowsSaid bs at) mostWindows noWindow
         ≡ filled (λ k. windowIn cs (windowPlace cs at k)) (windowsSaid cs at) mostWindows noWindow
     windows-agree =
         filled-ext (λ k. windowIn bs (windowPlace bs at k)) (λ k. windowIn cs (windowPlace cs at k)) (windowsSaid bs at)
         mostWindows noWindow
-        (λ k l. windowIn-agree (windowPlace bs at k) (omega arith) ∙ ap (windowIn cs) (windowPlace-agree k))
+        (λ k l.
+        windowIn-agree (windowPlace bs at k) (omega (arith, size-most)) ∙ ap (windowIn cs) (windowPlace-agree k))
         ∙ ap (λ m. filled (λ k. windowIn cs (windowPlace cs at k)) m mostWindows noWindow)
         (windowsSaid-agree at (omega arith))
 

@@ -12,7 +12,7 @@ use lib.ListN.{length, take}
 use lib.Seq.{take-all, length-take-le, getD-take}
 use Rattle.counting.specs.Sums.{sumTo}
 use Rattle.counting.proofs.sums.SumLaws.{sumTo-ext}
-use Rattle.words.specs.LittleEndian.{byteAt, numberAt}
+use Rattle.words.specs.LittleEndian.{numberAt}
 use Rattle.refusals.specs.declared.Refusal.the-variants.{MarkDiffers, OutOfRange, EndDiffers}
 use Rattle.refusals.specs.declared.Checked.{Checked}
 use Rattle.refusals.specs.declared.Checked.the-variants.{Good, Refused}
@@ -27,8 +27,8 @@ use Rattle.refusals.proofs.FirstMetLaws.{
 use Rattle.refusals.proofs.FirstFaultLaws.{firstMet-good, andThen-agree, firstFaultTo-agree}
 use Rattle.load.specs.Load.{mostRows, zeroLoad}
 use Rattle.load.specs.View.{viewOf, stepsInAll}
-use Rattle.load_records.specs.Records.{headerKind, endKind, version, mostFileBytes}
-use Rattle.load_file.specs.Places.{stepsSaid, rowPlace, rowsSaid, loadIn}
+use Rattle.load_records.specs.Records.{headerKind, endKind, isVersion, mostFileBytes}
+use Rattle.load_file.specs.Places.{versionSaid, stepsSaid, rowPlace, rowsSaid, loadIn}
 use Rattle.load_file.specs.Reading.{dueTests, headerTests, rowFaultIn, endTests, fileFault, readLoad}
 use Rattle.load_file.proofs.faults.ReadingLaws.{stepsInAll-read}
 use Rattle.load_file.proofs.faults.ReadingRowsLaws.{header-rows-le}
@@ -39,10 +39,10 @@ module _ (bs cs : List ℕ) (a : Agree (mostFileBytes + 1) bs cs) where
   header-agree : headerTests bs ≡ headerTests cs
   unfolding headerTests
   header-agree =
-      ap (λ due. due ++ (not (eqb (byteAt bs 2) version), MarkDiffers) ∷ (ltb mostRows (rowsSaid bs), OutOfRange) ∷ [])
+      ap (λ due. due ++ (not (isVersion (versionSaid bs)), MarkDiffers) ∷ (ltb mostRows (rowsSaid bs), OutOfRange) ∷ [])
       (dueTests-agree _ bs cs a headerKind 0 (omega arith) (omega arith))
       ∙ ap₂
-      (λ v r. dueTests headerKind cs 0 ++ (not (eqb v version), MarkDiffers) ∷ (ltb mostRows r, OutOfRange) ∷ [])
+      (λ v r. dueTests headerKind cs 0 ++ (not (isVersion v), MarkDiffers) ∷ (ltb mostRows r, OutOfRange) ∷ [])
       (a .same 2 (omega arith)) (said bs cs a)
 
   rows-agree : rowsSaid bs ≤ mostRows

@@ -1,6 +1,7 @@
 -- What is written is bytes: every member of the file of a load held in memory is below 256.
 use Prim.Native.Nat.{ℕ, _≤_, _<_}
-use mathlib.Core.List.{List, _∷_}
+use mathlib.Core.Bool.{Bool, true, false, cond}
+use mathlib.Core.List.{List, [], _∷_}
 use native.Mathlib.Omega.{arith}
 use Rattle.words.specs.LittleEndian.{Bytes}
 use Rattle.words.proofs.ByteLaws.{Piece, none, one-then, then, joined, number}
@@ -10,6 +11,7 @@ use Rattle.load.specs.Load.{mostWindows, rowAt, stepAt, windowAt}
 use Rattle.load.specs.View.{viewOf, stepsInAll}
 use Rattle.load.proofs.CheckLaws.{LoadGood, fields-windows-le}
 use Rattle.load_records.specs.Records.{
+  carries,
   headerRecord,
   rowRecord,
   stepRecord,
@@ -24,12 +26,16 @@ two-then : {a c : ℕ} {bs : List ℕ} → a < 256 → c < 256 → Piece bs → 
 two-then l m p = one-then l (one-then m p)
 
 -- a row, with its steps and windows
-module _ (row : Row) (held : HeldRow row) where
-  own-piece : Piece (rowRecord row)
+module _ (v : ℕ) (row : Row) (held : HeldRow row) where
+  class-piece : (b : Bool) → Piece (cond b (row .class ∷ row .head ∷ []) [])
+  class-piece true = two-then (omega (arith, held .class-fits)) (omega (arith, held .head-fits)) none
+  class-piece false = none
+
+  own-piece : Piece (rowRecord v row)
   own-piece =
       two-then (omega arith) (omega arith)
       (then (then (then (then (number _ _) (number _ _)) (number _ _)) (number _ _))
-      (two-then (omega (arith, held .steps-fit)) (omega (arith, held .windows-fit)) none))
+      (two-then (omega (arith, held .steps-fit)) (omega (arith, held .windows-fit)) (class-piece (carries v))))
 
   step-piece : (j : ℕ) → Piece (stepRecord (stepAt row j))
   step-piece j = two-then (omega arith) (omega arith) (then (number _ _) (number _ _))
@@ -40,7 +46,7 @@ module _ (row : Row) (held : HeldRow row) where
       two-then (omega arith) (omega arith)
       (two-then (omega (arith, w .first-fits)) (omega (arith, w .last-fits)) (number _ _))
 
-  row-piece : row .windows ≤ mostWindows → Piece (rowBytes row)
+  row-piece : row .windows ≤ mostWindows → Piece (rowBytes v row)
   unfolding rowBytes
   row-piece few =
       then
@@ -48,16 +54,16 @@ module _ (row : Row) (held : HeldRow row) where
       (joined (λ k. windowRecord (windowAt row k)) (row .windows) (λ k l. window-piece k (omega arith)))
 
 -- the file of a load that the check passes
-pub loadBytes-bytes : (load : Load) → Held load → LoadGood load → Bytes (loadBytes load)
+pub loadBytes-bytes : (v : ℕ) → v < 256 → (load : Load) → Held load → LoadGood load → Bytes (loadBytes v load)
 unfolding loadBytes
-loadBytes-bytes load held good =
+loadBytes-bytes v small load held good =
     let fits : load .rows < 256 = held .rows-fit in
-    let header : Piece (headerRecord (load .rows)) =
-    two-then (omega arith) (omega arith) (two-then (omega (arith, fits)) (omega (arith, fits)) none) in
+    let header : Piece (headerRecord v (load .rows)) =
+    two-then (omega arith) (omega arith) (two-then small (omega (arith, fits)) none) in
     let end : Piece (endRecord (stepsInAll (viewOf load))) =
     two-then (omega arith) (omega arith) (number _ _) in
-    let row : (i : ℕ) → i < load .rows → Piece (rowBytes (rowAt load i)) =
+    let row : (i : ℕ) → i < load .rows → Piece (rowBytes v (rowAt load i)) =
     λ i l.
-    row-piece (rowAt load i) (held .each-row i (omega (arith, good .few-rows)))
+    row-piece v (rowAt load i) (held .each-row i (omega (arith, good .few-rows)))
     (fields-windows-le (rowAt load i) (good .each-row-good i l .fields-good)) in
-    then (then header (joined (λ i. rowBytes (rowAt load i)) (load .rows) row)) end .bytes
+    then (then header (joined (λ i. rowBytes v (rowAt load i)) (load .rows) row)) end .bytes

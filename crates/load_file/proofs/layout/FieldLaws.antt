@@ -1,8 +1,9 @@
 -- The five records of a load file, both ways: the fields that are read where a record stands are the record's, and
 -- the record of the fields that are read stands where they are read.
 use Prim.Native.Nat.{ℕ, _+_, _^_, _≤_, _<_}
+use mathlib.Core.Bool.{Bool, true, false, cond}
 use mathlib.Core.List.{List, [], _∷_, _++_, append-assoc}
-use mathlib.Core.Path.{_≡_, refl}
+use mathlib.Core.Path.{_≡_, refl, sym}
 use native.Mathlib.Omega.{arith}
 use lib.ListN.{length, length-append}
 use Rattle.counting.proofs.lists.PieceLaws.{Stands, nothing-stands, cons-stands, stands-head, stands-tail}
@@ -11,20 +12,32 @@ use Rattle.words.proofs.LittleEndianLaws.{littleEndian-length}
 use Rattle.load.specs.declared.Step.{Step}
 use Rattle.load.specs.declared.Window.{Window}
 use Rattle.load.specs.declared.Row.{Row}
+use Rattle.load.specs.Load.{onlyHead}
 use Rattle.load_records.specs.Records.{
   headerKind,
   rowKind,
   stepKind,
   windowKind,
   endKind,
-  version,
+  carries,
+  classAndHead,
   headerRecord,
   rowRecord,
   stepRecord,
   windowRecord,
   endRecord,
 }
-use Rattle.load_file.specs.Places.{rowsSaid, stepsSaid, windowsSaid, stepIn, windowIn}
+use Rattle.load_records.proofs.LengthLaws.{rowKind-least, rowRecord-length}
+use Rattle.load_file.specs.Places.{
+  versionSaid,
+  rowsSaid,
+  stepsSaid,
+  windowsSaid,
+  classSaid,
+  headSaid,
+  stepIn,
+  windowIn,
+}
 use Rattle.load_file.specs.RoundTrip.{HeldStep, HeldWindow, HeldRow}
 use Rattle.load_file.proofs.layout.RecordLaws.{
   number-read,
@@ -37,6 +50,11 @@ use Rattle.load_file.proofs.layout.RecordLaws.{
   record-fields,
   record-stands,
 }
+
+-- where the version carries no class and no head, the row has class 0 and head 1
+pub record Carried (bs : List ℕ) (row : Row) : Type 0 where
+  pub class-zero : carries (versionSaid bs) ≡ false → row .class ≡ 0
+  pub head-one : carries (versionSaid bs) ≡ false → row .head ≡ onlyHead
 
 module _ (bs : List ℕ) (at : ℕ) where
   -- a step
@@ -97,7 +115,7 @@ module _ (bs : List ℕ) (at : ℕ) where
       let l : at + 4 ≤ length bs = d .inside in
       record-stands endKind bs at _ (omega arith) d (number-stands 2 bs (at + 2) b (omega arith))
 
-  -- a row's own record
+  -- a row's own record, in the version that the bytes name
   pub record RowRead (row : Row) : Type 0 where
     pub identifier-read : numberAt 4 bs (at + 2) ≡ row .identifier .0
     pub box-read : numberAt 4 bs (at + 6) ≡ row .«box_number» .0
@@ -105,39 +123,79 @@ module _ (bs : List ℕ) (at : ℕ) where
     pub deadline-read : numberAt 4 bs (at + 14) ≡ row .deadline
     pub steps-read : stepsSaid bs at ≡ row .steps
     pub windows-read : windowsSaid bs at ≡ row .windows
+    pub class-read : classSaid bs at ≡ row .class
+    pub head-read : headSaid bs at ≡ row .head
 
-  module _ (row : Row) (h : Stands (rowRecord row) bs at) where
-    pub row-due : Due rowKind bs at
-    row-due = record-due rowKind bs at _ (simp (length-append, littleEndian-length)) h
+  -- the class and the head that are read, by whether the version carries them
+  module _ (row : Row) where
+    class-read-there : Carried bs row → Stands (classAndHead (versionSaid bs) row) bs (at + 20)
+        → classSaid bs at ≡ row .class
+    class-read-there c h = go (carries (versionSaid bs)) refl
+      where
+        go : (b : Bool) → carries (versionSaid bs) ≡ b → cond b (byteAt bs (at + 20)) 0 ≡ row .class
+        go true e = stands-head (row .class) (row .head ∷ []) bs (at + 20) 0 (rw e at h)
+        go false e = sym (c .class-zero e)
 
-    pub row-read : HeldRow row → RowRead row
-    row-read held =
-        let counts : List ℕ = row .steps ∷ row .windows ∷ [] in
+    head-read-there : Carried bs row → Stands (classAndHead (versionSaid bs) row) bs (at + 20)
+        → headSaid bs at ≡ row .head
+    head-read-there c h = go (carries (versionSaid bs)) refl
+      where
+        go : (b : Bool) → carries (versionSaid bs) ≡ b → cond b (byteAt bs (at + 21)) onlyHead ≡ row .head
+        go true e =
+            stands-head (row .head) [] bs (at + 21) 0
+            (stands-tail (row .class) (row .head ∷ []) bs (at + 20) (at + 21) (omega arith) (rw e at h))
+        go false e = sym (c .head-one e)
+
+    class-and-head-stand : at + rowKind (versionSaid bs) .size ≤ length bs → classSaid bs at ≡ row .class
+        → headSaid bs at ≡ row .head → Stands (classAndHead (versionSaid bs) row) bs (at + 20)
+    class-and-head-stand = go (carries (versionSaid bs))
+      where
+        go : (b : Bool) → at + cond b 22 20 ≤ length bs → cond b (byteAt bs (at + 20)) 0 ≡ row .class
+            → cond b (byteAt bs (at + 21)) onlyHead ≡ row .head
+            → Stands (cond b (row .class ∷ row .head ∷ []) []) bs (at + 20)
+        go true l c h =
+            cons-stands _ _ bs (at + 20) (at + 21) (omega arith) 0 (omega arith) c
+            (cons-stands _ _ bs (at + 21) (at + 22) (omega arith) 0 (omega arith) h (nothing-stands bs (at + 22)))
+        go false l c h = nothing-stands bs (at + 20)
+
+  module _ (row : Row) (h : Stands (rowRecord (versionSaid bs) row) bs at) where
+    pub row-due : Due (rowKind (versionSaid bs)) bs at
+    row-due = record-due (rowKind (versionSaid bs)) bs at _ (omega (arith, rowRecord-length (versionSaid bs) row)) h
+
+    pub row-read : HeldRow row → Carried bs row → RowRead row
+    row-read held carried =
+        let tail : List ℕ = classAndHead (versionSaid bs) row in
+        let counts : List ℕ = row .steps ∷ row .windows ∷ tail in
         let from-deadline : List ℕ = littleEndian 4 (row .deadline) ++ counts in
         let from-phase : List ℕ = littleEndian 4 (row .phase) ++ from-deadline in
         let box : ℕ = row .«box_number» .0 in
         let from-box : List ℕ = littleEndian 4 box ++ from-phase in
         let identifier : ℕ = row .identifier .0 in
         let h₁ : Stands (littleEndian 4 identifier ++ from-box) bs (at + 2) =
-        simp append-assoc at (record-fields rowKind bs at _ h) in
+        simp append-assoc at (record-fields (rowKind (versionSaid bs)) bs at _ h) in
         let h₂ = number-behind 4 from-box bs (at + 2) (at + 6) (omega arith) identifier h₁ in
         let h₃ = number-behind 4 from-phase bs (at + 6) (at + 10) (omega arith) box h₂ in
         let h₄ = number-behind 4 from-deadline bs (at + 10) (at + 14) (omega arith) (row .phase) h₃ in
         let h₅ = number-behind 4 counts bs (at + 14) (at + 18) (omega arith) (row .deadline) h₄ in
-        let h₆ = stands-tail (row .steps) (row .windows ∷ []) bs (at + 18) (at + 19) (omega arith) h₅ in
+        let h₆ = stands-tail (row .steps) (row .windows ∷ tail) bs (at + 18) (at + 19) (omega arith) h₅ in
+        let h₇ = stands-tail (row .windows) tail bs (at + 19) (at + 20) (omega arith) h₆ in
         record {
           identifier-read = number-first 4 from-box bs (at + 2) identifier (held .identifier-fits) h₁;
           box-read = number-first 4 from-phase bs (at + 6) box (held .box-fits) h₂;
           phase-read = number-first 4 from-deadline bs (at + 10) (row .phase) (held .phase-fits) h₃;
           deadline-read = number-first 4 counts bs (at + 14) (row .deadline) (held .deadline-fits) h₄;
-          steps-read = stands-head (row .steps) (row .windows ∷ []) bs (at + 18) 0 h₅;
-          windows-read = stands-head (row .windows) [] bs (at + 19) 0 h₆;
+          steps-read = stands-head (row .steps) (row .windows ∷ tail) bs (at + 18) 0 h₅;
+          windows-read = stands-head (row .windows) tail bs (at + 19) 0 h₆;
+          class-read = class-read-there row carried h₇;
+          head-read = head-read-there row carried h₇;
         }
 
-  pub row-stands : Bytes bs → Due rowKind bs at → (row : Row) → RowRead row → Stands (rowRecord row) bs at
+  pub row-stands : Bytes bs → Due (rowKind (versionSaid bs)) bs at → (row : Row) → RowRead row
+      → Stands (rowRecord (versionSaid bs) row) bs at
   row-stands b d row r =
-      let l : at + 20 ≤ length bs = d .inside in
-      record-stands rowKind bs at _ (omega arith) d
+      let long : at + rowKind (versionSaid bs) .size ≤ length bs = d .inside in
+      let l : at + 20 ≤ length bs = omega (arith, long, rowKind-least (versionSaid bs)) in
+      record-stands (rowKind (versionSaid bs)) bs at _ (omega (arith, rowKind-least (versionSaid bs))) d
       (simp (append-assoc, ← r .identifier-read, ← r .box-read, ← r .phase-read, ← r .deadline-read)
       (number-before 4 _ bs (at + 2) (at + 6) (omega arith) b (omega arith)
       (number-before 4 _ bs (at + 6) (at + 10) (omega arith) b (omega arith)
@@ -145,26 +203,23 @@ module _ (bs : List ℕ) (at : ℕ) where
       (number-before 4 _ bs (at + 14) (at + 18) (omega arith) b (omega arith)
       (cons-stands _ _ bs (at + 18) (at + 19) (omega arith) 0 (omega arith) (r .steps-read)
       (cons-stands _ _ bs (at + 19) (at + 20) (omega arith) 0 (omega arith) (r .windows-read)
-      (nothing-stands bs (at + 20)))))))))
+      (class-and-head-stand row long (r .class-read) (r .head-read)))))))))
 
 -- the header
 module _ (bs : List ℕ) where
-  module _ (n : ℕ) (h : Stands (headerRecord n) bs 0) where
+  module _ (v n : ℕ) (h : Stands (headerRecord v n) bs 0) where
     pub header-due : Due headerKind bs 0
     header-due = record-due headerKind bs 0 _ refl h
 
-    header-fields : Stands (version ∷ n ∷ []) bs 2
+    header-fields : Stands (v ∷ n ∷ []) bs 2
     header-fields = record-fields headerKind bs 0 _ h
 
-    pub version-read : byteAt bs 2 ≡ version
-    version-read = stands-head version (n ∷ []) bs 2 0 header-fields
-
     pub rows-read : rowsSaid bs ≡ n
-    rows-read = stands-head n [] bs 3 0 (stands-tail version (n ∷ []) bs 2 3 refl header-fields)
+    rows-read = stands-head n [] bs 3 0 (stands-tail v (n ∷ []) bs 2 3 refl header-fields)
 
-  pub header-stands : Due headerKind bs 0 → byteAt bs 2 ≡ version → Stands (headerRecord (rowsSaid bs)) bs 0
-  header-stands d e =
+  pub header-stands : Due headerKind bs 0 → Stands (headerRecord (versionSaid bs) (rowsSaid bs)) bs 0
+  header-stands d =
       let l : 4 ≤ length bs = d .inside in
       record-stands headerKind bs 0 _ (omega arith) d
-      (cons-stands version (rowsSaid bs ∷ []) bs 2 3 refl 0 (omega arith) e
+      (cons-stands (versionSaid bs) (rowsSaid bs ∷ []) bs 2 3 refl 0 (omega arith) refl
       (cons-stands (rowsSaid bs) [] bs 3 4 refl 0 (omega arith) refl (nothing-stands bs 4)))

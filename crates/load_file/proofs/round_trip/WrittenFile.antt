@@ -1,6 +1,7 @@
 -- Writing then reading: the file of a load that passes the check spells that load, and the reading refuses nothing,
 -- since each of its tests is one that the check made, or says that a record stands where it was written.
 use Prim.Native.Nat.{ℕ, _+_, _*_, _^_, _≤_, _<_}
+use mathlib.Core.Bool.{true}
 use mathlib.Core.List.{List}
 use mathlib.Core.Path.{_≡_, ap, ap₂, _∙_}
 use native.Mathlib.Omega.{arith}
@@ -25,9 +26,10 @@ use Rattle.load.specs.Load.{
 use Rattle.load.specs.View.{viewOf, stepsInAll}
 use Rattle.load.specs.Check.{isZeroRow, checkFields, checkTaken, checkStep, checkWindow}
 use Rattle.load.proofs.CheckLaws.{RowGood, LoadGood, fields-steps-le, fields-windows-le}
-use Rattle.load_records.specs.Records.{windowRecord}
+use Rattle.load_records.specs.Records.{isVersion, windowRecord}
 use Rattle.load_records.specs.Writing.{rowBytes, loadBytes}
 use Rattle.load_file.specs.Places.{
+  versionSaid,
   stepIn,
   windowIn,
   stepsSaid,
@@ -48,11 +50,11 @@ use Rattle.load_file.proofs.layout.FieldLaws.{
   window-read,
   end-due,
   end-read,
+  Carried,
   RowRead,
   row-due,
   row-read,
   header-due,
-  version-read,
   rows-read,
 }
 use Rattle.load_file.proofs.layout.PlaceLaws.{RowStands, row-parts, row-behind, FileStands, file-parts}
@@ -61,12 +63,12 @@ use Rattle.load_file.proofs.faults.FaultLaws.{RowAccepted, endPlace, Fi
 
 -- a row that the check passes, held in memory, whose bytes stand at a place
 module _ (bs : List ℕ) (load : Load) (i at : ℕ) (row : Row) (held : HeldRow row) (good : RowGood load i row)
-    (h : Stands (rowBytes row) bs at) where
+    (carried : Carried bs row) (h : Stands (rowBytes (versionSaid bs) row) bs at) where
   parts : RowStands bs at row
   parts = row-parts bs at row h
 
   pub written-fields : RowRead bs at row
-  written-fields = row-read bs at row (parts .own) held
+  written-fields = row-read bs at row (parts .own) held carried
 
   steps-le : row .steps ≤ mostSteps
   steps-le = fields-steps-le row (good .fields-good)
@@ -74,20 +76,20 @@ module _ (bs : List ℕ) (load : Load) (i at : ℕ) (row : Row) (held : HeldRow 
   windows-le : row .windows ≤ mostWindows
   windows-le = fields-windows-le row (good .fields-good)
 
-  window-place : (k : ℕ) → windowPlace bs at k ≡ stepPlace at (row .steps) + 6 * k
+  window-place : (k : ℕ) → windowPlace bs at k ≡ stepPlace bs at (row .steps) + 6 * k
   window-place k = omega (arith, written-fields .steps-read)
 
   window-stands-there : (k : ℕ) → k < row .windows
       → Stands (windowRecord (windowAt row k)) bs (windowPlace bs at k)
   window-stands-there k l = rw (window-place k) (parts .each-window k l)
 
-  written-steps : filled (λ j. stepIn bs (stepPlace at j)) (stepsSaid bs at) mostSteps noStep ≡ row .step
+  written-steps : filled (λ j. stepIn bs (stepPlace bs at j)) (stepsSaid bs at) mostSteps noStep ≡ row .step
   written-steps =
-      ap (λ n. filled (λ j. stepIn bs (stepPlace at j)) n mostSteps noStep) (written-fields .steps-read)
-      ∙ filled-is (λ j. stepIn bs (stepPlace at j)) (row .steps) mostSteps noStep noStep (row .step) steps-le
+      ap (λ n. filled (λ j. stepIn bs (stepPlace bs at j)) n mostSteps noStep) (written-fields .steps-read)
+      ∙ filled-is (λ j. stepIn bs (stepPlace bs at j)) (row .steps) mostSteps noStep noStep (row .step) steps-le
       (held .step-places)
       (λ j l.
-      step-read bs (stepPlace at j) (stepAt row j) (parts .each-step j l)
+      step-read bs (stepPlace bs at j) (stepAt row j) (parts .each-step j l)
       (held .each-step j (omega (arith, steps-le))))
       (steps-unused row (row .steps) (good .steps-zero))
 
@@ -113,6 +115,8 @@ module _ (bs : List ℕ) (load : Load) (i at : ℕ) (row : Row) (held : HeldRow 
         deadline = written-fields .deadline-read i;
         steps = written-fields .steps-read i;
         windows = written-fields .windows-read i;
+        class = written-fields .class-read i;
+        head = written-fields .head-read i;
         step = written-steps i;
         window = written-windows i;
       }
@@ -125,7 +129,7 @@ module _ (bs : List ℕ) (load : Load) (i at : ℕ) (row : Row) (held : HeldRow 
         fields-good = ap checkFields written-row ∙ good .fields-good;
         taken-good = ap₂ (λ l r. checkTaken l i r) e written-row ∙ good .taken-good;
         each-step-due =
-            λ j l. step-due bs (stepPlace at j) (stepAt row j) (parts .each-step j (omega (arith, f .steps-read)));
+            λ j l. step-due bs (stepPlace bs at j) (stepAt row j) (parts .each-step j (omega (arith, f .steps-read)));
         each-step-good =
             λ j l. ap (λ r. checkStep r j) written-row ∙ good .each-step-good j (omega (arith, f .steps-read));
         each-window-due =
@@ -148,7 +152,8 @@ stepsInAll-lt load good =
     )
 
 -- the file of a load that the check passes, held in memory
-module _ (bs : List ℕ) (load : Load) (held : Held load) (good : LoadGood load) (e : bs ≡ loadBytes load) where
+module _ (bs : List ℕ) (load : Load) (held : Held load) (good : LoadGood load)
+    (carried : (i : ℕ) → i < load .rows → Carried bs (rowAt load i)) (e : bs ≡ loadBytes (versionSaid bs) load) where
   held-row : (i : ℕ) → i < load .rows → HeldRow (rowAt load i)
   held-row i l = held .each-row i (omega (arith, good .few-rows))
 
@@ -157,16 +162,17 @@ module _ (bs : List ℕ) (load : Load) (held : Held load) (good : LoadGood load)
   file =
       file-parts bs load
       (λ i l h.
-      let fields = written-fields bs load i (rowPlace bs i) (rowAt load i) (held-row i l) (good .each-row-good i l) h in
+      let fields = written-fields bs load i (rowPlace bs i) (rowAt load i) (held-row i l) (good .each-row-good i l)
+      (carried i l) h in
       row-behind bs (rowPlace bs i) (rowAt load i) (fields .steps-read) (fields .windows-read))
       e
 
   rows-said : rowsSaid bs ≡ load .rows
-  rows-said = rows-read bs (load .rows) (file .header)
+  rows-said = rows-read bs (versionSaid bs) (load .rows) (file .header)
 
   row-is : (i : ℕ) → i < load .rows → rowFrom bs (rowPlace bs i) ≡ rowAt load i
   row-is i l =
-      written-row bs load i (rowPlace bs i) (rowAt load i) (held-row i l) (good .each-row-good i l)
+      written-row bs load i (rowPlace bs i) (rowAt load i) (held-row i l) (good .each-row-good i l) (carried i l)
       (file .each-row i l)
 
   written-rows : filled (λ i. rowFrom bs (rowPlace bs i)) (rowsSaid bs) mostRows zeroRow ≡ load .row
@@ -183,19 +189,19 @@ module _ (bs : List ℕ) (load : Load) (held : Held load) (good : LoadGood load)
   unfolding loadIn
   written-load = λ i. record { rows = rows-said i; row = written-rows i }
 
-  pub written-accepted : FileAccepted bs
-  written-accepted =
+  pub written-accepted : isVersion (versionSaid bs) ≡ true → FileAccepted bs
+  written-accepted named =
       let end-is : endPlace bs ≡ rowPlace bs (load .rows) = ap (rowPlace bs) rows-said in
       let count : ℕ = stepsInAll (viewOf load) in
       record {
-        header-due = header-due bs (load .rows) (file .header);
-        version-is = version-read bs (load .rows) (file .header);
+        header-due = header-due bs (versionSaid bs) (load .rows) (file .header);
+        version-is = named;
         few-rows = omega (arith, rows-said, good .few-rows);
         each-row =
             λ i l.
             let l : i < load .rows = omega (arith, rows-said) in
             written-row-accepted bs load i (rowPlace bs i) (rowAt load i) (held-row i l) (good .each-row-good i l)
-            (file .each-row i l) written-load;
+            (carried i l) (file .each-row i l) written-load;
         end-due = rw end-is (end-due bs (rowPlace bs (load .rows)) count (file .end));
         count-is =
             rw (end-is, written-load)

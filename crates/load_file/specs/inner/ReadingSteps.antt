@@ -1,9 +1,9 @@
 -- What the parts of the reading call give: definitions that its private functions cite, and no
 -- public contract. To be read after Reading.
-use Prim.Native.Nat.{ℕ, min, _+_, _*_, _≤_}
+use Prim.Native.Nat.{ℕ, zero, suc, _+_, _*_, _≤_}
 use mathlib.Core.List.{List, [], _∷_, _++_}
 use mathlib.Core.Path.{_≡_}
-use lib.ListN.{getD}
+use lib.ListN.{getD, replicate}
 use Rattle.counting.specs.Lists.{filled}
 use Rattle.refusals.specs.declared.Checked.{Checked}
 use Rattle.refusals.specs.FirstMet.{firstMet, firstFault, firstFaultTo}
@@ -19,18 +19,18 @@ use Rattle.load_records.specs.Records.{Kind, rowKind, stepKind, windowKind}
 use Rattle.load_file.specs.declared.Reading.{Reading}
 use Rattle.load_file.specs.declared.read_row.RowReading.{RowReading}
 use Rattle.load_file.specs.Places.{
+  versionSaid,
   stepIn,
   windowIn,
   stepsSaid,
-  windowsSaid,
-  stepPlace,
   rowWith,
   rowFrom,
   rowPlace,
   rowsSaid,
   loadIn,
 }
-use Rattle.load_file.specs.Reading.{rowFaultAt, rowFaultIn, endTests}
+use Rattle.load_file.specs.Reading.{stepsFault, windowsFault, endTests}
+use Rattle.load_file.specs.Reading.{rowFaultAt, rowFaultIn}
 
 -- the kind of record with a mark and a size
 abbrev pub kindOf : List ℕ → ℕ → Kind
@@ -45,12 +45,21 @@ abbrev pub windowsFrom : List ℕ → ℕ → ℕ → List Window
 windowsFrom bs from n =
     filled (λ k. windowIn bs (from + windowKind .size * k)) n mostWindows noWindow
 
--- the row whose record stands at a place, without what it announces beyond a row's places
-unfoldable pub rowWithin : List ℕ → ℕ → Row
-rowWithin bs at =
+-- a row's own fields, with no steps and no windows read yet
+abbrev pub ownFields : List ℕ → ℕ → Row
+ownFields bs at = rowWith bs at (replicate mostSteps noStep) (replicate mostWindows noWindow)
+
+-- with its steps, and no windows read yet
+abbrev pub withSteps : List ℕ → ℕ → Row
+withSteps bs at =
     rowWith bs at
-    (stepsFrom bs (at + rowKind .size) (min (stepsSaid bs at) mostSteps))
-    (windowsFrom bs (stepPlace at (stepsSaid bs at)) (min (windowsSaid bs at) mostWindows))
+    (stepsFrom bs (at + rowKind (versionSaid bs) .size) (stepsSaid bs at))
+    (replicate mostWindows noWindow)
+
+-- the last step of the window record before record k from a place on, and 0 where there is none
+abbrev pub lastIn : List ℕ → ℕ → ℕ → ℕ
+lastIn bs from zero = 0
+lastIn bs from (suc k) = windowIn bs (from + windowKind .size * k) .last
 
 -- the identifiers and the boxes of the rows before row i, and zeros in the places behind them
 pub record RowsBefore (bs : List ℕ) (i : ℕ) (identifiers : List Identifier)
@@ -65,6 +74,15 @@ pub record RowsBefore (bs : List ℕ) (i : ℕ) (identifiers : List Identifier)
 -- what row i is refused for by its own fields, and by what it shares with a row before
 unfoldable pub fieldsFault : List ℕ → ℕ → Row → Checked
 fieldsFault bs i row = firstMet (rowTests row ++ takenTests (loadIn bs) i row)
+
+-- what a row is refused for by its steps and then its windows
+abbrev pub partsFault : List ℕ → ℕ → Checked
+partsFault bs at = firstFault (stepsFault bs at ∷ windowsFault bs at ∷ [])
+
+-- what reading the parts of the row at a place gives: a refused row is the row of zeros
+unfoldable pub readParts : List ℕ → ℕ → RowReading
+readParts bs at =
+    record { answer = partsFault bs at; row = ifGood (partsFault bs at) (rowFrom bs at) zeroRow }
 
 -- what reading row i at a place gives: a refused row is the row of zeros
 unfoldable pub readRow : List ℕ → ℕ → ℕ → RowReading

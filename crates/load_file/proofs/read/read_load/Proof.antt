@@ -14,10 +14,14 @@ header-good : (c : tie.After-enum-told)
 header-good c = sym (c .before .before .check-header .ensures) ∙ c .enum-told .given .1
 
 few : tie.Need-read-rows-requires
-few c κs = (c .byte-at .ensures, rw (c .byte-at .ensures) (header-rows-le _ (header-good (c .before))))
+few c κs = (
+  c .before .byte-at .ensures,
+  c .byte-at2 .ensures,
+  rw (c .byte-at2 .ensures) (header-rows-le _ (header-good (c .before .before))),
+)
 
 rows : tie.Need-returns
-rows c = c .read-rows .ensures ∙ readLoad-rows _ (header-good (c .before .before))
+rows c = c .read-rows .ensures ∙ readLoad-rows _ (header-good (c .before .before .before))
 
 refused : tie.Need-returns-2
 refused c =
@@ -31,6 +35,7 @@ read-load-spec =
     (tie.spec
     (λ c κs. search needs)
     (λ c. search needs)
+    (λ c κs. search needs)
     (λ c κs. search needs)
     few
     (λ c. search needs)

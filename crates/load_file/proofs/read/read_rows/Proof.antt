@@ -25,18 +25,17 @@ use Rattle.load_file.proofs.read.read_rows.Statement.{statement}
 use Rattle.load_file.proofs.read.read_rows.Tie as tie
 
 abbrev Inv-loop : tie.InvT-loop
-Inv-loop bytes rows identifiers₀ boxes₀ kept₀ at₀ steps₀ count answer₀ i₀ identifiers boxes kept at steps answer i =
+Inv-loop bytes version rows ids₀ boxes₀ kept₀ at₀ steps₀ count answer₀ i₀ identifiers boxes kept at steps answer i =
     (i ≤ count) × RowsRead bytes i identifiers boxes kept at steps × (answer ≡ Good)
 
 abbrev μ-loop : tie.MeasureT-loop
-μ-loop bytes rows identifiers₀ boxes₀ kept₀ at₀ steps₀ count answer₀ i₀ identifiers boxes kept at steps answer i =
-    count - i
+μ-loop bytes version rows ids₀ boxes₀ kept₀ at₀ steps₀ count answer₀ i₀ ids boxes kept at steps answer i = count - i
 
 starts : tie.Need-loop-holds Inv-loop μ-loop
 starts c = (search needs, rows-none (c .before .before .args .bytes .now) _ (c .zero-row .ensures), refl)
 
 asked : tie.Need-read-row-requires Inv-loop μ-loop
-asked c κs = (omega arith, c .before .loop .inv .1 .before)
+asked c κs = ((omega arith, c .before .before .before .before .pre .0), c .before .loop .inv .1 .before)
 
 summed : tie.Need-add-steps Inv-loop μ-loop
 summed c =
@@ -56,7 +55,8 @@ goes-on c =
     rows-next (turn .before .before .loop .inv .1) (turn .read-row .result) (turn .read-row .ensures) (omega arith)
     (omega arith)
     (told .enum-told2 .given .1) in
-    (omega arith, rw (c .place-behind .ensures) next, told .enum-told2 .given .1)
+    let version = turn .before .before .before .before .before .pre .0 in
+    (omega arith, rw (c .place-behind .ensures, version) next, told .enum-told2 .given .1)
 
 -- behind the loop: where no row is refused, every row is read
 module _ (c : tie.Left-loop Inv-loop μ-loop) where
@@ -64,7 +64,7 @@ module _ (c : tie.Left-loop Inv-loop μ-loop) where
       → c .before .loop .i ≡ rowsSaid (c .before .before .before .before .args .bytes .now)
   ended h =
       let start = c .before .before .before .before in
-      let e : start .args .rows ≡ rowsSaid (start .args .bytes .now) = start .pre .0 in
+      let e : start .args .rows ≡ rowsSaid (start .args .bytes .now) = start .pre .1 in
       let l : c .before .loop .i ≤ start .args .rows = c .before .loop .inv .0 in
       ⊎-elim (λ w. omega (arith, w .0 .left))
       (λ w. absurd (good-refused _ _ h (w .4 ∙ w .3 .given .1)))
@@ -78,8 +78,8 @@ module _ (c : tie.Left-loop Inv-loop μ-loop) where
       let said = c .before .before .before .before .pre in
       ⊎-elim (λ w. absurd (good-refused _ _ (w .1 ∙ inv .2) h))
       (λ w. w .4
-      ∙ rows-refused (inv .1) (w .1 .result) (w .1 .ensures) (omega (arith, w .0 .taken, said .0))
-      (omega (arith, said .0, said .1))
+      ∙ rows-refused (inv .1) (w .1 .result) (w .1 .ensures) (omega (arith, w .0 .taken, said .1))
+      (omega (arith, said .1, said .2))
       (w .3 .given .1))
       (c .loop-test .came)
 
@@ -115,7 +115,7 @@ kept c =
     let met = c .before .before in
     let at = met .before .before in
     let h = c .enum-told6 .given .1 in
-    reading-good (at .loop .inv .1) (all-read met h) _ (at .before .before .before .pre .0) (decided met) h
+    reading-good (at .loop .inv .1) (all-read met h) _ (at .before .before .before .pre .1) (decided met) h
 
 pub read-rows-spec : {M : Type 1} → statement M
 read-rows-spec =

@@ -15,12 +15,13 @@ is-file c =
     let h = w .before .before .before .before in
     let header = h .before .before .before in
     let start = header .before .before .args in
-    load-written (start .load) (start .out .now) _ (w .write-rows .last .0) _ (w .write-rows .result)
+    load-written (start .version) (start .load) (start .out .now) _ (w .write-rows .last .1 .0) _
+    (w .write-rows .result)
     (h .overwrite .ensures ∙ ap (sets (start .out .now) 0) (header .header-record .ensures))
     (w .write-rows .ensures .1)
     (w .write-rows .ensures .0)
     (e .overwrite2 .ensures
-    ∙ ap (sets (w .write-rows .last .0) (w .write-rows .result))
+    ∙ ap (sets (w .write-rows .last .1 .0) (w .write-rows .result))
     (end .end-record .ensures ∙ ap endRecord (end .before .steps-in .ensures)))
 
 pub write-file-spec : {M : Type 1} → statement M
