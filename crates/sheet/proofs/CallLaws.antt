@@ -5,7 +5,7 @@ use mathlib.Core.Path.{_≡_, sym, _∙_}
 use Rattle.refusals.specs.declared.Written.{Written}
 use Rattle.refusals.proofs.GivenLaws.{WritesOut-unique}
 use Rattle.load.specs.declared.Load.{Load}
-use Rattle.load.specs.Check.{checkLoad}
+use Rattle.load.specs.Plain.{checkPlain}
 use Rattle.load_file.specs.declared.Reading.{Reading}
 use Rattle.sheet.specs.Writing.{sheetBytes}
 use Rattle.sheet.specs.Calls.{ReadSheet, WriteSheet}
@@ -15,4 +15,4 @@ ReadSheet-unique bs r s p q = p ∙ sym q
 
 pub WriteSheet-unique : (load : Load) (out : List ℕ) (r s : Written) (after later : List ℕ)
     → WriteSheet load out r after → WriteSheet load out s later → (r ≡ s) × (after ≡ later)
-WriteSheet-unique load out = WritesOut-unique (checkLoad load) (sheetBytes load) out
+WriteSheet-unique load out = WritesOut-unique (checkPlain load) (sheetBytes load) out

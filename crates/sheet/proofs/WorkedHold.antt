@@ -11,6 +11,7 @@ use Rattle.load.specs.View.{chain}
 use Rattle.load.specs.Load.{zeroRow, zeroLoad}
 use Rattle.load.specs.Faults.{rowTests, takenTests, stepTests, windowTests}
 use Rattle.load.specs.Check.{checkParts, rowFault, checkLoad}
+use Rattle.load.specs.Plain.{checkPlain}
 use Rattle.sheet_line.specs.LineText.{markAmong, lineOf, markBytes, lineBytes}
 use Rattle.sheet_line.specs.Line.{fieldPlace, markAt, behindMark, isLine, lineIn, nextLine}
 use Rattle.sheet.specs.Lines.{linePlace, linesIn}
@@ -29,14 +30,15 @@ use Rattle.sheet.specs.Writing.{rowLines, sheetBytes}
 use Rattle.sheet.specs.WorkedSheets.{sheetOf, numbersRead, loadB, WorkedSheets}
 use Rattle.sheet.specs.WorkedCases.{WorkedCases}
 use Rattle.sheet.specs.WorkedRanges.{rowsOfOne, WorkedRanges}
+use Rattle.sheet.specs.WorkedUrgent.{WorkedUrgent}
 
 -- to open this is to open all that its line names
 unfoldable pub computing : ℕ
 unfolding joinTo joinIn sumTo allTo anyTo firstTo text decimalTo digitsAt valueAt plainAt firstFaultTo chain zeroRow
-    zeroLoad rowTests takenTests stepTests windowTests checkParts rowFault checkLoad markAmong lineOf markBytes
-    lineBytes fieldPlace markAt behindMark isLine lineIn nextLine linePlace linesIn lineTests lineFault linesFault
-    stepsFrom dashesBehind windowsOf rowOf rowPlace rowsIn loadInSheet sheetFault readSheet rowLines sheetBytes
-    sheetOf numbersRead loadB rowsOfOne
+    zeroLoad rowTests takenTests stepTests windowTests checkParts rowFault checkLoad checkPlain markAmong lineOf
+    markBytes lineBytes fieldPlace markAt behindMark isLine lineIn nextLine linePlace linesIn lineTests lineFault
+    linesFault stepsFrom dashesBehind windowsOf rowOf rowPlace rowsIn loadInSheet sheetFault readSheet rowLines
+    sheetBytes sheetOf numbersRead loadB rowsOfOne
 computing = 0
 
 pub sheets-hold : WorkedSheets
@@ -75,4 +77,20 @@ ranges-hold =
       first-row = refl;
       factory = refl;
       rows = refl;
+    }
+
+pub urgent-hold : WorkedUrgent
+unfolding computing
+urgent-hold =
+    record {
+      plain = record { given = record { finding-is = refl; output-is = refl }; length-is = refl };
+      with-room = record { given = record { finding-is = refl; output-is = refl }; length-is = refl };
+      room-less = record { given = record { finding-is = refl; output-is = refl }; length-is = refl };
+      no-room = record { given = record { finding-is = refl; output-is = refl }; length-is = refl };
+      last-row = record { given = record { finding-is = refl; output-is = refl }; length-is = refl };
+      class-four = record { given = record { finding-is = refl; output-is = refl }; length-is = refl };
+      head-two = record { given = record { finding-is = refl; output-is = refl }; length-is = refl };
+      own-first = record { given = record { finding-is = refl; output-is = refl }; length-is = refl };
+      read-classes = refl;
+      read-heads = refl;
     }

@@ -11,3 +11,4 @@ pub mod inner
 pub mod WorkedSheets
 pub mod WorkedCases
 pub mod WorkedRanges
+pub mod WorkedUrgent

@@ -1,6 +1,7 @@
 -- "Lines of one row are adjacent; a new identifier begins a row." The load that a sheet spells: its
--- numbers are those of the lines, also where they are wider than a load's fields. To be read after
--- LineFaults. Rests on D87 and D88.
+-- numbers are those of the lines, also where they are wider than a load's fields. "Version 1 files
+-- and sheets go on being read, as class 0 and head 1" (2026-05). To be read after LineFaults. Rests
+-- on D87, D88 and D92.
 use Prim.Native.Nat.{ℕ, zero, suc, _+_, _-_}
 use mathlib.Core.Bool.{Bool, not, _||_}
 use mathlib.Core.List.{List, [], _∷_, _++_}
@@ -12,7 +13,8 @@ use Rattle.load.specs.declared.Step.{Step}
 use Rattle.load.specs.declared.Window.{Window}
 use Rattle.load.specs.declared.Row.{Row}
 use Rattle.load.specs.declared.Load.{Load}
-use Rattle.load.specs.Load.{mostRows, mostSteps, mostWindows, shown, noStep, noWindow, zeroRow}
+use Rattle.load.specs.Load.{mostRows, mostSteps, mostWindows, onlyHead, shown}
+use Rattle.load.specs.Load.{noStep, noWindow, zeroRow}
 use Rattle.sheet_line.specs.declared.Mark.{Mark}
 use Rattle.sheet_line.specs.declared.Mark.the-variants.{Nothing, Dash, Limit}
 use Rattle.sheet_line.specs.declared.Line.{Line}
@@ -52,7 +54,8 @@ stepOf line = record { cost = line .cost; wait = line .wait }
 abbrev pub windowPlaces : List Window → List Window
 windowPlaces windows = windows ++ replicate (mostWindows - length windows) noWindow
 
--- a row by its first line, with so many steps and with these windows; unused places are zero
+-- a row by its first line, with so many steps and with these windows, of class 0 and head 1; unused
+-- places are zero
 abbrev pub rowWith : Line → ℕ → List Step → List Window → Row
 rowWith first steps step windows =
     record {
@@ -62,6 +65,8 @@ rowWith first steps step windows =
       deadline = first .deadline;
       steps = steps;
       windows = length windows;
+      class = 0;
+      head = onlyHead;
       step = step;
       window = windowPlaces windows;
     }

@@ -7,6 +7,7 @@ use crate::row_parts::windows_from;
 use load::BoxNumber;
 use load::Identifier;
 use load::MOST_STEPS;
+use load::ONLY_HEAD;
 use load::Row;
 use sheet_line::line_at;
 ghost use mathlib.Core.Path.{_≡_};
@@ -54,7 +55,8 @@ fn run_from(bytes: &[u8], at: usize) -> Run
     Run { steps, next }
 }
 
-// Gives the row of so many lines from a place on.
+// Gives the row of so many lines from a place on. No line carries a class or a head: they are 0 and
+// the only head.
 fn row_of(bytes: &[u8], at: usize, steps: usize) -> Row
     requires { ⌜ (0 < steps) × (steps ≤ mostSteps) ⌝ }
     requires { ⌜ LinesStand (now bytes) at steps ⌝ }
@@ -73,6 +75,8 @@ fn row_of(bytes: &[u8], at: usize, steps: usize) -> Row
         deadline: or_zero_32(line.deadline),
         steps: steps as u8,
         windows: windows.count,
+        class: 0,
+        head: ONLY_HEAD,
         step,
         window,
     }

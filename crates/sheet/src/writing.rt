@@ -1,5 +1,6 @@
 // Writes a load as its sheet: the lines of each row in the order of its steps, row by row. Refuses
-// a load that its check refuses, and an output shorter than the sheet.
+// a load that its check refuses, one whose classes or heads no sheet carries, and an output shorter
+// than the sheet.
 use load::Load;
 use load::Row;
 use refusals::Checked;
@@ -46,12 +47,12 @@ fn write_rows(out: &mut [u8], load: Load) -> usize
 }
 
 // Writes a load as its sheet at the output's front, and gives the length. Refuses, in this order, a
-// load that its check refuses and an output that is shorter than the sheet (9); a refusal alters no
-// byte. Bytes past the sheet stay.
+// load that its check refuses, one with a class that is not 0 or a head that is not 1 (22), and an
+// output that is shorter than the sheet (9); a refusal alters no byte. Bytes past the sheet stay.
 pub fn write_sheet(load: Load, out: &mut [u8]) -> Written
     ensures { λ r. ⌜ WriteSheet load (now (out .entry)) r (now (out .exit)) ⌝ }
 {
-    if let Checked::Refused(refusal) = load::check_load(load) {
+    if let Checked::Refused(refusal) = load::check_plain(load) {
         return Written {
             answer: Checked::Refused(refusal),
             length: 0,

@@ -25,7 +25,7 @@ use Rattle.load.specs.declared.Step.{Step}
 use Rattle.load.specs.declared.Window.{Window}
 use Rattle.load.specs.declared.Row.{Row}
 use Rattle.load.specs.declared.Load.{Load}
-use Rattle.load.specs.Load.{mostSteps, mostWindows, noStep, noWindow, stepAt, windowAt}
+use Rattle.load.specs.Load.{mostSteps, mostWindows, onlyHead, noStep, noWindow, stepAt, windowAt}
 use Rattle.load.specs.View.{rowWindows}
 use Rattle.load.specs.Faults.{windowTests}
 use Rattle.load.proofs.CheckLaws.{RowGood, fields-steps-le, fields-windows-le}
@@ -117,10 +117,11 @@ row-marked load i row good held =
       marked = marked-windows (rowWindows row) (row .steps) (row-well load i row good);
     }
 
-pub row-lines : (load : Load) (i : ℕ) (row : Row) → RowGood load i row → HeldRow row
-    → rowOf (lineOf row) (row .steps) ≡ row
+-- a line carries no class and no head
+pub row-lines : (load : Load) (i : ℕ) (row : Row) → RowGood load i row → HeldRow row → row .class ≡ 0
+    → row .head ≡ onlyHead → rowOf (lineOf row) (row .steps) ≡ row
 unfolding rowOf lineOf
-row-lines load i row good held =
+row-lines load i row good held class head =
     let few : row .windows ≤ mostWindows = fields-windows-le row (good .fields-good) in
     let ws : List Window = rowWindows row in
     let back : windowsOf (λ j. lineOf row j .mark) (row .steps) ≡ ws =
@@ -142,6 +143,8 @@ row-lines load i row good held =
       deadline = row .deadline;
       steps = row .steps;
       windows = (ap length back ∙ count) i;
+      class = sym class i;
+      head = sym head i;
       step = steps i;
       window =
           (ap (λ (l : List Window). l ++ replicate (mostWindows - length l) noWindow) back

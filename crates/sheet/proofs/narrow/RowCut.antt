@@ -28,7 +28,6 @@ use Rattle.load.specs.Load.{
   latestPhase,
   lastMoment,
   largestCost,
-  largestWait,
   largestLimit,
   shown,
   noStep,
@@ -37,7 +36,7 @@ use Rattle.load.specs.Load.{
   windowAt,
 }
 use Rattle.load.specs.View.{chainBetween}
-use Rattle.load.specs.Faults.{outside, mostWait, lastBefore, chainOf, rowTests, stepTests, windowTests}
+use Rattle.load.specs.Faults.{outside, mostWait, stepNumbers, lastBefore, chainOf, rowTests, stepTests, windowTests}
 use Rattle.load.specs.Check.{
   isZeroStep,
   isZeroWindow,
@@ -114,21 +113,18 @@ module _ (row : Row) where
       )
 
   -- what a wait may be fits its field
-  mostWait-lt : (j : ℕ) → mostWait row j < most16
-  mostWait-lt j = go (eqb (shown j) (row .steps))
-    where
-      go : (b : Bool) → cond b 0 largestWait < most16
-      go true = omega arith
-      go false = omega arith
+  mostWait-lt : (isLast : Bool) → mostWait isLast < most16
+  mostWait-lt true = omega arith
+  mostWait-lt false = omega arith
 
   stepTests-cut : (j : ℕ) → stepTests (narrowRow row) j ≡ stepTests row j
   unfolding stepTests narrowRow
   stepTests-cut j =
-      ap (λ s. (outside 1 largestCost (s .cost), OutOfRange) ∷ (ltb (mostWait row j) (s .wait), OutOfRange) ∷ [])
-      (step-cut j)
+      ap (λ s. stepNumbers s (eqb (shown j) (row .steps))) (step-cut j)
       ∙ ap₂ (λ c w. (c, OutOfRange) ∷ (w, OutOfRange) ∷ [])
       (outside-cut most16 (stepAt row j .cost) largestCost (omega arith))
-      (above-cut most16 (stepAt row j .wait) (mostWait row j) (mostWait-lt j))
+      (above-cut most16 (stepAt row j .wait) (mostWait (eqb (shown j) (row .steps)))
+      (mostWait-lt (eqb (shown j) (row .steps))))
 
   pub steps-cut : firstFaultTo (checkStep (narrowRow row)) (row .steps) ≡ firstFaultTo (checkStep row) (row .steps)
   steps-cut =
@@ -158,8 +154,9 @@ module _ (row : Row) where
       step-fits j l =
           let s = stepAt row j in
           let cost = outside-most 1 largestCost (s .cost) (firstMet-good (stepTests row j) (passed j l) 0) in
-          let wait = ltb-false (mostWait row j) (s .wait) (firstMet-good (stepTests row j) (passed j l) 1) in
-          narrowStep-fits s (omega arith) (omega (arith, mostWait-lt j))
+          let most = mostWait (eqb (shown j) (row .steps)) in
+          let wait = ltb-false most (s .wait) (firstMet-good (stepTests row j) (passed j l) 1) in
+          narrowStep-fits s (omega arith) (omega (arith, mostWait-lt (eqb (shown j) (row .steps))))
 
       step-stays : (j : ℕ) → narrowStep (stepAt row j) ≡ stepAt row j
       step-stays j =

@@ -81,6 +81,8 @@ module _ (load : Load) (e : checkLoad load ≡ Good) (i : ℕ) (l : i < load .ro
         deadline-fits = omega (arith, ok .deadline-most i l);
         steps-fit = omega (arith, ok .steps-most i l);
         windows-fit = omega (arith, fields-windows-le (rowAt load i) (good .fields-good));
+        class-fits = omega (arith, ok .class-most i l);
+        head-fits = omega (arith, check-placed load e .head-only i l);
         step-places = steps;
         window-places = windows;
         each-step = held-step;

@@ -1,9 +1,9 @@
 -- Reading then writing: in a sheet that is not refused each row's lines stand where the row begins, one behind the
--- other, so its load is written as the sheet; and that load is held as its types say.
+-- other, so its load is written as the sheet; and that load is held as its types say, with class 0 and head 1.
 use Prim.Native.Nat.{ℕ, suc, _+_, _≤_, _<_}
 use mathlib.Core.Bool.{true}
 use mathlib.Core.List.{List}
-use mathlib.Core.Path.{_≡_, _∙_}
+use mathlib.Core.Path.{_≡_, ap, _∙_}
 use native.Mathlib.Decide.{decLt}
 use native.Mathlib.Omega.{arith}
 use lib.ListN.{length, length-append, length-replicate}
@@ -13,7 +13,9 @@ use Rattle.refusals.specs.declared.Checked.the-variants.{Good}
 use Rattle.load.specs.declared.Row.{Row}
 use Rattle.load.specs.Load.{mostRows, mostSteps, mostWindows, noStep, noRow, zeroRow, rowAt}
 use Rattle.load.specs.Check.{checkLoad}
+use Rattle.load.specs.Plain.{checkPlain}
 use Rattle.load.proofs.CheckLaws.{checkLoad-good, fields-steps-le, fields-windows-le}
+use Rattle.load.proofs.PlainLaws.{good-checkPlain}
 use Rattle.load_file.specs.RoundTrip.{HeldRow, Held}
 use Rattle.load_file.proofs.faults.ZeroLaws.{zeroRow-held}
 use Rattle.sheet_line.specs.Line.{isLine}
@@ -118,6 +120,17 @@ module _ (bs : List ℕ) (good : checkLoad (loadInSheet bs) ≡ Good) where
       good-row-held (loadInSheet bs) good i l
       (rw is (filled-length _ (stepsFrom bs at) mostSteps noStep (rw is at (fields-steps-le _ fields))))
       (rw is (simp (length-append, length-replicate) (omega arith)))
+
+  -- no line carries a class or a head
+  pub read-plain : checkPlain (loadInSheet bs) ≡ Good
+  unfolding loadInSheet rowOf
+  read-plain =
+      good-checkPlain (loadInSheet bs)
+      (record {
+        load-good = good;
+        class-zero = λ i l. ap (λ (row : Row). row .class) (row-used bs i l);
+        head-one = λ i l. ap (λ (row : Row). row .head) (row-used bs i l);
+      })
 
   pub read-held : Held (loadInSheet bs)
   unfolding loadInSheet

@@ -8,7 +8,7 @@ use lib.ListN.{length, replicate}
 use Rattle.counting.proofs.lists.ListLaws.{joinTo-ext, filled-ext}
 use Rattle.counting.proofs.searches.FirstToLaws.{firstTo-ext}
 use Rattle.load.specs.declared.Step.{Step}
-use Rattle.load.specs.Load.{mostSteps, mostWindows, noStep, noWindow}
+use Rattle.load.specs.Load.{mostSteps, mostWindows, onlyHead, noStep, noWindow}
 use Rattle.sheet_line.specs.declared.Mark.{Mark}
 use Rattle.sheet_line.specs.declared.Line.{Line}
 use Rattle.sheet.specs.LineFaults.{isDash}
@@ -45,6 +45,8 @@ module _ (line other : ℕ → Line) (steps : ℕ) (least : 0 < steps)
         deadline = first i .deadline;
         steps = steps;
         windows = length (windows i);
+        class = 0;
+        head = onlyHead;
         step = step i;
         window = windows i ++ replicate (mostWindows - length (windows i)) noWindow;
       }

@@ -10,14 +10,15 @@ use Rattle.refusals.specs.declared.Checked.the-variants.{Good}
 use Rattle.refusals.proofs.FirstFaultLaws.{findingAt, firstFault-good}
 use Rattle.load.specs.declared.Load.{Load}
 use Rattle.load.specs.Check.{checkLoad}
+use Rattle.load.specs.Plain.{checkPlain}
 use Rattle.load_file.specs.RoundTrip.{Held, accepted}
 use Rattle.sheet.specs.LineFaults.{linesFault}
 use Rattle.sheet.specs.SheetRows.{loadInSheet}
 use Rattle.sheet.specs.Reading.{sheetFault, readSheet}
 use Rattle.sheet.specs.Writing.{sheetBytes, mostSheetBytes}
 use Rattle.sheet.specs.SheetTrip.{AcceptedSheet, ExportedLoad, SheetTrip}
-use Rattle.sheet.proofs.trip.ReadSheet.{read-sheet, read-held}
-use Rattle.sheet.proofs.trip.WrittenSheet.{written-load}
+use Rattle.sheet.proofs.trip.ReadSheet.{read-sheet, read-plain, read-held}
+use Rattle.sheet.proofs.trip.WrittenSheet.{exported-plain, written-load}
 use Rattle.sheet.proofs.trip.WrittenLines.{written-lines}
 use Rattle.sheet.proofs.trip.ByteLaws.{sheetBytes-bytes}
 use Rattle.sheet.proofs.marks.RowSize.{sheetBytes-le}
@@ -43,7 +44,11 @@ module _ (bs : List ℕ) (h : sheetFault bs ≡ Good) where
   -- its load is exported to it
   pub accepted-exported : ExportedLoad (loadInSheet bs) bs
   accepted-exported =
-      record { held = read-held bs accepted-good; good = accepted-good; sheet = read-sheet bs (finding 0) }
+      record {
+        held = read-held bs accepted-good;
+        plain = read-plain bs accepted-good;
+        sheet = read-sheet bs (finding 0);
+      }
 
 pub good-readSheet : (bs : List ℕ) (load : Load) → readSheet bs ≡ accepted load → sheetFault bs ≡ Good
 unfolding readSheet
@@ -70,7 +75,7 @@ module _ (bs : List ℕ) (load : Load) (x : ExportedLoad load bs) where
 
   exported-fault : sheetFault bs ≡ Good
   unfolding sheetFault
-  exported-fault = rw (written-lines bs load x, ap checkLoad exported-load ∙ x .good)
+  exported-fault = rw (written-lines bs load x, ap checkLoad exported-load ∙ exported-plain bs load x .load-good)
 
   exported-reads : AcceptedSheet bs load
   exported-reads =
@@ -80,7 +85,7 @@ module _ (bs : List ℕ) (load : Load) (x : ExportedLoad load bs) where
       }
 
   exported-le : length bs ≤ mostSheetBytes
-  exported-le = rw (x .sheet) (sheetBytes-le load (x .good))
+  exported-le = rw (x .sheet) (sheetBytes-le load (exported-plain bs load x .load-good))
 
 pub sheet-trip : SheetTrip
 sheet-trip =
@@ -97,6 +102,6 @@ pub read-write : (bs : List ℕ) (load : Load) → Bytes bs → readSheet bs ≡
 read-write bs load b h = sym (sheet-trip .read-write bs load (record { bytes = b; reads = h }) .sheet)
 
 -- an exported load reads back as itself
-pub write-read : (load : Load) → Held load → checkLoad load ≡ Good → readSheet (sheetBytes load) ≡ accepted load
-write-read load held good =
-    sheet-trip .write-read (sheetBytes load) load (record { held = held; good = good; sheet = refl }) .reads
+pub write-read : (load : Load) → Held load → checkPlain load ≡ Good → readSheet (sheetBytes load) ≡ accepted load
+write-read load held plain =
+    sheet-trip .write-read (sheetBytes load) load (record { held = held; plain = plain; sheet = refl }) .reads

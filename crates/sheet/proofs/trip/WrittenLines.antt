@@ -11,7 +11,6 @@ use Rattle.refusals.specs.declared.Checked.the-variants.{Good}
 use Rattle.refusals.proofs.FirstMetLaws.{good-firstFaultTo}
 use Rattle.load.specs.declared.Load.{Load}
 use Rattle.load.specs.Load.{rowAt}
-use Rattle.load.proofs.CheckLaws.{checkLoad-good}
 use Rattle.sheet_line.specs.Line.{isLine, lineIn}
 use Rattle.sheet_line.specs.LineText.{lineOf}
 use Rattle.sheet.specs.Lines.{linePlace, lineFrom, linesIn}
@@ -31,6 +30,7 @@ use Rattle.sheet.proofs.trip.PlaceLaws.{
 use Rattle.sheet.proofs.trip.LineTests.{next-tests, first-tests}
 use Rattle.sheet.proofs.trip.RowWalk.{row-goes-on, row-begins}
 use Rattle.sheet.proofs.trip.WrittenSheet.{
+  passed,
   place,
   held-row,
   steps-least,
@@ -52,8 +52,7 @@ module _ (bs : List ℕ) (load : Load) (x : ExportedLoad load bs) where
         ap (stepsFrom bs) (place-is bs load x i (omega arith)) ∙ steps-written bs load x i l
 
     marked : RowLines (lineOf (rowAt load i)) (rowAt load i .steps)
-    marked =
-        row-marked load i (rowAt load i) (checkLoad-good load (x .good) .each-row-good i l) (held-row bs load x i l)
+    marked = row-marked load i (rowAt load i) (passed bs load x .each-row-good i l) (held-row bs load x i l)
 
     module _ (j : ℕ) (m : j < rowAt load i .steps) where
       line-place : linePlace bs 0 (rowLine bs i + j) ≡ linePlace bs (place bs load x i) j

@@ -25,6 +25,7 @@ use Rattle.load.specs.View.{viewOf}
 use Rattle.load.specs.Check.{isZeroRow}
 use Rattle.load.proofs.AcceptableLaws.{check-registered, check-acceptable}
 use Rattle.load.proofs.CheckLaws.{LoadGood, checkLoad-good}
+use Rattle.load.proofs.PlainLaws.{PlainGood, checkPlain-good}
 use Rattle.load_file.specs.RoundTrip.{HeldRow}
 use Rattle.load_file.proofs.faults.ZeroLaws.{zero-row}
 use Rattle.sheet_line.specs.Line.{lineIn}
@@ -98,17 +99,20 @@ module _ (bs : List ℕ) (at : ℕ) (row : Row) (held : HeldRow row) (h : Stands
       let inside = line-inside-there last (omega arith) in
       stepsFrom-is bs at (row .steps) least (omega arith) row-goes ends
 
--- the sheet of a load that the check passes, held in memory
+-- the sheet of a load that a sheet can carry, held in memory
 module _ (bs : List ℕ) (load : Load) (x : ExportedLoad load bs) where
-  passed : LoadGood load
-  passed = checkLoad-good load (x .good)
+  pub exported-plain : PlainGood load
+  exported-plain = checkPlain-good load (x .plain)
+
+  pub passed : LoadGood load
+  passed = checkLoad-good load (exported-plain .load-good)
 
   pub held-row : (i : ℕ) → i < load .rows → HeldRow (rowAt load i)
   held-row i l = x .held .each-row i (omega (arith, passed .few-rows))
 
   pub steps-least : (i : ℕ) → i < load .rows → 0 < rowAt load i .steps
   unfolding viewOf
-  steps-least i l = check-acceptable load (x .good) .steps-least i l
+  steps-least i l = check-acceptable load (exported-plain .load-good) .steps-least i l
 
   -- where row i is written
   unfoldable pub place : ℕ → ℕ
@@ -146,7 +150,8 @@ module _ (bs : List ℕ) (load : Load) (x : ExportedLoad load bs) where
             let at : ℕ = place i in
             let there = end-written i l ∙ sym (linePlace-zero bs (place (suc i))) in
             let next = ap (λ at. lineIn bs at .identifier) there ∙ identifier-written (suc i) m in
-            let differ = check-registered load (x .good) .identifiers-differ i (suc i) (omega arith) m in
+            let good = exported-plain .load-good in
+            let differ = check-registered load good .identifiers-differ i (suc i) (omega arith) m in
             let other = ne-eqb (lineFrom bs at (rowAt load i .steps) .identifier) (lineFrom bs at 0 .identifier)
             (λ q. differ (sym (identifier-written i l) ∙ sym q ∙ next)) in
             let past = reachesEnd bs at (rowAt load i .steps) in
@@ -181,7 +186,8 @@ module _ (bs : List ℕ) (load : Load) (x : ExportedLoad load bs) where
       ∙ ap (rowOf (lineFrom bs (place i))) (steps-written i l)
       ∙ rowOf-ext (lineFrom bs (place i)) (lineOf row) (row .steps) (steps-least i l)
       (λ j m. line-written i l j m .says)
-      ∙ row-lines load i row (passed .each-row-good i l) (held-row i l)
+      ∙ row-lines load i row (passed .each-row-good i l) (held-row i l) (exported-plain .class-zero i l)
+      (exported-plain .head-one i l)
 
   all-written : filled (λ i. rowFrom bs (rowPlace bs i)) (rowsIn bs) mostRows zeroRow ≡ load .row
   all-written =

@@ -8,7 +8,7 @@ use Rattle.counting.specs.Lists.{joinTo, listTo, filled}
 use Rattle.load.specs.declared.Step.{Step}
 use Rattle.load.specs.declared.Window.{Window}
 use Rattle.load.specs.declared.Row.{Row}
-use Rattle.load.specs.Load.{mostSteps, mostWindows, noStep, noWindow, zeroRow}
+use Rattle.load.specs.Load.{mostSteps, mostWindows, onlyHead, noStep, noWindow, zeroRow}
 use Rattle.sheet_line.specs.declared.Line.{Line}
 use Rattle.sheet.specs.SheetRows.{windowsOf, rowOf, windowPlaces}
 use Rattle.sheet.specs.inner.Narrow.{most32, orZero, narrowStep, narrowWindow, narrowRow, keptRow}
@@ -50,6 +50,8 @@ module _ (line : ℕ → Line) (steps : ℕ) where
         deadline = orZero most32 (line 0 .deadline);
         steps = steps;
         windows = count;
+        class = 0;
+        head = onlyHead;
         step = step;
         window = window;
       }

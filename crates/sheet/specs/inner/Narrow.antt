@@ -66,6 +66,8 @@ narrowRow row =
       deadline = orZero most32 (row .deadline);
       steps = row .steps;
       windows = row .windows;
+      class = row .class;
+      head = row .head;
       step = map narrowStep (row .step);
       window = map narrowWindow (row .window);
     }

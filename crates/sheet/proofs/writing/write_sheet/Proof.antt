@@ -1,5 +1,5 @@
--- `sheet::writing::write_sheet` gives what the check refuses, then 9 where the sheet has no room, which it measures
--- first; else the sheet that was written over the front is the sheet with the rest of the output behind it.
+-- `sheet::writing::write_sheet` gives what the check of a plain load refuses, then 9 where the sheet has no room, which
+-- it measures first; else the sheet that was written over the front is the sheet with the rest of the output behind it.
 use Prim.Native.Nat.{_≤_}
 use mathlib.Core.Path.{_≡_, refl, sym, _∙_}
 use native.Mathlib.Omega.{arith}
@@ -9,9 +9,15 @@ use Rattle.words.proofs.OverwriteLaws.{sets-front}
 use Rattle.refusals.specs.declared.Checked.the-variants.{Good}
 use Rattle.refusals.proofs.GivenLaws.{refused-given, short-given, written-given}
 use Rattle.load.specs.Check.{checkLoad}
+use Rattle.load.specs.Plain.{checkPlain}
+use Rattle.load.proofs.PlainLaws.{checkPlain-good}
 use Rattle.sheet.specs.Writing.{sheetBytes}
 use Rattle.sheet.proofs.writing.write_sheet.Statement.{statement}
 use Rattle.sheet.proofs.writing.write_sheet.Tie as tie
+
+-- the check found nothing
+is-plain : (c : tie.After-enum-told) → checkPlain (c .before .before .before .before .args .load) ≡ Good
+is-plain c = sym (search needs) ∙ c .enum-told .given .1
 
 is-refused : tie.Need-returns
 is-refused c =
@@ -19,13 +25,14 @@ is-refused c =
     let start = a .before .before .args in
     record {
       given =
-          refused-given (checkLoad (start .load)) (sheetBytes (start .load)) (start .out .now) _
-          (sym (a .check-load .ensures) ∙ c .before .refusal .given .1);
+          refused-given (checkPlain (start .load)) (sheetBytes (start .load)) (start .out .now) _
+          (sym (search needs) ∙ c .before .refusal .given .1);
       length-is = refl;
     }
 
+-- what writing the rows asks
 is-good : (c : tie.After-enum-told) → checkLoad (c .before .before .before .before .args .load) ≡ Good
-is-good c = sym (c .before .before .check-load .ensures) ∙ c .enum-told .given .1
+is-good c = checkPlain-good (c .before .before .before .before .args .load) (is-plain c) .load-good
 
 is-short : tie.Need-returns-2
 is-short c =
@@ -34,7 +41,7 @@ is-short c =
     let start = a .before .before .before .before .args in
     record {
       given =
-          short-given (checkLoad (start .load)) (sheetBytes (start .load)) (start .out .now) (is-good a)
+          short-given (checkPlain (start .load)) (sheetBytes (start .load)) (start .out .now) (is-plain a)
           (omega (arith, measured .write-rows .ensures .0));
       length-is = refl;
     }
@@ -51,7 +58,7 @@ is-written c =
     omega (arith, fits .if1 .left, measured .write-rows .ensures .0) in
     record {
       given =
-          written-given (checkLoad (start .load)) sheet (start .out .now) _ (is-good a) room
+          written-given (checkPlain (start .load)) sheet (start .out .now) _ (is-plain a) room
           (put .write-rows2 .ensures .1 ∙ sets-front (start .out .now) sheet room);
       length-is = put .write-rows2 .ensures .0;
     }
