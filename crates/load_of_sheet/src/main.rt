@@ -1,12 +1,13 @@
 // The program that makes load files: reads a route sheet from standard input, and writes the file
-// of its load. A sheet that is too long, or refused, writes nothing, and is told on standard
-// error. A failed read counts as the input's end; a failed write is said on standard error.
+// of its load in version 1, which carries all that a sheet does. A sheet that is too long, or
+// refused, writes nothing, and is told on standard error. A failed read counts as the input's end;
+// a failed write is said on standard error.
 use libc::STDERR_FILENO;
 use libc::STDIN_FILENO;
 use libc::STDOUT_FILENO;
 use load_records::MOST_FILE_BYTES;
-use load_records::file_size;
-use load_records::write_load;
+use load_records::version_1_size;
+use load_records::write_version_1;
 use refusals::Checked;
 use refusals::Written;
 use refusals::number_given;
@@ -38,7 +39,7 @@ fn is_long(size: usize) -> bool
     size > MOST_INPUT_BYTES
 }
 
-// Makes the file of a sheet's load, in a room that is large enough for every file.
+// Makes the version 1 file of a sheet's load, in a room that is large enough for every file.
 fn answer(sheet: &[u8], file: &mut [u8]) -> Written
     requires { ⌜ mostFileBytes ≤ length (now file) ⌝ }
     ensures { λ r. ⌜ Answer (now (sheet .entry)) (now (file .entry)) r (now (file .exit)) ⌝ }
@@ -48,8 +49,8 @@ fn answer(sheet: &[u8], file: &mut [u8]) -> Written
     let load = reading.load;
     match found {
         Checked::Good => Written {
-            answer: write_load(load, file),
-            length: file_size(load),
+            answer: write_version_1(load, file),
+            length: version_1_size(load),
         },
         Checked::Refused(refusal) => Written {
             answer: Checked::Refused(refusal),

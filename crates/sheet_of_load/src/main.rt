@@ -1,6 +1,7 @@
 // The program that makes route sheets: reads a load file from standard input, and writes the sheet
-// of its load. A file that is too long, or refused, writes nothing, and is told on standard error.
-// A failed read counts as the input's end; a failed write is said on standard error.
+// of its load. A file that is too long, or refused, or has a class that is not 0, which no sheet
+// carries, writes nothing, and is told on standard error. A failed read counts as the input's end;
+// a failed write is said on standard error.
 use libc::STDERR_FILENO;
 use libc::STDIN_FILENO;
 use libc::STDOUT_FILENO;
@@ -37,7 +38,8 @@ fn is_long(size: usize) -> bool
     size > MOST_INPUT_BYTES
 }
 
-// Makes the sheet of a file's load, in a room that is large enough for every sheet.
+// Makes the sheet of a file's load, in a room that is large enough for every sheet. Refuses with
+// the file's own numbers, then with 22.
 fn answer(file: &[u8], sheet: &mut [u8]) -> Written
     requires { ⌜ mostSheetBytes ≤ length (now sheet) ⌝ }
     ensures { λ r. ⌜ Answer (now (file .entry)) (now (sheet .entry)) r (now (sheet .exit)) ⌝ }

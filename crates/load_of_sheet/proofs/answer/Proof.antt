@@ -1,5 +1,5 @@
 -- `load_of_sheet::answer` writes the file of a load that was accepted, which has passed its check: so it has no more
--- bytes than the longest file, for which there is room.
+-- bytes than the longest file, for which there is room. Version 1 carries it, since it is a sheet's.
 use Prim.Native.Nat.{ℕ, _≤_}
 use mathlib.Core.List.{List}
 use mathlib.Core.Path.{_≡_, refl, ap, sym, _∙_}
@@ -12,11 +12,12 @@ use Rattle.refusals.specs.declared.Checked.the-variants.{Good, Refused}
 use Rattle.refusals.proofs.GivenLaws.{ifGood-good, enough-given, refused-given}
 use Rattle.load_records.specs.Records.{mostFileBytes}
 use Rattle.load_records.specs.Writing.{loadBytes}
-use Rattle.load_records.specs.Calls.{FileSize, WriteLoad}
+use Rattle.load_records.specs.Calls.{Version1Size, WriteVersion1}
 use Rattle.load_records.proofs.LengthLaws.{loadBytes-le}
 use Rattle.load_file.specs.declared.Reading.{Reading}
 use Rattle.sheet.specs.SheetRows.{loadInSheet}
 use Rattle.sheet.specs.Reading.{sheetFault, readSheet}
+use Rattle.sheet.proofs.trip.ReadSheet.{read-plain}
 use Rattle.sheet.proofs.trip.SheetTrip.{accepted-good}
 use Rattle.load_of_sheet.specs.Program.{Answer}
 use Rattle.load_of_sheet.proofs.answer.Statement.{statement}
@@ -37,27 +38,28 @@ module _ (bs out : List ℕ) (r : Reading) (e : r ≡ readSheet bs) where
       let fault = sym (fault-is bs r e) ∙ refused in
       record {
         writes-out = record {
-          given = refused-given (sheetFault bs) (loadBytes (loadInSheet bs)) out refusal fault;
+          given = refused-given (sheetFault bs) (loadBytes 1 (loadInSheet bs)) out refusal fault;
           length-is = refl;
         };
         never-short = sym fault;
       }
 
   is-written : r .answer ≡ Good → mostFileBytes ≤ length out → (found : Checked) (size : ℕ) (after : List ℕ)
-      → WriteLoad (r .load) out found after → FileSize (r .load) size
+      → WriteVersion1 (r .load) out found after → Version1Size (r .load) size
       → Answer bs out (record { answer = found; length = size }) after
   is-written accepted room found size after wrote sized =
       let fault = sym (fault-is bs r e) ∙ accepted in
       let good = accepted-good bs fault in
       let load = load-is bs r e fault in
-      let given = rw (load, good) at wrote in
-      let file = loadBytes (loadInSheet bs) in
-      let fits = loadBytes-le (loadInSheet bs) good in
+      let plain = read-plain bs good in
+      let given = rw (load, plain) at wrote in
+      let file = loadBytes 1 (loadInSheet bs) in
+      let fits = loadBytes-le 1 (loadInSheet bs) good in
       let found-is = enough-given Good found file out after (omega arith) given in
       record {
         writes-out = record {
           given = rw fault given;
-          length-is = rw (load, good) at sized ∙ sym (ifGood-good found (length file) 0 found-is);
+          length-is = rw (load, plain) at sized ∙ sym (ifGood-good found (length file) 0 found-is);
         };
         never-short = found-is ∙ sym fault;
       }
@@ -68,7 +70,7 @@ returns c =
     let told = wrote .before .before in
     let read = told .before .before .before in
     is-written _ _ _ (read .read-sheet .ensures) (told .enum-told .given .1) (search needs) _ _ _
-    (wrote .write-load .ensures) (c .file-size .ensures)
+    (wrote .write-version-1 .ensures) (c .version-1-size .ensures)
 
 returns-2 : tie.Need-returns-2
 returns-2 c =
