@@ -15,4 +15,5 @@ worked-bench =
       no-shape = refl;
       clock-full = refl;
       starts = refl;
+      urgent = refl;
     }

@@ -14,7 +14,7 @@ use Rattle.refusals.specs.declared.Refusal.the-variants.{
 }
 use Rattle.load.specs.declared.Load.{Load}
 use Rattle.load.specs.Load.{mostRows}
-use Rattle.load.specs.Notation.{_w_, window, padded, row, loadOf}
+use Rattle.load.specs.Notation.{_w_, window, padded, classed, row, loadOf}
 use Rattle.rules.specs.declared.Outcome.the-variants.{Start, Refused}
 use Rattle.rules.specs.WorkedStates.{slot}
 use Rattle.bench.specs.declared.Bench.{Bench}
@@ -70,4 +70,15 @@ pub record WorkedBench : Type 0 where
         outcome = Start (slot 4 1 1);
         lamps = 1;
         count = 1;
+      }
+  -- of two first steps that of the higher class starts
+  pub urgent :
+      nextMove
+      (loadOf (row 1 (2 w 0 ∷ []) [] ∷ classed 1 1 (row 2 (1 w 0 ∷ []) []) ∷ []))
+      (bench 4 [] [] [])
+      ≡ record {
+        bench = bench 5 (0 ∷ 1 ∷ []) (0 ∷ 5 ∷ []) [];
+        outcome = Start (slot 4 2 1);
+        lamps = 0;
+        count = 0;
       }

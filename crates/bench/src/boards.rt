@@ -1,8 +1,10 @@
-// The board of a load and its bench: every row looked up once; and a row looked up anew at a start.
+// The board of a load and its bench, and the classes of the rows: every row looked up once; and a
+// row looked up anew at a start.
 use crate::Bench;
 use crate::Started;
 use crate::state::end_of;
 use load::Load;
+use load::MOST_ROWS;
 use load::Row;
 use plan::COUNT_PLACES;
 use plan::LENGTH_PLACES;
@@ -16,6 +18,7 @@ use rules::Slot;
 ghost use mathlib.Core.Path.{_≡_};
 ghost use mathlib.Core.Bool.{true};
 ghost use Prim.Native.Nat.{ℕ, _≤_, _<_};
+ghost use lib.ListN.{length};
 ghost use Rattle.counting.specs.Sums.{sumTo};
 ghost use Rattle.counting.specs.Lists.{memberAt};
 ghost use Rattle.refusals.specs.declared.Checked.the-variants.{Good};
@@ -27,31 +30,35 @@ ghost use Rattle.plan.specs.Looks.{lookBy};
 ghost use Rattle.plan.specs.Boards.{numbersFrom, boardIn};
 ghost use Rattle.plan.specs.Calls.{PutLook};
 ghost use Rattle.bench.specs.Held.{stateOf};
-ghost use Rattle.bench.specs.inner.Boards.{Placed, Shows};
+ghost use Rattle.bench.specs.inner.Boards.{Placed, Shows, ClassesOf};
 ghost use Rattle.bench.specs.inner.Moves.{slotOf};
 ghost use Rattle.bench.specs.inner.Running.{CanStart, RowStarted};
 
 // Looks up every row of a load that was checked, for a bench that has its shape, and puts each look
-// in the row's places.
+// and each class in the row's places.
 pub fn fill_board(
     load: Load,
     bench: Bench,
     counts: &mut [u8; COUNT_PLACES],
     lengths: &mut [u16; LENGTH_PLACES],
     moments: &mut [u32; MOMENT_PLACES],
+    classes: &mut [u8; MOST_ROWS],
 )
     requires { ⌜ checkLoad load ≡ Good ⌝ }
     requires { ⌜ shaped (viewOf load) (stateOf bench) ≡ true ⌝ }
     requires { ⌜ Placed (now counts) (now lengths) (now moments) ⌝ }
+    requires { ⌜ length (now classes) ≡ mostRows ⌝ }
     ensures { λ r. ⌜ Shows load bench (boardIn
         (now (counts .exit)) (now (lengths .exit)) (now (moments .exit))) ⌝ }
     ensures { λ r. ⌜ Placed (now (counts .exit)) (now (lengths .exit)) (now (moments .exit)) ⌝ }
+    ensures { λ r. ⌜ ClassesOf load (load .rows) (now (classes .exit)) ⌝ }
 {
     let rows = load.rows as usize;
     for i in 0..rows {
         let row = load.row[i];
         let look = look_of(row, bench.finished[i], bench.end[i], bench.opening[i]);
         put_look(counts, lengths, moments, i, look);
+        classes[i] = row.class;
     }
 }
 

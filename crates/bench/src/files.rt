@@ -3,6 +3,7 @@
 use crate::boards::fresh_row;
 use crate::boards::start_row;
 use crate::boards::steps_of;
+use load::MOST_ROWS;
 use load_file::read_load;
 use plan::COUNT_PLACES;
 use plan::LENGTH_PLACES;
@@ -35,9 +36,11 @@ pub fn write_run(bytes: &[u8], out: &mut [u8]) -> Checked
     let mut counts = [0; COUNT_PLACES];
     let mut lengths = [0; LENGTH_PLACES];
     let mut moments = [0; MOMENT_PLACES];
+    let mut classes = [0; MOST_ROWS];
     for i in 0..rows {
         let row = load.row[i];
         fresh_row(row, i, &mut counts, &mut lengths, &mut moments);
+        classes[i] = row.class;
     }
     let steps = steps_of(&counts, rows);
     let room = check_room(steps, out.len());
@@ -47,7 +50,7 @@ pub fn write_run(bytes: &[u8], out: &mut [u8]) -> Checked
     overwrite(out, 0, &head_record(steps));
     let mut clock: u32 = 0;
     for k in 0..steps {
-        let next = next_start(&counts, &lengths, &moments, clock, rows);
+        let next = next_start(&counts, &lengths, &moments, &classes, clock, rows);
         let i = next.row;
         let row = load.row[i];
         let started = start_row(row, i, next.moment, &mut counts, &mut lengths, &mut moments);

@@ -8,6 +8,7 @@ use crate::lamps::lamp_word;
 use crate::shape::has_shape;
 use load::LAST_MOMENT;
 use load::Load;
+use load::MOST_ROWS;
 use load::check_load;
 use plan::COUNT_PLACES;
 use plan::FINISHED;
@@ -86,7 +87,15 @@ fn move_shaped(load: Load, bench: Bench) -> Moved
     let mut counts = [0; COUNT_PLACES];
     let mut lengths = [0; LENGTH_PLACES];
     let mut moments = [0; MOMENT_PLACES];
-    fill_board(load, bench, &mut counts, &mut lengths, &mut moments);
+    let mut classes = [0; MOST_ROWS];
+    fill_board(
+        load,
+        bench,
+        &mut counts,
+        &mut lengths,
+        &mut moments,
+        &mut classes,
+    );
     let rows = load.rows as usize;
     let clock = bench.clock;
     if all_finished(&counts, rows) {
@@ -95,7 +104,7 @@ fn move_shaped(load: Load, bench: Bench) -> Moved
     if LAST_MOMENT <= clock {
         return refused(bench, Refusal::ClockFull);
     }
-    let i = chosen_row(&counts, &lengths, &moments, clock, rows);
+    let i = chosen_row(&counts, &lengths, &moments, &classes, clock, rows);
     if rows <= i {
         return handed(bench.idle(), Outcome::Idle, &counts, rows);
     }

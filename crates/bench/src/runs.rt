@@ -6,6 +6,7 @@ use crate::boards::start_row;
 use crate::boards::steps_of;
 use crate::state::fresh;
 use load::Load;
+use load::MOST_ROWS;
 use load::check_load;
 use plan::COUNT_PLACES;
 use plan::LENGTH_PLACES;
@@ -40,12 +41,20 @@ fn run_checked(load: Load) -> Ran
     let mut counts = [0; COUNT_PLACES];
     let mut lengths = [0; LENGTH_PLACES];
     let mut moments = [0; MOMENT_PLACES];
-    fill_board(load, fresh(), &mut counts, &mut lengths, &mut moments);
+    let mut classes = [0; MOST_ROWS];
+    fill_board(
+        load,
+        fresh(),
+        &mut counts,
+        &mut lengths,
+        &mut moments,
+        &mut classes,
+    );
     let steps = steps_of(&counts, rows);
     let mut clock: u32 = 0;
     let mut slots = [NO_SLOT; SLOT_PLACES];
     for k in 0..steps {
-        let next = next_start(&counts, &lengths, &moments, clock, rows);
+        let next = next_start(&counts, &lengths, &moments, &classes, clock, rows);
         let i = next.row;
         let row = load.row[i];
         let started = start_row(row, i, next.moment, &mut counts, &mut lengths, &mut moments);

@@ -44,26 +44,27 @@ pub OpeningAfter-unique : (stays opened : Bool) (opening clock r s : ℕ) → Op
     → OpeningAfter stays opened opening clock s → r ≡ s
 OpeningAfter-unique stays opened opening clock r s p q = p ∙ sym q
 
-pub ChosenRow-unique : (board : Board) (clock rows r s : ℕ) → ChosenRow board clock rows r
-    → ChosenRow board clock rows s → r ≡ s
-ChosenRow-unique board clock rows r s p q = p ∙ sym q
+pub ChosenRow-unique : (board : Board) (classes : List ℕ) (clock rows r s : ℕ) → ChosenRow board classes clock rows r
+    → ChosenRow board classes clock rows s → r ≡ s
+ChosenRow-unique board classes clock rows r s p q = p ∙ sym q
 
 -- what starts next, and when, is one row and one moment
-pub NextStart-unique : (board : Board) (clock rows : ℕ) (r s : Chosen) → NextStart board clock rows r
-    → NextStart board clock rows s → r ≡ s
-NextStart-unique board clock rows r s p q =
+pub NextStart-unique : (board : Board) (classes : List ℕ) (clock rows : ℕ) (r s : Chosen)
+    → NextStart board classes clock rows r → NextStart board classes clock rows s → r ≡ s
+NextStart-unique board classes clock rows r s p q =
     let last = min rows mostRows in
     let moment : r .moment ≡ s .moment = p .0 ∙ sym (q .0) in
-    let row : r .row ≡ s .row = p .1 ∙ (ap (λ t. rowOr last (chosenIn board t last)) moment ∙ sym (q .1)) in
+    let row : r .row ≡ s .row = p .1 ∙ (ap (λ t. rowOr last (chosenIn board classes t last)) moment ∙ sym (q .1)) in
     λ i. record { row = row i; moment = moment i }
 
 -- and there always is such a row, or none, and such a moment
-pub nextStart : Board → ℕ → ℕ → Chosen
-nextStart board clock rows =
+pub nextStart : Board → List ℕ → ℕ → ℕ → Chosen
+nextStart board classes clock rows =
     let last = min rows mostRows in
-    let moment = nextMoment board clock last in
-    record { row = rowOr last (chosenIn board moment last); moment = moment }
+    let moment = nextMoment board classes clock last in
+    record { row = rowOr last (chosenIn board classes moment last); moment = moment }
 
-pub NextStart-met : (board : Board) (clock rows : ℕ) → NextStart board clock rows (nextStart board clock rows)
+pub NextStart-met : (board : Board) (classes : List ℕ) (clock rows : ℕ)
+    → NextStart board classes clock rows (nextStart board classes clock rows)
 unfolding nextStart
-NextStart-met board clock rows = (refl, refl)
+NextStart-met board classes clock rows = (refl, refl)

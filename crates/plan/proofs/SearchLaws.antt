@@ -1,7 +1,8 @@
--- The search by step number and row: what has been passed over, and what is chosen then; and the lowest unfinished
--- step, which tells whether every row has finished all its steps of lower number.
+-- The search by step number, class and row: what has been passed over, and what is chosen then; and the lowest
+-- unfinished step, which tells whether every row has finished all its steps of lower number.
 use Prim.Native.Nat.{ℕ, _+_, min, _≤_, _<_}
 use mathlib.Core.Bool.{Bool, true, false, _&&_, _||_}
+use mathlib.Core.List.{List}
 use mathlib.Core.Path.{_≡_, refl, ap, sym, _∙_, subst}
 use native.Mathlib.Decide.{decLt}
 use native.Mathlib.Omega.{arith}
@@ -9,17 +10,19 @@ use borrow.Author.Tests.{ltb-true, leb-true, le-leb, lt-leb}
 use lib.Dec.{leb, ltb}
 use Rattle.counting.specs.Sums.{allTo}
 use Rattle.counting.specs.Lists.{memberAt, numbersWhere}
-use Rattle.counting.specs.Sorting.{byKey}
-use Rattle.counting.specs.Searches.{Found, at, none}
+use Rattle.counting.specs.Sorting.{byKeys}
+use Rattle.counting.specs.Searches.{Found, at, none, found}
 use Rattle.counting.proofs.tests.TestLaws.{and-left, and-right, allTo-true, true-false}
 use Rattle.counting.proofs.sorting.SortLaws.{Every-sorted}
+use Rattle.counting.proofs.sorting.KeysLaws.{rank, sorted-rank, precedes-rank}
 use Rattle.counting.proofs.lists.EveryLaws.{every-numbersWhere, found-at}
 use Rattle.counting.proofs.searches.SelectionLaws.{found-least, found-nothing}
-use Rattle.load.specs.Load.{mostRows, mostSteps, lastMoment}
+use Rattle.load.specs.Load.{mostRows, mostSteps, lastMoment, mostClass}
 use Rattle.plan.specs.declared.Look.{Look}
 use Rattle.plan.specs.Boards.{Board, lookIn}
-use Rattle.plan.specs.Choices.{belowIn, candidateBy, candidateIn, openingBy, passesIn, chosenIn, rowOr}
+use Rattle.plan.specs.Choices.{belowIn, candidateBy, candidateIn, openingBy, passesIn, turnIn, chosenIn, rowOr}
 use Rattle.plan.specs.Calls.{ChosenRow}
+use Rattle.plan.specs.inner.Turns.{PassedRows}
 
 -- a row that has finished all its steps lowers nothing
 pub lower-finished : (j lowest finished steps : ℕ) → steps ≤ finished
@@ -104,14 +107,6 @@ module _ (board : Board) (clock rows : ℕ) where
   abbrev pub PassedRow : ℕ → Type 0
   PassedRow k = candidateIn board clock rows k ≡ true → passesIn board clock rows k ≡ false
 
-  -- every row whose next step has a lower number is passed over
-  abbrev pub PassedSteps : ℕ → Type 0
-  PassedSteps step = (k : ℕ) → k < rows → lookIn board k .finished < step → PassedRow k
-
-  -- and so are the first i rows with that number
-  abbrev pub PassedRows : ℕ → ℕ → Type 0
-  PassedRows step i = (k : ℕ) → k < i → lookIn board k .finished ≡ step → PassedRow k
-
   -- below the lowest unfinished step no row has a step left
   module _ (lowest : ℕ) (known : (j : ℕ) → j ≤ mostSteps → allTo (belowIn board j) rows ≡ leb j lowest) (k : ℕ)
       (l : k < rows) where
@@ -135,29 +130,49 @@ module _ (board : Board) (clock rows : ℕ) where
     pub candidate-from : candidateIn board clock rows k ≡ true → lowest ≤ lookIn board k .finished
     candidate-from c = unfinished-from (candidate-more (lookIn board k) clock _ c)
 
-  -- the first that is not passed over is chosen
-  pub first-chosen : (step i : ℕ) → i < rows → PassedSteps step → PassedRows step i
-      → lookIn board i .finished ≡ step → candidateIn board clock rows i ≡ true
-      → passesIn board clock rows i ≡ true → chosenIn board clock rows ≡ at i
-  unfolding chosenIn
-  first-chosen step i l h g e c p =
-      found-least (memberAt (board .finished)) (candidateIn board clock rows) (passesIn board clock rows) rows i l c p
-      (λ k b ck pk. record {
-        keys = elim (decLt (lookIn board k .finished) step) [
-          | yes q ↦ absurd (true-false (passesIn board clock rows k) pk (h k b q ck))
-          | no q ↦ omega arith
-        ];
-        ties = λ s. elim (decLt k i) [
-          | yes q ↦ absurd (true-false (passesIn board clock rows k) pk (g k q (sym s ∙ e) ck))
-          | no q ↦ omega arith
-        ];
-      })
+  module _ (classes : List ℕ) where
+    -- by step number and class is by one rank
+    abbrev ranked : ℕ → ℕ
+    ranked = rank mostClass (memberAt (board .finished)) (turnIn classes)
 
-  -- nothing is chosen where every row is passed over
-  pub none-chosen : ((k : ℕ) → k < rows → PassedRow k) → chosenIn board clock rows ≡ none
-  unfolding chosenIn
-  none-chosen h =
-      found-nothing (memberAt (board .finished)) (candidateIn board clock rows) (passesIn board clock rows) rows h
+    turn-most : (k : ℕ) → turnIn classes k ≤ mostClass
+    turn-most k = omega arith
+
+    -- the first that is not passed over is chosen
+    pub first-chosen : (number turn next i : ℕ) → PassedRows board classes rows number turn next i clock → turn < next
+        → i < rows → lookIn board i .finished ≡ number → turnIn classes i ≡ turn → candidateIn board clock rows i ≡ true
+        → passesIn board clock rows i ≡ true → chosenIn board classes clock rows ≡ at i
+    unfolding chosenIn
+    first-chosen number turn next i p later l e f c q =
+        ap (found (passesIn board clock rows))
+        (sorted-rank (memberAt (board .finished)) (turnIn classes) mostClass turn-most _)
+        ∙ found-least ranked (candidateIn board clock rows) (passesIn board clock rows) rows i l c q
+        (λ k b ck pk. precedes-rank (memberAt (board .finished)) (turnIn classes) mostClass turn-most i k
+        (record {
+          firsts = elim (decLt (lookIn board k .finished) number) [
+            | yes h ↦ absurd (true-false (passesIn board clock rows k) pk (p .to .steps k b h ck))
+            | no h ↦ omega (arith, e)
+          ];
+          seconds = λ s. elim (decLt (turnIn classes k) turn) [
+            | yes h ↦ absurd (true-false (passesIn board clock rows k) pk (p .to .turns k b (sym s ∙ e) h ck))
+            | no h ↦ omega (arith, f)
+          ];
+          ties = λ s v. elim (decLt k i) [
+            | yes h ↦
+                absurd
+                (true-false (passesIn board clock rows k) pk
+                (p .row k h (sym s ∙ e) (omega (arith, v, f, later)) ck))
+            | no h ↦ omega arith
+          ];
+        }))
+
+    -- nothing is chosen where every row is passed over
+    pub none-chosen : ((k : ℕ) → k < rows → PassedRow k) → chosenIn board classes clock rows ≡ none
+    unfolding chosenIn
+    none-chosen h =
+        ap (found (passesIn board clock rows))
+        (sorted-rank (memberAt (board .finished)) (turnIn classes) mostClass turn-most _)
+        ∙ found-nothing ranked (candidateIn board clock rows) (passesIn board clock rows) rows h
 
   -- a candidate, by the lowest unfinished step
   pub candidate-is : (i step lowest : ℕ) → lookIn board i .finished ≡ step
@@ -185,30 +200,34 @@ module _ (board : Board) (clock rows : ℕ) where
       ∙ rw h
 
   -- what is chosen is a row, and its next step a candidate
-  pub chosen-there : (i : ℕ) → chosenIn board clock rows ≡ at i → (i < rows) × (candidateIn board clock rows i ≡ true)
+  pub chosen-there : (classes : List ℕ) (i : ℕ) → chosenIn board classes clock rows ≡ at i
+      → (i < rows) × (candidateIn board clock rows i ≡ true)
   unfolding chosenIn
-  chosen-there i e =
+  chosen-there classes i e =
       found-at (λ k. (k < rows) × (candidateIn board clock rows k ≡ true)) (passesIn board clock rows) _ i
-      (Every-sorted (byKey (memberAt (board .finished))) _ (numbersWhere (candidateIn board clock rows) rows)
+      (Every-sorted (byKeys (memberAt (board .finished)) (turnIn classes)) _
+      (numbersWhere (candidateIn board clock rows) rows)
       (every-numbersWhere _ (candidateIn board clock rows) rows (λ k l c. (l, c))))
       e
       .0
 
   -- what the search gives
-  module _ (most : rows ≤ mostRows) (r : ℕ) (s : ChosenRow board clock rows r) where
-    given : r ≡ rowOr rows (chosenIn board clock rows)
-    given = let e : min rows mostRows ≡ rows = omega arith in subst (λ n. r ≡ rowOr n (chosenIn board clock n)) e s
+  module _ (classes : List ℕ) (most : rows ≤ mostRows) (r : ℕ) (s : ChosenRow board classes clock rows r) where
+    given : r ≡ rowOr rows (chosenIn board classes clock rows)
+    given =
+        let e : min rows mostRows ≡ rows = omega arith in
+        subst (λ n. r ≡ rowOr n (chosenIn board classes clock n)) e s
 
-    pub search-row : r < rows → chosenIn board clock rows ≡ at r
-    search-row l = go (chosenIn board clock rows) refl
+    pub search-row : r < rows → chosenIn board classes clock rows ≡ at r
+    search-row l = go (chosenIn board classes clock rows) refl
       where
-        go : (f : Found) → chosenIn board clock rows ≡ f → chosenIn board clock rows ≡ at r
+        go : (f : Found) → chosenIn board classes clock rows ≡ f → chosenIn board classes clock rows ≡ at r
         go (at i) e = e ∙ ap at (sym (given ∙ ap (rowOr rows) e))
         go none e = absurd (omega (arith, given ∙ ap (rowOr rows) e))
 
-    pub search-none : rows ≤ r → chosenIn board clock rows ≡ none
-    search-none l = go (chosenIn board clock rows) refl
+    pub search-none : rows ≤ r → chosenIn board classes clock rows ≡ none
+    search-none l = go (chosenIn board classes clock rows) refl
       where
-        go : (f : Found) → chosenIn board clock rows ≡ f → chosenIn board clock rows ≡ none
-        go (at i) e = absurd (omega (arith, given ∙ ap (rowOr rows) e, chosen-there i e .0))
+        go : (f : Found) → chosenIn board classes clock rows ≡ f → chosenIn board classes clock rows ≡ none
+        go (at i) e = absurd (omega (arith, given ∙ ap (rowOr rows) e, chosen-there classes i e .0))
         go none e = e

@@ -40,6 +40,11 @@ choices-hold =
       none-there = refl;
       rows-past = refl;
       steps-past = refl;
+      higher-class-first = refl;
+      row-within-class = refl;
+      urgent-not-ready = refl;
+      step-before-class = refl;
+      class-past = refl;
     }
 
 pub starts-hold : WorkedStarts
@@ -56,4 +61,6 @@ starts-hold =
       refused-own = (refl, refl);
       refused-behind = (refl, refl);
       refused-tie = (refl, refl);
+      urgent-first = (refl, refl);
+      sooner-first = (refl, refl);
     }

@@ -1,6 +1,7 @@
 -- What each public call's contract says: one relation a call, over what it takes and what it gives.
--- Numbers may be any: a number of rows past 24 is 24, `look_of` takes steps and moments past the
--- last as the last, and all else is taken as it is. To be read after Choices. Rests on D79.
+-- Numbers may be any: a number of rows past 24 is 24, a class above 3 is as 3, `look_of` takes
+-- steps and moments past the last as the last, and all else is taken as it is. To be read after
+-- Choices. Rests on D79.
 use Prim.Native.Nat.{ℕ, min}
 use mathlib.Core.Bool.{Bool, cond}
 use mathlib.Core.List.{List}
@@ -42,15 +43,15 @@ PutLook counts lengths moments i look counts′ lengths′ moments′ =
 abbrev pub OpeningAfter : Bool → Bool → ℕ → ℕ → ℕ → Type 0
 OpeningAfter stays opened opening clock r = r ≡ openingBy stays opened opening clock
 
--- chosen_row(board, clock, rows): the row of the first candidate that passes, and the number of
--- rows, at most 24, where none does
-abbrev pub ChosenRow : Board → ℕ → ℕ → ℕ → Type 0
-ChosenRow board clock rows r =
-    r ≡ rowOr (min rows mostRows) (chosenIn board clock (min rows mostRows))
+-- chosen_row(board, classes, clock, rows): the row of the first candidate that passes, and the
+-- number of rows, at most 24, where none does
+abbrev pub ChosenRow : Board → List ℕ → ℕ → ℕ → ℕ → Type 0
+ChosenRow board classes clock rows r =
+    r ≡ rowOr (min rows mostRows) (chosenIn board classes clock (min rows mostRows))
 
--- next_start(board, clock, rows): the row whose next step starts next, and when: the first moment
--- from the clock on at which a candidate passes, and the row that is chosen there
-abbrev pub NextStart : Board → ℕ → ℕ → Chosen → Type 0
-NextStart board clock rows r =
-    (r .moment ≡ nextMoment board clock (min rows mostRows))
-    × ChosenRow board (r .moment) rows (r .row)
+-- next_start(board, classes, clock, rows): the row whose next step starts next, and when: the first
+-- moment from the clock on at which a candidate passes, and the row that is chosen there
+abbrev pub NextStart : Board → List ℕ → ℕ → ℕ → Chosen → Type 0
+NextStart board classes clock rows r =
+    (r .moment ≡ nextMoment board classes clock (min rows mostRows))
+    × ChosenRow board classes (r .moment) rows (r .row)

@@ -1,6 +1,7 @@
--- "Candidates are ready, allowed steps that would end by 1,000,000. They are tried by step number,
--- then row; the first that passes the stacking plan starts": over a board, whose numbers may be
--- any. To be read after Boards. Rests on D79.
+-- "Candidates are ready, allowed steps that would end by 1,000,000"; they "are tried by step
+-- number, then higher class, then row"; "the first that passes the stacking plan starts": over a
+-- board and the classes of its rows, whose numbers may be any. To be read after Boards. Rests on
+-- D79.
 use Prim.Native.Nat.{ℕ, _+_, _-_, min}
 use mathlib.Core.Bool.{Bool, cond, _&&_, _||_}
 use mathlib.Core.List.{List}
@@ -9,8 +10,8 @@ use lib.ListN.{set}
 use Rattle.counting.specs.Sums.{allTo}
 use Rattle.counting.specs.Lists.{memberAt, isMarked, numbersWhere}
 use Rattle.counting.specs.Searches.{Found, at, none, isFound, firstTo, found}
-use Rattle.counting.specs.Sorting.{sorted, byKey}
-use Rattle.load.specs.Load.{mostSteps, lastMoment}
+use Rattle.counting.specs.Sorting.{sorted, byKeys}
+use Rattle.load.specs.Load.{mostSteps, lastMoment, mostClass}
 use Rattle.rules.specs.Plan.{Jobs, planBy}
 use Rattle.plan.specs.declared.Look.{Look}
 use Rattle.plan.specs.Boards.{Board, lookIn}
@@ -71,17 +72,22 @@ passesIn board clock rows i =
     planBy (isMarked (openAfter board i)) (jobsAfter board clock i) rows
     (clock + lookIn board i .cost)
 
--- the first candidate that passes, by step number, then row
-unfoldable pub chosenIn : Board → ℕ → ℕ → Found
-chosenIn board clock rows =
+-- how many classes are higher than row i's; a class above 3 is as 3
+abbrev pub turnIn : List ℕ → ℕ → ℕ
+turnIn classes i = mostClass - memberAt classes i
+
+-- the first candidate that passes, by step number, then higher class, then row
+unfoldable pub chosenIn : Board → List ℕ → ℕ → ℕ → Found
+chosenIn board classes clock rows =
     found (passesIn board clock rows)
-    (sorted (byKey (memberAt (board .finished))) (numbersWhere (candidateIn board clock rows) rows))
+    (sorted (byKeys (memberAt (board .finished)) (turnIn classes))
+    (numbersWhere (candidateIn board clock rows) rows))
 
 -- the first moment from the clock on at which a candidate passes; where none does before 1,000,000,
 -- that, or the clock past it
-abbrev pub nextMoment : Board → ℕ → ℕ → ℕ
-nextMoment board clock rows =
-    clock + firstTo (λ d. isFound (chosenIn board (clock + d) rows)) (lastMoment - clock)
+abbrev pub nextMoment : Board → List ℕ → ℕ → ℕ → ℕ
+nextMoment board classes clock rows =
+    clock + firstTo (λ d. isFound (chosenIn board classes (clock + d) rows)) (lastMoment - clock)
 
 -- the row that was found, and another number where none was
 abbrev pub rowOr : ℕ → Found → ℕ

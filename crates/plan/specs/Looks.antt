@@ -21,6 +21,7 @@ viewAlike row =
       cost = λ i j. stepAt row j .cost;
       wait = λ i j. stepAt row j .wait;
       windows = λ i. rowWindows row;
+      class = λ i. row .class;
     }
 
 -- the state in which every row has those numbers

@@ -2,5 +2,6 @@
 pub mod Orders
 pub mod Passing
 pub mod Searching
+pub mod Turns
 pub mod Walks
 pub mod Staying

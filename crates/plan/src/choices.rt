@@ -9,8 +9,9 @@ use crate::parts::MOMENT_PLACES;
 use crate::ranges::at_most_moment;
 use crate::ranges::at_most_rows;
 use crate::searching::search;
-use crate::sweeping::start_bound;
+use crate::soonest::start_bound;
 use crate::sweeping::sweep;
+use crate::turns::first_turn;
 use load::LAST_MOMENT;
 use load::MOST_ROWS;
 ghost use Rattle.plan.specs.Boards.{boardIn};
@@ -31,22 +32,25 @@ pub fn opening_after(stays: bool, opened: bool, opening: u32, clock: u32) -> u32
     }
 }
 
-// Gives the row of the first candidate that passes, by step number, then row; where none does, the
-// number of rows, at most 24.
+// Gives the row of the first candidate that passes, by step number, then higher class, then
+// row; where none does, the number of rows, at most 24. A class above 3 is as 3.
 pub fn chosen_row<'a>(
     counts: &'a [u8; COUNT_PLACES],
     lengths: &'a [u16; LENGTH_PLACES],
     moments: &'a [u32; MOMENT_PLACES],
+    classes: &'a [u8; MOST_ROWS],
     clock: u32,
     rows: usize,
 ) -> usize
     ensures { λ r. ⌜ ChosenRow (boardIn
-        (now (counts .entry)) (now (lengths .entry)) (now (moments .entry))) clock rows r ⌝ }
+        (now (counts .entry)) (now (lengths .entry)) (now (moments .entry)))
+        (now (classes .entry)) clock rows r ⌝ }
 {
     let last = at_most_rows(rows);
     if LAST_MOMENT < clock {
         return last;
     }
+    let first = first_turn(classes);
     let lowest = lowest_step(counts, last);
     let numbers = numbers_of(counts, lowest, last);
     let order = stack_of(counts, moments, last);
@@ -56,11 +60,13 @@ pub fn chosen_row<'a>(
         counts,
         lengths,
         moments,
+        classes,
         &order.row,
         count,
         &numbers,
         &mut until,
         lowest,
+        first,
         clock,
         last,
     )
@@ -72,11 +78,13 @@ pub fn next_start<'a>(
     counts: &'a [u8; COUNT_PLACES],
     lengths: &'a [u16; LENGTH_PLACES],
     moments: &'a [u32; MOMENT_PLACES],
+    classes: &'a [u8; MOST_ROWS],
     clock: u32,
     rows: usize,
 ) -> Chosen
     ensures { λ r. ⌜ NextStart (boardIn
-        (now (counts .entry)) (now (lengths .entry)) (now (moments .entry))) clock rows r ⌝ }
+        (now (counts .entry)) (now (lengths .entry)) (now (moments .entry)))
+        (now (classes .entry)) clock rows r ⌝ }
 {
     let last = at_most_rows(rows);
     if LAST_MOMENT < clock {
@@ -85,6 +93,7 @@ pub fn next_start<'a>(
             moment: clock,
         };
     }
+    let first = first_turn(classes);
     let lowest = lowest_step(counts, last);
     let numbers = numbers_of(counts, lowest, last);
     let order = stack_of(counts, moments, last);
@@ -94,11 +103,13 @@ pub fn next_start<'a>(
         counts,
         lengths,
         moments,
+        classes,
         &order.row,
         count,
         &numbers,
         &mut until,
         lowest,
+        first,
         clock,
         last,
     );
@@ -120,11 +131,13 @@ pub fn next_start<'a>(
         counts,
         lengths,
         moments,
+        classes,
         &order.row,
         count,
         &numbers,
         &until,
         lowest,
+        first,
         clock,
         before,
         last,

@@ -9,8 +9,10 @@ mod parts;
 mod passing;
 mod ranges;
 mod searching;
+mod soonest;
 mod staying;
 mod sweeping;
+mod turns;
 mod walking;
 
 pub use boards::look_at;
@@ -57,6 +59,14 @@ pub struct Chosen {
 pub(crate) struct Order {
     pub row: [u8; MOST_ROWS],
     pub count: usize,
+}
+
+// What a turn of the sweep has come to: the row that starts the soonest of those asked so far, the
+// moment at which it does, and the next turn.
+pub(crate) struct Swept {
+    pub row: usize,
+    pub moment: u32,
+    pub next: u8,
 }
 
 // What the plan has come to: the moment at which the windows gone over so far are finished.

@@ -31,4 +31,5 @@ cut L m =
       cost = L .cost;
       wait = λ i j. cond (ltb (suc j) (kept L m i)) (L .wait i j) 0;
       windows = λ i. keepIn (λ w. leb (w .last) (kept L m i)) (L .windows i);
+      class = L .class;
     }

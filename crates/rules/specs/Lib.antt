@@ -12,6 +12,7 @@ pub mod Plan
 pub mod Lamps
 pub mod Outcomes
 pub mod Move
+pub mod OneClass
 pub mod Slots
 pub mod Run
 pub mod Check
@@ -25,4 +26,5 @@ pub mod WorkedReady
 pub mod WorkedPlan
 pub mod WorkedShape
 pub mod WorkedMoves
+pub mod WorkedUrgent
 pub mod WorkedChecks

@@ -83,21 +83,25 @@ startOrIdleBy long L s (at i) =
     handedBack L (started L s i (long i (s .finished i))) (Start (nextSlot s i))
 startOrIdleBy long L s none = handedBack L (ticked s) Idle
 
--- one move of a bench whose state has the load's shape
-unfoldable pub shapedMoveBy : (ℕ → ℕ → ℕ) → View → State → Moved
-shapedMoveBy long L s =
+-- one move of a bench whose state has the load's shape, and whose candidate to start was looked for
+unfoldable pub shapedMoveWith : (ℕ → ℕ → ℕ) → View → State → Found → Moved
+shapedMoveWith long L s first =
     elim (allFinished L s) [
       | true ↦ handedBack L s Done
       | false ↦ elim (leb lastMoment (s .clock)) [
         | true ↦ refusedMove s ClockFull
-        | false ↦ startOrIdleBy long L s (chosen L s)
+        | false ↦ startOrIdleBy long L s first
       ]
     ]
 
--- one move of a bench whose steps have these lengths
+-- one move of a bench whose candidate to start was looked for
+unfoldable pub moveWith : (ℕ → ℕ → ℕ) → View → State → Found → Moved
+moveWith long L s first =
+    elim (shaped L s) [ true ↦ shapedMoveWith long L s first | false ↦ refusedMove s StateShape ]
+
+-- one move of a bench whose steps have these lengths: the first candidate that passes starts
 unfoldable pub moveBy : (ℕ → ℕ → ℕ) → View → State → Moved
-moveBy long L s =
-    elim (shaped L s) [ true ↦ shapedMoveBy long L s | false ↦ refusedMove s StateShape ]
+moveBy long L s = moveWith long L s (chosen L s)
 
 -- one move of the bench, each step at full cost
 abbrev pub move : View → State → Moved

@@ -1,13 +1,13 @@
 -- "One move of the bench": next steps that are ready, allowed, and candidates; the order in which
 -- these are tried. To be read after State. Rests on D13, D14 and D34.
-use Prim.Native.Nat.{ℕ, zero, suc, _+_, min}
+use Prim.Native.Nat.{ℕ, zero, suc, _+_, _-_, min}
 use mathlib.Core.Bool.{Bool, _&&_, _||_}
 use mathlib.Core.List.{List}
 use lib.Dec.{leb, ltb}
 use Rattle.counting.specs.Sums.{allTo}
 use Rattle.counting.specs.Lists.{numbersWhere}
-use Rattle.counting.specs.Sorting.{sorted, byKey}
-use Rattle.load.specs.Load.{lastMoment}
+use Rattle.counting.specs.Sorting.{sorted, byKeys}
+use Rattle.load.specs.Load.{lastMoment, mostClass}
 use Rattle.load.specs.View.{View, embedded}
 use Rattle.rules.specs.State.{State}
 
@@ -47,6 +47,12 @@ isCandidate L s i =
     && isAllowed L s i
     && leb (wouldEnd L s i) lastMoment
 
--- the rows of the candidates, as they are tried: by step number, then row
+-- how many classes are higher than row i's
+abbrev pub classesAbove : View → ℕ → ℕ
+classesAbove L i = mostClass - L .class i
+
+-- the rows of the candidates, as they are tried: by step number, then higher class, then row
+-- (2026-05)
 unfoldable pub candidates : View → State → List ℕ
-candidates L s = sorted (byKey (s .finished)) (numbersWhere (isCandidate L s) (L .rows))
+candidates L s =
+    sorted (byKeys (s .finished) (classesAbove L)) (numbersWhere (isCandidate L s) (L .rows))

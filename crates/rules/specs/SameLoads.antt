@@ -12,6 +12,8 @@ pub record SameRow (a b : Row) : Type 0 where
   pub deadline : a .deadline ≡ b .deadline
   pub steps : a .steps ≡ b .steps
   pub windows : a .windows ≡ b .windows
+  pub class : a .class ≡ b .class
+  pub head : a .head ≡ b .head
   pub step : a .step ≡ b .step
   pub window : a .window ≡ b .window
 

@@ -1,7 +1,8 @@
 -- A board that shows a load and its bench has the candidates of the rules, and its plan of a candidate is the rules'
 -- plan at the candidate's end: so what the search chooses is what the rules choose.
-use Prim.Native.Nat.{ℕ, suc, _+_, min, _≤_, _<_}
+use Prim.Native.Nat.{ℕ, suc, _+_, _-_, min, _≤_, _<_}
 use mathlib.Core.Bool.{false}
+use mathlib.Core.List.{List}
 use mathlib.Core.Path.{_≡_, ap, ap₂, sym, _∙_}
 use native.Mathlib.Omega.{arith}
 use lib.Dec.{leb}
@@ -9,18 +10,18 @@ use lib.ListN.{set}
 use Rattle.counting.specs.Sums.{allTo}
 use Rattle.counting.specs.Lists.{numbersWhere, memberAt, isMarked}
 use Rattle.counting.specs.Searches.{found}
-use Rattle.counting.specs.Sorting.{sorted, byKey}
+use Rattle.counting.specs.Sorting.{sorted, byKeys}
 use Rattle.counting.proofs.tests.TestLaws.{allTo-ext}
 use Rattle.counting.proofs.sorting.SortLaws.{Every-sorted}
-use Rattle.counting.proofs.sorting.KeyLaws.{sorted-same}
+use Rattle.counting.proofs.sorting.KeysLaws.{sorted-same-by}
 use Rattle.counting.proofs.lists.EveryLaws.{every-numbersWhere, found-ext}
 use Rattle.load.specs.declared.Load.{Load}
-use Rattle.load.specs.Load.{mostSteps, lastMoment}
+use Rattle.load.specs.Load.{mostSteps, lastMoment, mostClass}
 use Rattle.load.specs.View.{View, viewOf, embedded, opensAt}
 use Rattle.load.proofs.WindowLaws.{opensAt-embedded}
 use Rattle.load.proofs.WindowLeft.{limitAt}
 use Rattle.rules.specs.State.{State, isOpen}
-use Rattle.rules.specs.Ready.{released, isAllowed, isCandidate, candidates, finishedBelow}
+use Rattle.rules.specs.Ready.{released, isAllowed, isCandidate, classesAbove, candidates, finishedBelow}
 use Rattle.rules.specs.Plan.{planBy, due, windowLeft}
 use Rattle.rules.specs.Move.{startedFull, passes, chosen, openingAfter}
 use Rattle.rules.proofs.moves.MoveLaws.{started-clock, started-finished-same}
@@ -36,8 +37,8 @@ use Rattle.bench.specs.declared.Bench.{Bench}
 use Rattle.bench.specs.Held.{stateOf}
 use Rattle.plan.specs.Looks.{further}
 use Rattle.plan.specs.Boards.{Board, lookIn}
-use Rattle.bench.specs.inner.Boards.{Wide, Shows}
-use Rattle.plan.specs.Choices.{belowIn, candidateIn, openingIn, openAfter, jobsIn, passesIn, chosenIn}
+use Rattle.bench.specs.inner.Boards.{Wide, Shows, ClassesOf}
+use Rattle.plan.specs.Choices.{belowIn, candidateIn, openingIn, openAfter, jobsIn, passesIn, turnIn, chosenIn}
 use Rattle.plan.proofs.StoreLaws.{stored}
 use Rattle.bench.proofs.choice.JoinLaws.{
   planBy-is,
@@ -91,6 +92,11 @@ module _ (load : Load) (bench : Bench) (board : Board) (shows : Shows load bench
         below,
         open-is i,
       )
+
+  turn-same : (classes : List ℕ) → ClassesOf load rows classes → (i : ℕ) → i < rows
+      → turnIn classes i ≡ classesAbove L i
+  unfolding viewOf
+  turn-same classes told i l = ap (λ n. mostClass - n) (told i l)
 
   -- the row of a candidate once its step is over
   module _ (i : ℕ) (l : i < rows) where
@@ -166,15 +172,19 @@ module _ (load : Load) (bench : Bench) (board : Board) (shows : Shows load bench
         end-is =
             ap (λ c. bench .clock + c) (cost-same load bench board shows i l) ∙ sym (started-clock L s i cost)
 
-  -- what the search chooses
-  pub chosen-same : rows ≤ 24 → chosenIn board (bench .clock) rows ≡ chosen L s
+  -- what the search chooses, where it is told the classes of the rows
+  pub chosen-same : (classes : List ℕ) → ClassesOf load rows classes → rows ≤ 24
+      → chosenIn board classes (bench .clock) rows ≡ chosen L s
   unfolding chosenIn chosen candidates
-  chosen-same most =
+  chosen-same classes told most =
       found-ext (passesIn board (bench .clock) rows) (passes L s) _
-      (Every-sorted (byKey (memberAt (board .finished))) (λ i. passesIn board (bench .clock) rows i ≡ passes L s i) _
+      (Every-sorted (byKeys (memberAt (board .finished)) (turnIn classes))
+      (λ i. passesIn board (bench .clock) rows i ≡ passes L s i) _
       (every-numbersWhere _ (candidateIn board (bench .clock) rows) rows (λ i l c. passes-same i l most)))
       ∙ ap (found (passes L s))
-      (sorted-same (memberAt (board .finished)) (s .finished) (candidateIn board (bench .clock) rows) (isCandidate L s)
-      rows candidate-same (λ i l c. finished-same load bench board shows i l))
-      ∙ ap (λ n. found (passes L s) (sorted (byKey (s .finished)) (numbersWhere (isCandidate L s) n)))
+      (sorted-same-by (memberAt (board .finished)) (s .finished) (turnIn classes) (classesAbove L)
+      (candidateIn board (bench .clock) rows) (isCandidate L s) rows candidate-same
+      (finished-same load bench board shows) (turn-same classes told))
+      ∙ ap (λ n. found (passes L s)
+      (sorted (byKeys (s .finished) (classesAbove L)) (numbersWhere (isCandidate L s) n)))
       (sym (rows-are load bench board shows))

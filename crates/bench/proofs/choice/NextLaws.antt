@@ -33,7 +33,7 @@ use Rattle.bench.specs.declared.Moved.{Moved}
 use Rattle.bench.specs.Held.{stateOf, benchOf, HeldBench, benchAt, handedOn, refusedWith, nextMove}
 use Rattle.plan.specs.declared.Look.{Look}
 use Rattle.plan.specs.Boards.{Board, countPlaces, marksFrom, boardIn, lookIn}
-use Rattle.bench.specs.inner.Boards.{Shows}
+use Rattle.bench.specs.inner.Boards.{Shows, ClassesOf}
 use Rattle.plan.specs.Choices.{openingBy, openingIn, openAfter, chosenIn}
 use Rattle.plan.specs.Calls.{ChosenRow}
 use Rattle.bench.specs.inner.Moves.{benchStarted, slotOf, finishedIn, handedWith, startedIn, Stepped}
@@ -117,12 +117,12 @@ module _ (load : Load) (bench : Bench) (board : Board) (shows : Shows load bench
   open-ticked = opened-same load bench board shows
 
   -- the next step of the row that the search gives is there
-  pub chosen-next : (i : ℕ) → ChosenRow board (bench .clock) (load .rows) i → i < load .rows
+  pub chosen-next : (classes : List ℕ) (i : ℕ) → ChosenRow board classes (bench .clock) (load .rows) i → i < load .rows
       → (lookIn board i .finished < 8) × (memberAt (bench .finished) i < 8)
-  chosen-next i c l =
-      let found = search-row board (bench .clock) (load .rows) most i c l in
+  chosen-next classes i c l =
+      let found = search-row board (bench .clock) (load .rows) classes most i c l in
       let more = candidate-more (lookIn board i) (bench .clock) _
-      (chosen-there board (bench .clock) (load .rows) i found .1) in
+      (chosen-there board (bench .clock) (load .rows) classes i found .1) in
       (omega (arith, more), omega (arith, more, finished-same load bench board shows i l))
 
   module _ (e : shaped L s ≡ true) (d : allFinished L s ≡ false) (h : bench .clock < lastMoment) where
@@ -166,23 +166,25 @@ module _ (load : Load) (bench : Bench) (board : Board) (shows : Shows load bench
         lit-are : (k : ℕ) → k < load .rows → isMarked lit k ≡ isOpen L after k
         lit-are = open-after load bench board shows i l most
 
-    pub stepped-move : (moved : Moved) → Stepped bench board (load .rows) moved → moved ≡ handedOn bench (move L s)
-    stepped-move moved t =
+    pub stepped-move : (classes : List ℕ) → ClassesOf load (load .rows) classes → (moved : Moved)
+        → Stepped bench board classes (load .rows) moved → moved ≡ handedOn bench (move L s)
+    stepped-move classes told moved t =
         elim (decLt (t .row) (load .rows)) [
           | yes l ↦
               t .starts l
               ∙ sym
               (start-move (t .row) l
-              (sym same ∙ search-row board (bench .clock) (load .rows) most (t .row) (t .chosen) l))
+              (sym same ∙ search-row board (bench .clock) (load .rows) classes most (t .row) (t .chosen) l))
           | no l ↦
               t .idles (omega arith)
               ∙ sym
               (idle-move
-              (sym same ∙ search-none board (bench .clock) (load .rows) most (t .row) (t .chosen) (omega arith)))
+              (sym same
+              ∙ search-none board (bench .clock) (load .rows) classes most (t .row) (t .chosen) (omega arith)))
         ]
       where
-        same : chosenIn board (bench .clock) (load .rows) ≡ chosen L s
-        same = chosen-same load bench board shows most
+        same : chosenIn board classes (bench .clock) (load .rows) ≡ chosen L s
+        same = chosen-same load bench board shows classes told most
 
 -- what is handed back of a start, by what was looked up of its row
 pub handed-start : (bench next : Bench) (counts lengths moments lit : List ℕ) (rows i opening : ℕ) (look : Look)

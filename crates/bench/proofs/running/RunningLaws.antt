@@ -35,7 +35,7 @@ use Rattle.rules.proofs.run.StretchLaws.{Quiet, starts-done, quiet-accounted, q
 use Rattle.bench.specs.declared.Bench.{Bench}
 use Rattle.plan.specs.Boards.{Board}
 use Rattle.bench.specs.Held.{stateOf, benchOf, HeldBench, benchAt}
-use Rattle.bench.specs.inner.Boards.{Shows}
+use Rattle.bench.specs.inner.Boards.{Shows, ClassesOf}
 use Rattle.plan.specs.declared.Chosen.{Chosen}
 use Rattle.plan.specs.Choices.{chosenIn, nextMoment}
 use Rattle.plan.specs.Calls.{NextStart}
@@ -159,16 +159,18 @@ module _ (load : Load) (accepted : checkLoad load ≡ Good) (most : load .rows �
         }
 
     -- to the next start
-    module _ (nd : finishedIn board (load .rows) ≡ false) (next : Chosen)
-        (n : NextStart board clock (load .rows) next) where
-      moment-is : next .moment ≡ nextMoment board clock (load .rows)
+    module _ (nd : finishedIn board (load .rows) ≡ false) (classes : List ℕ)
+        (told : ClassesOf load (load .rows) classes) (next : Chosen)
+        (n : NextStart board classes clock (load .rows) next) where
+      moment-is : next .moment ≡ nextMoment board classes clock (load .rows)
       moment-is =
           let e : min (load .rows) mostRows ≡ load .rows = omega arith in
-          subst (λ rows. next .moment ≡ nextMoment board clock rows) e (n .0)
+          subst (λ rows. next .moment ≡ nextMoment board classes clock rows) e (n .0)
 
-      before-next : QuietBefore board clock (load .rows) (next .moment)
+      before-next : QuietBefore board classes clock (load .rows) (next .moment)
       before-next =
-          subst (QuietBefore board clock (load .rows)) (sym moment-is) (nextMoment-quiet board clock (load .rows))
+          subst (QuietBefore board classes clock (load .rows)) (sym moment-is)
+          (nextMoment-quiet board classes clock (load .rows))
 
       pub running-on : Running load board (next .moment) count
       running-on =
@@ -180,7 +182,9 @@ module _ (load : Load) (accepted : checkLoad load ≡ Good) (most : load .rows �
 
           none-at : (m : ℕ) → clock ≤ m → m < next .moment → chosen L (stateOf (benchAt (r .bench) m)) ≡ none
           none-at m a b =
-              sym (chosen-same load (benchAt (r .bench) m) board (shows-at load (r .bench) board (r .shows) m) most)
+              sym
+              (chosen-same load (benchAt (r .bench) m) board (shows-at load (r .bench) board (r .shows) m) classes told
+              most)
               ∙ before-next .none-before m a b
 
           quiet : Quiet L s (next .moment - clock)
@@ -188,25 +192,29 @@ module _ (load : Load) (accepted : checkLoad load ≡ Good) (most : load .rows �
 
 -- with work left there is a next start: else the clock would go on to the last moment
 module _ (load : Load) (accepted : checkLoad load ≡ Good) (most : load .rows ≤ 24) (board : Board) (clock count : ℕ)
-    (r : Running load board clock count) (nd : finishedIn board (load .rows) ≡ false)
-    (next : Chosen) (n : NextStart board clock (load .rows) next) where
-  early : next .moment < lastMoment
-  early =
-      running-early load accepted most board (next .moment) count
-      (running-on load accepted most board clock count r nd next n) nd
+    (r : Running load board clock count) (nd : finishedIn board (load .rows) ≡ false) (classes : List ℕ)
+    (told : ClassesOf load (load .rows) classes) (next : Chosen) (n : NextStart board classes clock (load .rows) next)
+  where
+    early : next .moment < lastMoment
+    early =
+        running-early load accepted most board (next .moment) count
+        (running-on load accepted most board clock count r nd classes told next n) nd
 
-  starts-then : isFound (chosenIn board (next .moment) (load .rows)) ≡ true
-  starts-then =
-      let e = moment-is load accepted most board clock count r nd next n in
-      let first = firstTo-first (λ d. isFound (chosenIn board (clock + d) (load .rows))) (lastMoment - clock) in
-      subst (λ m. isFound (chosenIn board m (load .rows)) ≡ true) (sym e) (first .has (omega (arith, early, e)))
+    starts-then : isFound (chosenIn board classes (next .moment) (load .rows)) ≡ true
+    starts-then =
+        let e = moment-is load accepted most board clock count r nd classes told next n in
+        let first = firstTo-first (λ d. isFound (chosenIn board classes (clock + d) (load .rows)))
+        (lastMoment - clock) in
+        subst (λ m. isFound (chosenIn board classes m (load .rows)) ≡ true) (sym e)
+        (first .has (omega (arith, early, e)))
 
-  pub running-row : next .row < load .rows
-  running-row =
-      elim (decLt (next .row) (load .rows)) [
-        | yes l ↦ l
-        | no l ↦
-            absurd
-            (true-false _ starts-then
-            (ap isFound (search-none board (next .moment) (load .rows) most (next .row) (n .1) (omega arith))))
-      ]
+    pub running-row : next .row < load .rows
+    running-row =
+        elim (decLt (next .row) (load .rows)) [
+          | yes l ↦ l
+          | no l ↦
+              absurd
+              (true-false _ starts-then
+              (ap isFound
+              (search-none board (next .moment) (load .rows) classes most (next .row) (n .1) (omega arith))))
+        ]

@@ -2,7 +2,7 @@
 -- there is a place for it, and the board with the row looked up anew shows the state after the start.
 use Prim.Native.Nat.{ℕ, suc, _+_, _-_, min, _≤_, _<_}
 use mathlib.Core.Bool.{true, false}
-use mathlib.Core.List.{[], _∷_, _++_, append-assoc}
+use mathlib.Core.List.{List, [], _∷_, _++_, append-assoc}
 use mathlib.Core.Path.{_≡_, ap, ap₂, sym, _∙_, subst}
 use native.Mathlib.Omega.{arith}
 use lib.ListN.{length, length-append}
@@ -37,7 +37,7 @@ use Rattle.plan.specs.declared.Chosen.{Chosen}
 use Rattle.plan.specs.Calls.{ChosenRow, NextStart}
 use Rattle.bench.specs.inner.Moves.{slotOf, finishedIn}
 use Rattle.bench.specs.inner.Running.{lookAfter, CanStart, RowStarted}
-use Rattle.bench.specs.inner.Boards.{Renewed}
+use Rattle.bench.specs.inner.Boards.{Renewed, ClassesOf}
 use Rattle.bench.proofs.shown.HeldLaws.{benchStarted-held}
 use Rattle.plan.proofs.SearchLaws.{openingBy-le, candidate-more, candidate-ends, chosen-there, search-row}
 use Rattle.bench.proofs.choice.JoinLaws.{finished-same, steps-same, cost-same}
@@ -77,21 +77,22 @@ module _ (load : Load) (accepted : checkLoad load ≡ Good) (most : load .rows �
   asked = finished-is load (r .bench) board (r .shows) (r .held) most
 
   -- the start of the row that is chosen
-  module _ (nd : finishedIn board (load .rows) ≡ false) (i : ℕ) (l : i < load .rows)
-      (c : ChosenRow board clock (load .rows) i) where
+  module _ (nd : finishedIn board (load .rows) ≡ false) (classes : List ℕ)
+      (told : ClassesOf load (load .rows) classes) (i : ℕ) (l : i < load .rows)
+      (c : ChosenRow board classes clock (load .rows) i) where
     early : clock < lastMoment
     early = running-early load accepted most board clock count r nd
 
-    found-is : chosenIn board clock (load .rows) ≡ at i
-    found-is = search-row board clock (load .rows) most i c l
+    found-is : chosenIn board classes clock (load .rows) ≡ at i
+    found-is = search-row board clock (load .rows) classes most i c l
 
     candidate : candidateIn board clock (load .rows) i ≡ true
-    candidate = chosen-there board clock (load .rows) i found-is .1
+    candidate = chosen-there board clock (load .rows) classes i found-is .1
 
     chosen-is : chosen L s ≡ at i
     chosen-is =
-        sym (chosen-same load (r .bench) board (r .shows) most)
-        ∙ ap (λ t. chosenIn board t (load .rows)) (r .clock-is)
+        sym (chosen-same load (r .bench) board (r .shows) classes told most)
+        ∙ ap (λ t. chosenIn board classes t (load .rows)) (r .clock-is)
         ∙ found-is
 
     abbrev slot : Slot
@@ -201,16 +202,17 @@ pub record NextUp (load : Load) (board : Board) (count : ℕ) (next : Chosen) : 
       → Running load after (started .end) (count + 1)
 
 pub next-up : (load : Load) → checkLoad load ≡ Good → load .rows ≤ 24 → (board : Board) (clock count : ℕ)
-    → Running load board clock count → count < length (schedule (viewOf load)) → (next : Chosen)
-    → NextStart board clock (load .rows) next → NextUp load board count next
-next-up load accepted most board clock count r less next n =
+    → Running load board clock count → count < length (schedule (viewOf load)) → (classes : List ℕ)
+    → ClassesOf load (load .rows) classes → (next : Chosen) → NextStart board classes clock (load .rows) next
+    → NextUp load board count next
+next-up load accepted most board clock count r less classes told next n =
     let nd = running-more load accepted most board clock count r less in
-    let on = running-on load accepted most board clock count r nd next n in
-    let row = running-row load accepted most board clock count r nd next n in
+    let on = running-on load accepted most board clock count r nd classes told next n in
+    let row = running-row load accepted most board clock count r nd classes told next n in
     record {
       row-is = row;
-      can = running-can load accepted most board (next .moment) count on nd (next .row) row (n .1);
-      room = running-place load accepted most board (next .moment) count on nd (next .row) row (n .1);
-      slot-is = running-slot load accepted most board (next .moment) count on nd (next .row) row (n .1);
-      on = running-start load accepted most board (next .moment) count on nd (next .row) row (n .1);
+      can = running-can load accepted most board (next .moment) count on nd classes told (next .row) row (n .1);
+      room = running-place load accepted most board (next .moment) count on nd classes told (next .row) row (n .1);
+      slot-is = running-slot load accepted most board (next .moment) count on nd classes told (next .row) row (n .1);
+      on = running-start load accepted most board (next .moment) count on nd classes told (next .row) row (n .1);
     }

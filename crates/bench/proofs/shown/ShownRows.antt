@@ -1,9 +1,11 @@
 -- Rows of a board that are shown: a row of a bench in shape is looked up with no number counted as less, and storing
--- its look shows one row more and leaves the others as they are.
+-- its look shows one row more and leaves the others as they are; and so does storing its class.
 use Prim.Native.Nat.{ℕ, min, _+_, _≤_, _<_}
-use mathlib.Core.Path.{_≡_, ap, ap₂, sym, _∙_, subst}
+use mathlib.Core.List.{List}
+use mathlib.Core.Path.{_≡_, refl, ap, ap₂, sym, _∙_, subst}
 use native.Mathlib.Decide.{ℕ-discrete}
 use native.Mathlib.Omega.{arith}
+use lib.ListN.{length, set}
 use Rattle.counting.specs.Lists.{memberAt}
 use Rattle.load.specs.declared.Load.{Load}
 use Rattle.load.specs.Load.{mostSteps, lastMoment, rowAt}
@@ -12,9 +14,10 @@ use Rattle.rules.specs.State.{State, fresh}
 use Rattle.plan.specs.declared.Look.{Look}
 use Rattle.plan.specs.Looks.{lookOf, lookBy}
 use Rattle.plan.specs.Boards.{Board, lookIn}
+use Rattle.plan.proofs.StoreLaws.{stored}
 use Rattle.bench.specs.declared.Bench.{Bench}
 use Rattle.bench.specs.Held.{stateOf, benchOf}
-use Rattle.bench.specs.inner.Boards.{Wide, Shows, Renewed}
+use Rattle.bench.specs.inner.Boards.{Wide, Shows, ClassesOf, Renewed}
 use Rattle.bench.proofs.shown.HeldLaws.{fresh-state}
 use Rattle.bench.proofs.shown.CheckedLaws.{InShape}
 use Rattle.bench.proofs.shown.LookLaws.{look-of-row}
@@ -117,3 +120,10 @@ shows-all load bench board wide shown =
       steps-most = λ i l. shown i l .steps-le;
       opening-most = λ i l. shown i l .opening-le;
     }
+
+-- one class more
+pub classes-next : (load : Load) (classes : List ℕ) (i : ℕ) → i < length classes → ClassesOf load i classes
+    → ClassesOf load (i + 1) (set classes i (rowAt load i .class))
+classes-next load classes i inside told k l =
+    stored 0 (λ n v. v ≡ rowAt load n .class) classes i (rowAt load i .class) inside refl k
+    (λ ne. told k (omega arith))

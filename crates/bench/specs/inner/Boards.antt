@@ -1,11 +1,12 @@
--- What a board has to say of a load and its bench.
+-- What a board, and the classes beside it, have to say of a load and its bench.
 use Prim.Native.Nat.{ℕ, _≤_, _<_}
 use mathlib.Core.List.{List}
 use mathlib.Core.Logic.{_≢_}
 use mathlib.Core.Path.{_≡_}
 use lib.ListN.{length}
+use Rattle.counting.specs.Lists.{memberAt}
 use Rattle.load.specs.declared.Load.{Load}
-use Rattle.load.specs.Load.{mostRows, mostSteps, lastMoment}
+use Rattle.load.specs.Load.{mostRows, mostSteps, lastMoment, rowAt}
 use Rattle.load.specs.View.{viewOf}
 use Rattle.plan.specs.declared.Look.{Look}
 use Rattle.plan.specs.Looks.{lookOf}
@@ -32,6 +33,11 @@ pub record Shows (load : Load) (bench : Bench) (board : Board) : Type 0 where
   pub looks : (i : ℕ) → i < load .rows → lookIn board i ≡ lookOf (viewOf load) (stateOf bench) i
   pub steps-most : (i : ℕ) → i < load .rows → lookIn board i .steps ≤ mostSteps
   pub opening-most : (i : ℕ) → i < load .rows → lookIn board i .opening ≤ lastMoment
+
+-- the first rows of a load have those classes
+abbrev pub ClassesOf : Load → ℕ → List ℕ → Type 0
+ClassesOf load rows classes =
+    (i : ℕ) → i < rows → memberAt classes i ≡ rowAt load i .class
 
 -- a board has another look of row i, and of the other rows what it had
 pub record Renewed (board : Board) (i : ℕ) (look : Look) (after : Board) : Type 0 where

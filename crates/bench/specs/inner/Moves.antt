@@ -62,9 +62,10 @@ startedIn bench board rows i =
     rows
 
 -- row r was chosen, and its next step is started; where it is no row, the clock moves one tick
-pub record Stepped (bench : Bench) (board : Board) (rows : ℕ) (moved : Moved) : Type 0 where
+pub record Stepped (bench : Bench) (board : Board) (classes : List ℕ) (rows : ℕ) (moved : Moved)
+    : Type 0 where
   pub row : ℕ
-  pub chosen : ChosenRow board (bench .clock) rows row
+  pub chosen : ChosenRow board classes (bench .clock) rows row
   pub starts : row < rows → moved ≡ startedIn bench board rows row
   pub idles : rows ≤ row
       → moved ≡ handedWith (benchAt bench (bench .clock + 1)) Idle (board .opened) rows

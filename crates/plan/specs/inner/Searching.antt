@@ -1,6 +1,5 @@
--- The search for the next start: the lowest unfinished step, the step numbers that are tried, until
--- when each row is known to be refused, and how far the rows have been gone through. To be read
--- after Passing.
+-- The search for the next start: the lowest unfinished step, the step numbers that are tried, and
+-- until when each row is known to be refused. To be read after Passing.
 use Prim.Native.Nat.{ℕ, _+_, min, _≤_, _<_}
 use mathlib.Core.Bool.{Bool, true, false, _&&_, _||_}
 use mathlib.Core.List.{List}
@@ -9,10 +8,9 @@ use lib.Dec.{eqb, leb, ltb}
 use lib.ListN.{length}
 use Rattle.counting.specs.Sums.{allTo}
 use Rattle.counting.specs.Lists.{memberAt, isMarked}
-use Rattle.counting.specs.Searches.{at}
 use Rattle.load.specs.Load.{mostRows, mostSteps, lastMoment}
 use Rattle.plan.specs.Boards.{Board, lookIn}
-use Rattle.plan.specs.Choices.{candidateIn, passesIn, chosenIn}
+use Rattle.plan.specs.Choices.{candidateIn, passesIn}
 use Rattle.plan.specs.inner.Passing.{StackIn}
 
 -- row k has finished all its steps below place j
@@ -85,31 +83,3 @@ pub record SearchFits (board : Board) (order : List ℕ) (count lowest clock row
   pub lowest-is : LowestStep (board .finished) (board .steps) rows lowest
   pub stack : StackIn (board .opened) (board .due) rows order count
   pub known : RefusedTo board clock rows until
-
--- at a moment the rows that come before a place, by step number and then by row, are passed over
-pub record PassedTo (board : Board) (moment rows number i : ℕ) : Type 0 where
-  pub steps : (k : ℕ) → k < rows → lookIn board k .finished < number
-      → candidateIn board moment rows k ≡ true → passesIn board moment rows k ≡ false
-  pub row : (k : ℕ) → k < i → lookIn board k .finished ≡ number
-      → candidateIn board moment rows k ≡ true → passesIn board moment rows k ≡ false
-
--- of the rows before a place none starts from the clock on and before the soonest moment, at which
--- the row is chosen that was found; where none was, that is the moment before which it was looked
--- for
-pub record SweptTo (board : Board) (clock before rows number i row soonest : ℕ) : Type 0 where
-  pub most : soonest ≤ before
-  pub quiet : (t : ℕ) → clock ≤ t → t < soonest → PassedTo board t rows number i
-  pub from : row < rows → clock ≤ soonest
-  pub found : row < rows → chosenIn board soonest rows ≡ at row
-  pub earlier : row < rows → soonest < before
-  pub none-yet : rows ≤ row → soonest ≡ before
-  pub row-most : row ≤ rows
-
--- a moment by that past 1,000,000, before which a row starts, or which is that one: not every row
--- is passed over at every moment from the clock on and before it
-pub record StartsBefore (board : Board) (clock rows r : ℕ) : Type 0 where
-  pub most : r ≤ lastMoment + 1
-  pub starts : r ≤ lastMoment
-      → ((t i : ℕ) → clock ≤ t → t < r → i < rows
-      → candidateIn board t rows i ≡ true → passesIn board t rows i ≡ false)
-      → ⊥

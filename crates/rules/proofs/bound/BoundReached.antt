@@ -36,6 +36,7 @@ fullest =
       cost = λ i j. largestCost;
       wait = λ i j. cond (ltb (suc j) mostSteps) largestWait 0;
       windows = λ i. record { first = 1; last = mostSteps; limit = largestLimit } ∷ [];
+      class = λ i. 0;
     }
 
 pub bound-reached : bound fullest ≡ largestBound
@@ -82,6 +83,7 @@ fullest-acceptable =
       steps-least = λ i l. omega arith;
       steps-most = λ i l. omega arith;
       windows-most = λ i l. omega arith;
+      class-most = λ i l. omega arith;
       cost-least = λ i j l h. omega arith;
       cost-most = λ i j l h. omega arith;
       wait-most = λ i j l h. wait-fits (ltb (suc j) mostSteps);

@@ -21,6 +21,7 @@ viewOf-same a b same =
       cost = λ i j. ap (λ l. getD l j noStep .cost) (same .row i .step) t;
       wait = λ i j. ap (λ l. getD l j noStep .wait) (same .row i .step) t;
       windows = λ i. take (same .row i .windows t) (same .row i .window t);
+      class = λ i. same .row i .class t;
     }
 
 -- what is defined over the view is the same

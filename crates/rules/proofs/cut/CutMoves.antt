@@ -10,7 +10,7 @@ use lib.Dec.{leb, ltb}
 use borrow.Author.Tests.{ltb-true, lt-ltb}
 use Rattle.counting.specs.Lists.{numbersWhere}
 use Rattle.counting.specs.Searches.{found}
-use Rattle.counting.specs.Sorting.{sorted, byKey}
+use Rattle.counting.specs.Sorting.{sorted, byKeys}
 use Rattle.counting.proofs.tests.TestLaws.{and-left, and-right}
 use Rattle.counting.proofs.lists.ListLaws.{joinTo-ext}
 use Rattle.counting.proofs.sorting.SortLaws.{Every-sorted}
@@ -19,7 +19,7 @@ use Rattle.load.specs.Load.{lastMoment}
 use Rattle.load.specs.View.{View, embedded}
 use Rattle.rules.specs.Cut.{kept, cut}
 use Rattle.rules.specs.State.{State}
-use Rattle.rules.specs.Ready.{isReady, isAllowed, wouldEnd, isCandidate, candidates}
+use Rattle.rules.specs.Ready.{isReady, isAllowed, wouldEnd, isCandidate, classesAbove, candidates}
 use Rattle.rules.specs.Plan.{planPasses}
 use Rattle.rules.specs.Move.{started, startedFull, passes, chosen}
 use Rattle.rules.proofs.cut.CutLaws.{firstKept-le, kept-le, steps-of-cut}
@@ -110,7 +110,7 @@ module _ (L : View) (m : ℕ) (g : Runnable L) (s : State)
     candidates-same : candidates K s ≡ candidates L s
     unfolding candidates cut
     candidates-same =
-        ap (sorted (byKey (s .finished)))
+        ap (sorted (byKeys (s .finished) (classesAbove L)))
         (joinTo-ext (λ i. cond (isCandidate K s i) (i ∷ []) []) (λ i. cond (isCandidate L s i) (i ∷ []) []) (L .rows)
         (λ i l. ap (λ b. cond b (i ∷ []) []) (candidate-same i l)))
 
@@ -135,6 +135,6 @@ module _ (L : View) (m : ℕ) (g : Runnable L) (s : State)
     chosen-same =
         ap (found (passes K s)) candidates-same
         ∙ found-ext (passes K s) (passes L s) (candidates L s)
-        (Every-sorted (byKey (s .finished)) (λ k. passes K s k ≡ passes L s k)
+        (Every-sorted (byKeys (s .finished) (classesAbove L)) (λ k. passes K s k ≡ passes L s k)
         (numbersWhere (isCandidate L s) (L .rows))
         (every-numbersWhere (λ k. passes K s k ≡ passes L s k) (isCandidate L s) (L .rows) passes-same))

@@ -10,7 +10,7 @@ use lib.Dec.{leb, ltb}
 use borrow.Author.Tests.{ltb-true, leb-true, lt-ltb, le-leb, lt-leb}
 use Rattle.counting.specs.Lists.{numbersWhere}
 use Rattle.counting.specs.Searches.{Found, at, none}
-use Rattle.counting.specs.Sorting.{byKey}
+use Rattle.counting.specs.Sorting.{byKeys}
 use Rattle.counting.proofs.tests.TestLaws.{and-left, and-right, true-false}
 use Rattle.counting.proofs.sorting.SortLaws.{Every-sorted}
 use Rattle.counting.proofs.lists.EveryLaws.{every-numbersWhere, numbersWhere-every, sorted-every, found-at, found-none}
@@ -20,7 +20,7 @@ use Rattle.load.specs.Load.{lastMoment}
 use Rattle.load.specs.View.{View, opensAt}
 use Rattle.rules.specs.declared.Outcome.the-variants.{Start, Idle, Done}
 use Rattle.rules.specs.State.{State, isOpen, shaped}
-use Rattle.rules.specs.Ready.{released, isReady, isAllowed, wouldEnd, isCandidate, candidates}
+use Rattle.rules.specs.Ready.{released, isReady, isAllowed, wouldEnd, isCandidate, classesAbove, candidates}
 use Rattle.rules.specs.Move.{
   openingAfter,
   started,
@@ -32,7 +32,8 @@ use Rattle.rules.specs.Move.{
   handedBack,
   refusedMove,
   startOrIdleBy,
-  shapedMoveBy,
+  shapedMoveWith,
+  moveWith,
   moveBy,
 }
 
@@ -156,26 +157,26 @@ canStart-isCandidate L s i c =
 -- how a move goes, by its three tests
 module _ (long : ℕ → ℕ → ℕ) (L : View) (s : State) where
   pub move-unshaped : shaped L s ≡ false → moveBy long L s ≡ refusedMove s StateShape
-  unfolding moveBy
-  move-unshaped h = rw (h, moveBy)
+  unfolding moveWith moveBy
+  move-unshaped h = rw (h, moveWith)
 
-  move-shaped : shaped L s ≡ true → moveBy long L s ≡ shapedMoveBy long L s
-  unfolding moveBy
-  move-shaped h = rw (h, moveBy)
+  move-shaped : shaped L s ≡ true → moveBy long L s ≡ shapedMoveWith long L s (chosen L s)
+  unfolding moveWith moveBy
+  move-shaped h = rw (h, moveWith)
 
   pub move-done : shaped L s ≡ true → allFinished L s ≡ true → moveBy long L s ≡ handedBack L s Done
-  unfolding shapedMoveBy
-  move-done h d = move-shaped h ∙ rw (d, shapedMoveBy)
+  unfolding shapedMoveWith
+  move-done h d = move-shaped h ∙ rw (d, shapedMoveWith)
 
   pub move-full : shaped L s ≡ true → allFinished L s ≡ false → lastMoment ≤ s .clock
       → moveBy long L s ≡ refusedMove s ClockFull
-  unfolding shapedMoveBy
-  move-full h d l = move-shaped h ∙ rw (d, shapedMoveBy) (rw (le-leb lastMoment (s .clock) l))
+  unfolding shapedMoveWith
+  move-full h d l = move-shaped h ∙ rw (d, shapedMoveWith) (rw (le-leb lastMoment (s .clock) l))
 
   pub move-goes : shaped L s ≡ true → allFinished L s ≡ false → s .clock < lastMoment
       → moveBy long L s ≡ startOrIdleBy long L s (chosen L s)
-  unfolding shapedMoveBy
-  move-goes h d l = move-shaped h ∙ rw (d, shapedMoveBy) (rw (lt-leb lastMoment (s .clock) l))
+  unfolding shapedMoveWith
+  move-goes h d l = move-shaped h ∙ rw (d, shapedMoveWith) (rw (lt-leb lastMoment (s .clock) l))
 
 -- the four ways of a move
 pub data Way (long : ℕ → ℕ → ℕ) (L : View) (s : State) : Type 0 where
@@ -201,7 +202,7 @@ pub chosen-at : (L : View) (s : State) (i : ℕ) → chosen L s ≡ at i → Can
 unfolding chosen candidates
 chosen-at L s i e =
     let f = found-at Right (passes L s) (candidates L s) i
-    (Every-sorted (byKey (s .finished)) Right (numbersWhere (isCandidate L s) (L .rows))
+    (Every-sorted (byKeys (s .finished) (classesAbove L)) Right (numbersWhere (isCandidate L s) (L .rows))
     (every-numbersWhere Right (isCandidate L s) (L .rows) (λ k l q. (l, q)))) e in
     isCandidate-true L s i (f .0 .0) (f .0 .1) (f .1)
   where
@@ -213,7 +214,8 @@ unfolding chosen candidates
 chosen-none L s e i c =
     true-false (passes L s i) (c .plan)
     (numbersWhere-every (λ k. passes L s k ≡ false) (isCandidate L s) (L .rows)
-    (sorted-every (λ k. passes L s k ≡ false) (byKey (s .finished)) (numbersWhere (isCandidate L s) (L .rows))
+    (sorted-every (λ k. passes L s k ≡ false) (byKeys (s .finished) (classesAbove L))
+    (numbersWhere (isCandidate L s) (L .rows))
     (found-none (passes L s) (candidates L s) e)) i (c .there) (canStart-isCandidate L s i c))
 
 -- the two ways of a move with work left and time for it

@@ -28,7 +28,7 @@ use Rattle.rules.specs.State.{shaped}
 use Rattle.rules.specs.Ready.{isAllowed, isCandidate, candidates}
 use Rattle.rules.specs.Plan.{inTimeBy, stackBy, due, windowLeft}
 use Rattle.rules.specs.Lamps.{lampWord, lampCount}
-use Rattle.rules.specs.Move.{started, ticked, passes, chosen, allFinished, shapedMoveBy, moveBy}
+use Rattle.rules.specs.Move.{started, ticked, passes, chosen, allFinished, shapedMoveWith, moveWith, moveBy}
 use Rattle.rules.specs.Slots.{slotFor}
 use Rattle.rules.specs.Check.{slotTests, checkSlots, checkSchedule}
 
@@ -39,6 +39,6 @@ unfolding sumTo maxTo allTo anyTo joinTo joinIn anyIn keepIn firstIn sumIn chang
     windowTests checkParts rowFault checkLoad kept cut allCosts largestPhase allEmbeddedWaits largestW boundBy
     partners pairCosts smallestCosts bound rowBound margin verdict margins bytesOfMargins blameAmong placeWaits
     rowBlame blames opensAt openAt shaped isAllowed isCandidate candidates due inTimeBy stackBy windowLeft lampWord
-    lampCount started ticked passes chosen allFinished shapedMoveBy moveBy slotFor slotTests checkSlots
-    checkSchedule
+    lampCount started ticked passes chosen allFinished shapedMoveWith moveWith moveBy slotFor slotTests
+    checkSlots checkSchedule
 computing = 0

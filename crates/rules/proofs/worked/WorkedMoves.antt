@@ -1,10 +1,13 @@
 -- The worked cases of one move of the bench hold, by computing: the steps that are ready, allowed and candidates, the
--- stacking plan, the shape of a state, and what a move hands back.
+-- stacking plan, the shape of a state, what a move hands back, and the order by class.
 use mathlib.Core.Path.{refl}
+use Rattle.rules.specs.State.{fresh}
+use Rattle.rules.specs.Run.{startsBy, scheduleBy}
 use Rattle.rules.specs.WorkedReady.{WorkedReady}
 use Rattle.rules.specs.WorkedPlan.{WorkedPlan}
 use Rattle.rules.specs.WorkedShape.{WorkedShape}
 use Rattle.rules.specs.WorkedMoves.{WorkedMoves}
+use Rattle.rules.specs.WorkedUrgent.{WorkedUrgent}
 use Rattle.rules.proofs.worked.WorkedComputing.{computing}
 
 pub worked-ready : WorkedReady
@@ -71,4 +74,18 @@ worked-moves =
       full = refl;
       not-yet-full = refl;
       no-shape = refl;
+    }
+
+pub worked-urgent : WorkedUrgent
+unfolding computing fresh startsBy scheduleBy
+worked-urgent =
+    record {
+      by-class = refl;
+      one-class = refl;
+      step-first = refl;
+      stack-by-due = refl;
+      stack-by-row = refl;
+      load-a = refl;
+      falling = refl;
+      waits-for-step = refl;
     }

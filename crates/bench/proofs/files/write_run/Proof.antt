@@ -19,6 +19,9 @@ use Rattle.bench.proofs.files.write_run.Proof.WritingRun.{place, read, 
 use Rattle.bench.proofs.files.write_run.Proof.WritingRun.{all, asked, accepted, counted}
 use Rattle.bench.proofs.files.write_run.Proof.WritingRun.{turn, read-in, less, up, row-place}
 
+written : tie.Need-array-write-classes Inv-loop μ-loop Inv-loop2 μ-loop2
+written c = place (c .before .before .before .before .before)
+
 loop2-again : tie.Need-loop2-again Inv-loop μ-loop Inv-loop2 μ-loop2
 loop2-again c =
     let wrote = c .before .before in
@@ -26,7 +29,7 @@ loop2-again c =
     let started = made .before .before in
     let next = started .before .before .before .before .before in
     let inv = turn next .before .loop2 .inv in (
-      search needs,
+      omega (arith, turn next .loop2-test .taken),
       wrote .overwrite2 .kept .0 ∙ inv .1,
       records-next (schedule (viewOf (load (read-in next)))) _ _ _ _ (turn next .before .loop2 .k) (less next) (inv .2)
           (made .slot-record .ensures ∙ ap slotRecord (started .start-row .ensures .0 .slot-is ∙ up next .slot-is))
@@ -54,7 +57,7 @@ write-run-spec =
     (tie.spec
     Inv-loop μ-loop Inv-loop2 μ-loop2 (λ c κs. search needs) (λ c. search needs) returns (λ c. search needs)
     (λ c. search needs) loop-holds (λ c. omega (arith, place c)) (λ c. place c) (λ c κs. search needs)
-    (λ c. search needs) (λ c. search needs) loop-again steps-of-requires
+    written (λ c. search needs) (λ c. search needs) loop-again steps-of-requires
     (λ c κs. search needs) (λ c. search needs) returns-2 (λ c. search needs) (λ c κs. search needs)
     (λ c. search needs) (λ c κs. search needs) loop2-holds (λ c κs. search needs) (λ c. omega (arith, row-place c))
     (λ c. row-place c)

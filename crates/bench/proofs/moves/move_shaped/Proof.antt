@@ -17,7 +17,7 @@ use Rattle.bench.proofs.moves.move_shaped.Proof.LookedUp.{returns, retu
 -- a row was looked for
 module _ (c : tie.After-chosen-row) where
   abbrev early : tie.Else2
-  early = c .before .before .before .before
+  early = c .before .before .before .before .before
 
   abbrev tested : tie.After-all-finished
   tested = early .before .before
@@ -32,7 +32,7 @@ returns-3 c =
     let begun = first found in
     stepped-move (begun .args .load) (begun .args .bench) _ (made (tested found) .fill-board .ensures .0) (size begun)
     (rows-most begun) (begun .pre .1) (sym (asked (tested found)) ∙ early found .before .if1 .left)
-    (early found .if2 .left) (c .handed2 .result)
+    (early found .if2 .left) _ (made (tested found) .fill-board .ensures .1 .1) (c .handed2 .result)
     (record {
       row = found .chosen-row .result;
       chosen = found .chosen-row .ensures;
@@ -52,7 +52,7 @@ module _ (c : tie.Else3) where
   next-most =
       let begun = first (c .before) in
       chosen-next _ (begun .args .bench) _ (made (tested (c .before)) .fill-board .ensures .0) (size begun)
-      (rows-most begun) _ (c .before .chosen-row .ensures) row-is .1
+      (rows-most begun) _ _ (c .before .chosen-row .ensures) row-is .1
 
 returns-4 : tie.Need-returns-4
 returns-4 c =
@@ -64,12 +64,12 @@ returns-4 c =
     let begun = first found in
     stepped-move (begun .args .load) (begun .args .bench) _ (made (tested found) .fill-board .ensures .0) (size begun)
     (rows-most begun) (begun .pre .1) (sym (asked (tested found)) ∙ early found .before .if1 .left)
-    (early found .if2 .left) (c .handed3 .result)
+    (early found .if2 .left) _ (made (tested found) .fill-board .ensures .1 .1) (c .handed3 .result)
     (record {
       row = found .chosen-row .result;
       chosen = found .chosen-row .ensures;
       starts = λ l. handed-start _ _ _ _ _ _ _ _ _ _ _ _ (place some)
-          (made (tested found) .fill-board .ensures .1 .counts-length)
+          (made (tested found) .fill-board .ensures .1 .0 .counts-length)
           (looked .look-at .ensures) (opened .opening-after .ensures) refl (slotted .slot-of .ensures)
           (c .before .before .start .ensures) (c .handed3 .ensures);
       idles = λ l. absurd (omega (arith, row-is some));
@@ -79,14 +79,14 @@ pub move-shaped-spec : {M : Type 1} → statement M
 move-shaped-spec =
     tie.close
     (tie.spec
-    (λ c κs. let begun = c .before .before .before in (
+    (λ c κs. let begun = c .before .before .before .before in (
       begun .pre .0,
       (
         begun .pre .1,
-        record { counts-length = refl; lengths-length = refl; moments-length = refl },
+        (record { counts-length = refl; lengths-length = refl; moments-length = refl }, refl),
       ),
     ))
-    (λ c. search needs) (λ c κs. rows-most (c .before .before .before .before .before .before))
+    (λ c. search needs) (λ c κs. rows-most (c .before .before .before .before .before .before .before))
     (λ c κs. rows-most (start (c .before .before))) returns (λ c κs. search needs) returns-2 (λ c κs. search needs)
     (λ c κs. clock-most (first (c .before))) (λ c κs. rows-most (first (c .before .before .before))) returns-3
     (λ c κs. search needs) (λ c κs. search needs) (λ c. search needs)
@@ -94,7 +94,7 @@ move-shaped-spec =
     (λ c. omega (arith, place (c .before .before .before .before .before .before)))
     (λ c κs. let some = c .before .before .before .before .before .before in let begun = first
     (some .before) in let next = chosen-next _ (begun .args .bench) _ (made
-    (tested (some .before)) .fill-board .ensures .0) (size begun) (rows-most begun) _
+    (tested (some .before)) .fill-board .ensures .0) (size begun) (rows-most begun) _ _
     (some .before .chosen-row .ensures) (row-is some) in (
       place some,
       omega

@@ -20,7 +20,7 @@ use Rattle.bench.proofs.runs.run_checked.Statement.{statement}
 use Rattle.bench.proofs.runs.run_checked.Tie as tie
 
 abbrev Inv-loop : tie.InvT-loop
-Inv-loop load rows counts₀ lengths₀ moments₀ steps clock₀ slots₀ k₀ counts lengths moments clock slots k =
+Inv-loop load rows counts₀ lengths₀ moments₀ classes steps clock₀ slots₀ k₀ counts lengths moments clock slots k =
     (k ≤ steps)
     × (steps ≡ length (schedule (viewOf load)))
     × Placed counts lengths moments
@@ -28,23 +28,24 @@ Inv-loop load rows counts₀ lengths₀ moments₀ steps clock₀ slots₀ k₀ 
     × (slots ≡ filled (slotAt (schedule (viewOf load))) k slotPlaces noSlot)
 
 abbrev μ-loop : tie.MeasureT-loop
-μ-loop load rows counts₀ lengths₀ moments₀ steps clock₀ slots₀ k₀ counts lengths moments clock slots k = steps - k
+μ-loop load rows counts₀ lengths₀ moments₀ classes steps clock₀ slots₀ k₀ counts lengths moments clock slots k =
+    steps - k
 
 fill-board-requires : tie.Need-fill-board-requires Inv-loop μ-loop
 fill-board-requires c κs =
-    let made = c .before .before .before in
+    let made = c .before .before .before .before in
     let ok = made .before .pre in (
       ok,
       (
         rw (made .fresh .ensures) (fresh-shaped _ ok (checked-rows _ ok)),
-        record { counts-length = refl; lengths-length = refl; moments-length = refl },
+        (record { counts-length = refl; lengths-length = refl; moments-length = refl }, refl),
       ),
     )
 
 -- the rows were looked up
 module _ (c : tie.After-fill-board Inv-loop μ-loop) where
   abbrev bench : tie.After-fresh Inv-loop μ-loop
-  bench = c .before .before .before .before
+  bench = c .before .before .before .before .before
 
   abbrev start : tie.Start Inv-loop μ-loop
   start = bench .before
@@ -66,7 +67,7 @@ loop-holds c =
     let shows = made .fill-board .ensures .0 in (
       search needs,
       c .steps-of .ensures ∙ steps-counted (load made) ok (most made) _ _ shows,
-      made .fill-board .ensures .1,
+      made .fill-board .ensures .1 .0,
       running-fresh (load made) ok (most made) _ _ (bench made .fresh .ensures) shows,
       sym (filled-none (slotAt (schedule (viewOf (load made)))) slotPlaces noSlot),
     )
@@ -74,7 +75,7 @@ loop-holds c =
 -- the next start is looked for
 module _ (c : tie.After-next-start Inv-loop μ-loop) where
   abbrev turn : tie.In-loop Inv-loop μ-loop
-  turn = c .before .before .before .before
+  turn = c .before .before .before .before .before
 
   abbrev made : tie.After-fill-board Inv-loop μ-loop
   made = turn .before .before .before .before
@@ -86,7 +87,8 @@ module _ (c : tie.After-next-start Inv-loop μ-loop) where
   up =
       let inv = turn .before .loop .inv in
       next-up (load made) (start made .pre) (most made) board _ _ (inv .3)
-      (omega (arith, turn .loop-test .taken, inv .1)) (c .next-start .result) (c .next-start .ensures)
+      (omega (arith, turn .loop-test .taken, inv .1)) _ (made .fill-board .ensures .1 .1) (c .next-start .result)
+      (c .next-start .ensures)
 
   place : c .next-start .result .row < 24
   place = omega (arith, up .row-is, most made)

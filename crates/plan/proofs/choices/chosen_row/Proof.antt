@@ -9,29 +9,29 @@ use Rattle.plan.proofs.choices.chosen_row.Tie as tie
 returns : tie.Need-returns
 returns c =
     let asked = c .before in
-    chosen-most _ _ _ _ _ (asked .at-most-rows .ensures)
-    (chosen-past _ _ _ (omega (arith, asked .at-most-rows .ensures)) (c .if1 .taken))
+    chosen-most _ _ _ _ _ _ (asked .at-most-rows .ensures)
+    (chosen-past _ _ _ _ (omega (arith, asked .at-most-rows .ensures)) (c .if1 .taken))
 
 search-requires : tie.Need-search-requires
 search-requires c κs =
     let stack = c .before .before .before .before in
     let numbers = stack .before in
     let lowest = numbers .before in
-    let most = lowest .before .before .at-most-rows .ensures in (
+    let most = lowest .before .before .before .at-most-rows .ensures in (
       record {
         rows-most = omega (arith, most);
-        clock-most = lowest .before .if1 .left;
+        clock-most = lowest .before .before .if1 .left;
         lowest-is = lowest .lowest-step .ensures;
         stack = stack .stack-of .ensures .0;
         known = refused-none _ _ _ (omega (arith, most));
       },
-      numbers .numbers-of .ensures,
+      (numbers .numbers-of .ensures, lowest .before .first-turn .ensures),
     )
 
 returns-2 : tie.Need-returns-2
 returns-2 c =
     let lowest = c .before .before .before .before .before .before .before in
-    chosen-most _ _ _ _ _ (lowest .before .before .at-most-rows .ensures) (c .search .ensures .0)
+    chosen-most _ _ _ _ _ _ (lowest .before .before .before .at-most-rows .ensures) (c .search .ensures .0)
 
 pub chosen-row-spec : {M : Type 1} → statement M
 chosen-row-spec =
@@ -39,6 +39,7 @@ chosen-row-spec =
     (tie.spec
     (λ c κs. search needs)
     returns
+    (λ c κs. search needs)
     (λ c κs. search needs)
     (λ c κs. search needs)
     (λ c κs. search needs)

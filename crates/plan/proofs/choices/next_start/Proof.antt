@@ -11,28 +11,28 @@ use Rattle.plan.proofs.choices.next_start.Statement.{statement}
 use Rattle.plan.proofs.choices.next_start.Tie as tie
 
 returns : tie.Need-returns
-returns c = next-past _ _ _ _ (c .before .at-most-rows .ensures) (c .if1 .taken)
+returns c = next-past _ _ _ _ _ (c .before .at-most-rows .ensures) (c .if1 .taken)
 
 search-requires : tie.Need-search-requires
 search-requires c κs =
     let stack = c .before .before .before .before in
     let numbers = stack .before in
     let lowest = numbers .before in
-    let most = lowest .before .before .at-most-rows .ensures in (
+    let most = lowest .before .before .before .at-most-rows .ensures in (
       record {
         rows-most = omega (arith, most);
-        clock-most = lowest .before .if1 .left;
+        clock-most = lowest .before .before .if1 .left;
         lowest-is = lowest .lowest-step .ensures;
         stack = stack .stack-of .ensures .0;
         known = refused-none _ _ _ (omega (arith, most));
       },
-      numbers .numbers-of .ensures,
+      (numbers .numbers-of .ensures, lowest .before .first-turn .ensures),
     )
 
 returns-2 : tie.Need-returns-2
 returns-2 c =
     let lowest = c .before .before .before .before .before .before .before .before in
-    next-now _ _ _ _ _ (lowest .before .before .at-most-rows .ensures) (lowest .before .if1 .left)
+    next-now _ _ _ _ _ _ (lowest .before .before .before .at-most-rows .ensures) (lowest .before .before .if1 .left)
     (c .before .search .ensures .0) (c .if2 .taken)
 
 -- what is known once the clock was searched
@@ -43,20 +43,22 @@ module _ (c : tie.After-search) where
   abbrev lowest : tie.After-lowest-step
   lowest = stack .before .before
 
-  abbrev board : Board
-  board =
-      boardIn (lowest .before .before .before .args .counts .now) (lowest .before .before .before .args .lengths .now)
-      (lowest .before .before .before .args .moments .now)
+  abbrev begun : tie.Start
+  begun = lowest .before .before .before .before
 
-  fits : (until : List ℕ)
-      → RefusedTo board (lowest .before .before .before .args .clock) (lowest .before .before .at-most-rows .result)
-      until
+  abbrev last : ℕ
+  last = lowest .before .before .before .at-most-rows .result
+
+  abbrev board : Board
+  board = boardIn (begun .args .counts .now) (begun .args .lengths .now) (begun .args .moments .now)
+
+  fits : (until : List ℕ) → RefusedTo board (begun .args .clock) last until
       → SearchFits board (stack .stack-of .result .row) (stack .stack-of .result .count) (lowest .lowest-step .result)
-      (lowest .before .before .before .args .clock) (lowest .before .before .at-most-rows .result) until
+      (begun .args .clock) last until
   fits until known =
       record {
-        rows-most = omega (arith, lowest .before .before .at-most-rows .ensures);
-        clock-most = lowest .before .if1 .left;
+        rows-most = omega (arith, lowest .before .before .before .at-most-rows .ensures);
+        clock-most = lowest .before .before .if1 .left;
         lowest-is = lowest .lowest-step .ensures;
         stack = stack .stack-of .ensures .0;
         known = known;
@@ -69,7 +71,7 @@ sweep-requires c κs =
       fits searched _ (searched .search .ensures .1),
       (
         stack searched .before .numbers-of .ensures,
-        bound .start-bound .ensures .most,
+        (lowest searched .before .first-turn .ensures, bound .start-bound .ensures .most),
       ),
     )
 
@@ -78,8 +80,8 @@ returns-3 c =
     let swept = c .before in
     let bound = swept .before .before .before .before .before in
     let searched = bound .before .before .before .before .before in
-    next-swept _ _ _ _ _ _ (bound .start-bound .ensures) (swept .sweep .ensures) _ _
-    (lowest searched .before .before .at-most-rows .ensures) (lowest searched .before .if1 .left)
+    next-swept _ _ _ _ _ _ _ (bound .start-bound .ensures) (swept .sweep .ensures) _ _
+    (lowest searched .before .before .before .at-most-rows .ensures) (lowest searched .before .before .if1 .left)
     (c .at-most-moment .ensures)
 
 pub next-start-spec : {M : Type 1} → statement M
@@ -88,6 +90,7 @@ next-start-spec =
     (tie.spec
     (λ c κs. search needs)
     returns
+    (λ c κs. search needs)
     (λ c κs. search needs)
     (λ c κs. search needs)
     (λ c κs. search needs)

@@ -4,11 +4,11 @@ use Prim.Native.Nat.{ℕ, _-_, _≤_, _<_}
 use mathlib.Core.Path.{_≡_, refl, sym, _∙_}
 use native.Mathlib.Omega.{arith}
 use borrow.Author.Needs.{needs}
-use lib.ListN.{length}
+use lib.ListN.{length, length-set}
 use lib.Seq.{sets}
 use Rattle.refusals.specs.declared.Checked.the-variants.{Good}
 use Rattle.load.specs.declared.Load.{Load}
-use Rattle.load.specs.Load.{rowAt}
+use Rattle.load.specs.Load.{mostRows, rowAt}
 use Rattle.load.specs.Check.{checkLoad}
 use Rattle.load.specs.View.{viewOf}
 use Rattle.load_file.proofs.CallLaws.{ReadLoad-accepted}
@@ -19,9 +19,10 @@ use Rattle.plan.specs.Boards.{Board, boardIn}
 use Rattle.schedule_file.specs.ScheduleFile.{headerSize}
 use Rattle.schedule_file.proofs.ArrayLaws.{recordsOf, recordsOf-zero}
 use Rattle.bench.specs.Held.{benchOf}
-use Rattle.bench.specs.inner.Boards.{Placed, Shows}
+use Rattle.bench.specs.inner.Boards.{Placed, Shows, ClassesOf}
 use Rattle.bench.proofs.shown.CheckedLaws.{checked-rows, checked-steps}
 use Rattle.bench.proofs.shown.ShownRows.{Shown, shown-next, shows-all, fresh-looked, fresh-steps, fresh-opening}
+use Rattle.bench.proofs.shown.ShownRows.{classes-next}
 use Rattle.bench.proofs.shown.PutLaws.{boardIn-wide, put-renewed, put-placed}
 use Rattle.bench.proofs.running.RunningLaws.{Running, steps-counted, running-fresh}
 use Rattle.bench.proofs.running.StartedRun.{NextUp, next-up}
@@ -29,16 +30,18 @@ use Rattle.bench.proofs.running.FileRuns.{unread-run, short-run}
 use Rattle.bench.proofs.files.write_run.Tie as tie
 
 abbrev pub Inv-loop : tie.InvT-loop
-Inv-loop bytes out load rows counts₀ lengths₀ moments₀ i₀ counts lengths moments i =
+Inv-loop bytes out load rows counts₀ lengths₀ moments₀ classes₀ i₀ counts lengths moments classes i =
     (i ≤ rows)
     × Placed counts lengths moments
     × ((k : ℕ) → k < i → Shown load (benchOf fresh) (boardIn counts lengths moments) k)
+    × (length classes ≡ mostRows)
+    × ClassesOf load i classes
 
 abbrev pub μ-loop : tie.MeasureT-loop
-μ-loop bytes out load rows counts₀ lengths₀ moments₀ i₀ counts lengths moments i = rows - i
+μ-loop bytes out load rows counts₀ lengths₀ moments₀ classes₀ i₀ counts lengths moments classes i = rows - i
 
 abbrev pub Inv-loop2 : tie.InvT-loop2
-Inv-loop2 bytes out₀ load rows counts₀ lengths₀ moments₀ steps clock₀ k₀ out counts lengths moments clock k =
+Inv-loop2 bytes out₀ load rows counts₀ lengths₀ moments₀ classes steps clock₀ k₀ out counts lengths moments clock k =
     (k ≤ steps)
     × (length out ≡ length out₀)
     × (out ≡ sets out₀ headerSize (recordsOf (schedule (viewOf load)) k))
@@ -46,7 +49,8 @@ Inv-loop2 bytes out₀ load rows counts₀ lengths₀ moments₀ steps clock₀ 
     × Running load (boardIn counts lengths moments) clock k
 
 abbrev pub μ-loop2 : tie.MeasureT-loop2
-μ-loop2 bytes out₀ load rows counts₀ lengths₀ moments₀ steps clock₀ k₀ out counts lengths moments clock k = steps - k
+μ-loop2 bytes out₀ load rows counts₀ lengths₀ moments₀ classes steps clock₀ k₀ out counts lengths moments clock k =
+    steps - k
 
 pub returns : tie.Need-returns Inv-loop μ-loop Inv-loop2 μ-loop2
 returns c =
@@ -74,6 +78,8 @@ loop-holds c = (
   search needs,
   record { counts-length = refl; lengths-length = refl; moments-length = refl },
   λ k l. absurd (omega arith),
+  refl,
+  λ k l. absurd (omega arith),
 )
 
 -- the row to be looked up
@@ -98,6 +104,8 @@ loop-again c =
       shown-next file (benchOf fresh) _ _ i look (place turn)
           (put-renewed _ _ _ i look _ _ _ put (place turn) (inv .1) look refl) (inv .2)
           (fresh-looked file i steps) (fresh-steps file i steps) (fresh-opening file i steps),
+      length-set (turn .before .loop .classes) i _ ∙ inv .3,
+      classes-next file (turn .before .loop .classes) i (omega (arith, place turn, inv .3)) (inv .4),
     )
 
 -- every row was looked up
@@ -110,6 +118,9 @@ module _ (c : tie.After-loop Inv-loop μ-loop Inv-loop2 μ-loop2) where
 
   pub shows : Shows (load known) (benchOf fresh) board
   shows = shows-all _ _ _ (boardIn-wide _ _ _) (λ k l. c .before .loop .inv .2 k (omega (arith, c .loop-test .left)))
+
+  pub told-classes : ClassesOf (load known) (load known .rows) (c .before .loop .classes)
+  told-classes k l = c .before .loop .inv .4 k (omega (arith, c .loop-test .left))
 
 pub steps-of-requires : tie.Need-steps-of-requires Inv-loop μ-loop Inv-loop2 μ-loop2
 steps-of-requires c κs = let all = c .before in (most (known all), shows all .steps-most)
@@ -151,7 +162,7 @@ loop2-holds c =
 -- the next start is looked for
 module _ (c : tie.After-next-start Inv-loop μ-loop Inv-loop2 μ-loop2) where
   abbrev pub turn : tie.In-loop2 Inv-loop μ-loop Inv-loop2 μ-loop2
-  turn = c .before .before .before .before
+  turn = c .before .before .before .before .before
 
   abbrev pub begun : tie.After-enum-told2 Inv-loop μ-loop Inv-loop2 μ-loop2
   begun = turn .before .before .before .before .before .before .before .before
@@ -167,7 +178,7 @@ module _ (c : tie.After-next-start Inv-loop μ-loop Inv-loop2 μ-loop2) where
       (turn .before .loop2 .k) (c .next-start .result)
   up =
       next-up (load read-in) (accepted read-in) (most read-in) (boardIn _ _ _) _ _ (turn .before .loop2 .inv .4) less
-      (c .next-start .result) (c .next-start .ensures)
+      _ (told-classes (all (asked begun))) (c .next-start .result) (c .next-start .ensures)
 
   pub row-place : c .next-start .result .row < 24
   row-place = omega (arith, up .row-is, most read-in)

@@ -34,7 +34,7 @@ module _ (c : tie.After-all-finished) where
   made = c .before .before .before
 
   abbrev pub start : tie.Start
-  start = made .before .before .before .before
+  start = made .before .before .before .before .before
 
   pub asked : c .all-finished .result ≡ allFinished (viewOf (start .args .load)) (stateOf (start .args .bench))
   asked =

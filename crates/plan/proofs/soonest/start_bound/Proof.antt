@@ -3,8 +3,8 @@ use native.Mathlib.Omega.{arith}
 use borrow.Author.Needs.{needs}
 use Rattle.plan.specs.Boards.{boardIn}
 use Rattle.plan.proofs.SweptLaws.{starts-first}
-use Rattle.plan.proofs.sweeping.start_bound.Statement.{statement}
-use Rattle.plan.proofs.sweeping.start_bound.Tie as tie
+use Rattle.plan.proofs.soonest.start_bound.Statement.{statement}
+use Rattle.plan.proofs.soonest.start_bound.Tie as tie
 
 returns : tie.Need-returns
 returns c = record { most = omega arith; starts = λ h. absurd (omega arith) }

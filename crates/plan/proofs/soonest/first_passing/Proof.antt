@@ -7,8 +7,8 @@ use native.Mathlib.Omega.{arith}
 use Rattle.load.specs.Load.{lastMoment}
 use Rattle.plan.specs.Boards.{boardIn, lookIn}
 use Rattle.plan.specs.Choices.{passesIn}
-use Rattle.plan.proofs.sweeping.first_passing.Statement.{statement}
-use Rattle.plan.proofs.sweeping.first_passing.Tie as tie
+use Rattle.plan.proofs.soonest.first_passing.Statement.{statement}
+use Rattle.plan.proofs.soonest.first_passing.Tie as tie
 
 abbrev Inv-loop : tie.InvT-loop
 Inv-loop counts lengths moments order count from before rows i moment₀ moment =

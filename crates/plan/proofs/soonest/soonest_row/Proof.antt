@@ -8,8 +8,8 @@ use borrow.Author.Needs.{needs}
 use Rattle.counting.specs.Lists.{memberAt, isMarked}
 use Rattle.plan.specs.Boards.{numbersFrom, marksFrom}
 use Rattle.plan.specs.inner.Searching.{triedBy, TriedRow}
-use Rattle.plan.proofs.sweeping.soonest_row.Statement.{statement}
-use Rattle.plan.proofs.sweeping.soonest_row.Tie as tie
+use Rattle.plan.proofs.soonest.soonest_row.Statement.{statement}
+use Rattle.plan.proofs.soonest.soonest_row.Tie as tie
 
 abbrev Inv-loop : tie.InvT-loop
 Inv-loop counts moments until lowest rows row₀ soonest₀ i₀ row soonest i =
