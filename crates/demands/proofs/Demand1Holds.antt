@@ -3,7 +3,7 @@
 use mathlib.Core.Path.{ap, sym, _∙_}
 use Rattle.refusals.specs.declared.Checked.the-variants.{Good}
 use Rattle.refusals.proofs.TableLaws.{numberOf-apart, numberOf-least, numberOf-le}
-use Rattle.load.specs.Check.{checkLoad}
+use Rattle.load.specs.Plain.{checkPlain}
 use Rattle.sheet.specs.Writing.{sheetBytes}
 use Rattle.rules.specs.Margins.{marginBytes}
 use Rattle.bench.specs.declared.Moved.{Moved}
@@ -28,9 +28,10 @@ demand1 =
       exactly = exactly-then;
       load-first = load-first;
       alone = returned-alone;
-      load-stays = λ load out refusal after g. g .output-is;
+      version-1-stays = λ load out refusal after g. g .output-is;
+      version-2-stays = λ load out refusal after g. g .output-is;
       sheet-stays = λ load out refusal r after p e.
-          out-keeps (checkLoad load) (sheetBytes load) out refusal r after p e;
+          out-keeps (checkPlain load) (sheetBytes load) out refusal r after p e;
       schedule-stays = λ slots out refusal after g. g .output-is;
       run-stays = λ bs out refusal after g. g .output-is;
       array-stays = λ slots n out refusal after g. g .output-is;

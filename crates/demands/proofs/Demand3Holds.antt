@@ -31,8 +31,9 @@ use Rattle.schedule_file.specs.ScheduleFile.{scheduleBytes}
 use Rattle.bench.proofs.running.RunsLaws.{Runs-schedule}
 use Rattle.demands.specs.NumberLists.{OneOf, ofLateRow}
 use Rattle.demands.specs.Demand3.{Run, startsOf, RunKept, Demand3}
-use Rattle.demands.proofs.Demand2Holds.{file-back, demand2}
-use Rattle.demands.proofs.demand2.SheetHolds.{sheet-back}
+use Rattle.demands.proofs.Demand2Holds.{demand2}
+use Rattle.demands.proofs.demand2.FilesHold.{file-good}
+use Rattle.demands.proofs.demand2.SheetHolds.{sheet-good}
 use Rattle.demands.proofs.moves.RunByCalls.{run-of, run-states, run-moves}
 
 -- a check that is Good or 17, behind a load's check that is Good
@@ -85,9 +86,8 @@ pub demand3 : Demand3
 demand3 =
     record {
       of-loads = λ load good run. run-kept load (sym good) run;
-      of-files = λ bs b r e g run.
-          run-kept (r .load) (file-back bs r b e g .good) run;
-      of-sheets = λ bs b r e g run. run-kept (r .load) (sheet-back bs r b e g .good) run;
+      of-files = λ bs b r e g run. run-kept (r .load) (file-good bs r e g b) run;
+      of-sheets = λ bs b r e g run. run-kept (r .load) (sheet-good bs r b e g) run;
       runs-of-files = λ bs b r e g out after w.
           w .output-is ∙ ap (λ load. written (scheduleBytes (schedule (viewOf load))) out) (sym
           (ReadLoad-load bs r e g));

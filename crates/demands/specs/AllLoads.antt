@@ -1,5 +1,5 @@
 -- "Loads to try": those marked P, "gathered as a single statement over the whole list", and with
--- them the load of request 2026-04. To be read after LoadsToTry.
+-- them the loads of requests 2026-04 and 2026-05. To be read after LoadsToTry.
 use mathlib.Core.List.{List, [], _∷_, map}
 use mathlib.Core.Path.{_≡_}
 use Rattle.refusals.specs.declared.Checked.the-variants.{Good, Refused}
@@ -8,6 +8,7 @@ use Rattle.load.specs.Check.{checkLoad}
 use Rattle.load.specs.View.{viewOf}
 use Rattle.load.specs.Notation.{padded}
 use Rattle.load_records.specs.Writing.{loadBytes}
+use Rattle.load_file.specs.Places.{versionSaid}
 use Rattle.load_file.specs.Reading.{readLoad}
 use Rattle.load_file.specs.RoundTrip.{accepted}
 use Rattle.rules.specs.Margins.{marginBytes}
@@ -27,14 +28,15 @@ use Rattle.demands.specs.LoadB9.{loadB9}
 use Rattle.demands.specs.LoadPhase.{loadPhase8, loadPhase7}
 use Rattle.demands.specs.SmallLoads.{loadUnequal, loadWaits0, loadEmpty}
 use Rattle.demands.specs.FaultyLoads.{loadB7, loadTwins, loadTwinsInOneBox, loadFactory}
+use Rattle.demands.specs.LoadUrgent.{loadUrgent}
 use Rattle.demands.specs.Notation.{bytesOf, linesOf}
 
 -- what is claimed of an acceptable load
 pub record SoundHolds (e : Sound) : Type 0 where
   -- its file is read as that load
   pub reads : readLoad (bytesOf (e .file)) ≡ accepted (e .load)
-  -- the load is written as that file
-  pub writes : loadBytes (e .load) ≡ bytesOf (e .file)
+  -- the load is written, in the version that the file names, as that file
+  pub writes : loadBytes (versionSaid (bytesOf (e .file))) (e .load) ≡ bytesOf (e .file)
   -- the check of the load in memory meets nothing
   pub checks : checkLoad (e .load) ≡ Good
   -- bound, row bounds, margins, verdict, starts, end and the check of the schedule are as stated
@@ -67,7 +69,7 @@ pub data Entry : Type 0 where
   sound : Sound → Entry
   faulty : Faulty → Entry
 
--- the loads marked P, and the factory identifier's
+-- the loads marked P, the factory identifier's and the urgent one
 abbrev pub loadsToTry : List Entry
 loadsToTry =
     sound loadA
@@ -82,6 +84,7 @@ loadsToTry =
     ∷ faulty loadTwins
     ∷ faulty loadTwinsInOneBox
     ∷ faulty loadFactory
+    ∷ sound loadUrgent
     ∷ []
 
 -- what is claimed of a load to try

@@ -52,10 +52,10 @@ pub record EveryBenchCall {ℓ} (Claim : (A : Type 0) → (A → Type 0) → Typ
       → Claim Arrays (Puts (PutLook counts lengths moments i look))
   pub opening-after : (stays opened : Bool) (opening clock : ℕ)
       → Claim ℕ (OpeningAfter stays opened opening clock)
-  pub chosen-row : (counts lengths moments : List ℕ) (clock rows : ℕ)
-      → Claim ℕ (ChosenRow (boardIn counts lengths moments) clock rows)
-  pub next-start : (counts lengths moments : List ℕ) (clock rows : ℕ)
-      → Claim Chosen (NextStart (boardIn counts lengths moments) clock rows)
+  pub chosen-row : (counts lengths moments classes : List ℕ) (clock rows : ℕ)
+      → Claim ℕ (ChosenRow (boardIn counts lengths moments) classes clock rows)
+  pub next-start : (counts lengths moments classes : List ℕ) (clock rows : ℕ)
+      → Claim Chosen (NextStart (boardIn counts lengths moments) classes clock rows)
   -- bench
   pub fresh : Claim Bench Fresh
   pub next-move : (load : Load) (bench : Bench) → Claim Moved (NextMove load bench)

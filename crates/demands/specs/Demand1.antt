@@ -12,7 +12,7 @@ use Rattle.refusals.specs.declared.Checked.the-variants.{Refused}
 use Rattle.refusals.specs.declared.Written.{Written}
 use Rattle.refusals.specs.Calls.{NumberOf}
 use Rattle.load.specs.declared.Load.{Load}
-use Rattle.load_records.specs.Calls.{WriteLoad}
+use Rattle.load_records.specs.Calls.{WriteVersion1, WriteVersion2}
 use Rattle.sheet.specs.Calls.{WriteSheet}
 use Rattle.rules.specs.declared.Slot.{Slot}
 use Rattle.rules.specs.declared.Outcome.the-variants as outcome
@@ -62,8 +62,10 @@ pub record Demand1 : Type 0 where
   -- a refusal is returned alone
   pub alone : ReturnedAlone
   -- a refused call leaves the output as it was
-  pub load-stays : (load : Load) (out : List ℕ) (refusal : Refusal) (after : List ℕ)
-      → WriteLoad load out (Refused refusal) after → after ≡ out
+  pub version-1-stays : (load : Load) (out : List ℕ) (refusal : Refusal) (after : List ℕ)
+      → WriteVersion1 load out (Refused refusal) after → after ≡ out
+  pub version-2-stays : (load : Load) (out : List ℕ) (refusal : Refusal) (after : List ℕ)
+      → WriteVersion2 load out (Refused refusal) after → after ≡ out
   pub sheet-stays : (load : Load) (out : List ℕ) (refusal : Refusal) (r : Written) (after : List ℕ)
       → WriteSheet load out r after → r .answer ≡ Refused refusal → after ≡ out
   pub schedule-stays : (slots : List Slot) (out : List ℕ) (refusal : Refusal) (after : List ℕ)

@@ -16,6 +16,7 @@ pub mod ExactlyThen
 pub mod LoadFirst
 pub mod ReturnedAlone
 pub mod Demand1
+pub mod FileAnswers
 pub mod HostAnswers
 pub mod SheetAnswers
 pub mod NoFactory
@@ -30,6 +31,7 @@ pub mod LoadB9
 pub mod LoadPhase
 pub mod SmallLoads
 pub mod FaultyLoads
+pub mod LoadUrgent
 pub mod AllLoads
 pub mod SheetsToTry
 pub mod WorkedRuns

@@ -10,7 +10,7 @@ use Rattle.load.specs.declared.Step.{Step}
 use Rattle.load.specs.declared.Window.{Window}
 use Rattle.load.specs.declared.Row.{Row}
 use Rattle.load.specs.declared.Load.{Load}
-use Rattle.load.specs.Calls.{CheckLoad, CheckFields, CheckStep, CheckWindow, CheckParts}
+use Rattle.load.specs.Calls.{CheckLoad, CheckPlain, CheckFields, CheckStep, CheckWindow, CheckParts}
 use Rattle.load.specs.Calls.{IdentifierTaken, BoxTaken, RowAt, StepAt, WindowAt, EmbeddedAt}
 use Rattle.load.specs.Calls.{ChainBetween, StepsIn, ZeroRow, ZeroLoad}
 
@@ -18,9 +18,11 @@ use Rattle.load.specs.Calls.{ChainBetween, StepsIn, ZeroRow, ZeroLoad}
 pub record EveryLoadCall {ℓ} (Claim : (A : Type 0) → (A → Type 0) → Type ℓ) : Type ℓ where
   -- load
   pub check-load : (load : Load) → Claim Checked (CheckLoad load)
+  pub check-plain : (load : Load) → Claim Checked (CheckPlain load)
   pub check-fields : (row : Row) → Claim Checked (CheckFields row)
-  pub check-step : (row : Row) (j : ℕ) → Claim Checked (CheckStep row j)
-  pub check-window : (row : Row) (k : ℕ) → Claim Checked (CheckWindow row k)
+  pub check-step : (step : Step) (isLast : Bool) → Claim Checked (CheckStep step isLast)
+  pub check-window : (row : Row) (window : Window) (before : ℕ)
+      → Claim Checked (CheckWindow row window before)
   pub check-parts : (row : Row) → Claim Checked (CheckParts row)
   pub identifier-taken : (identifiers : List Identifier) (n : ℕ) (identifier : Identifier)
       → Claim Bool (IdentifierTaken identifiers n identifier)

@@ -9,8 +9,8 @@ use Rattle.refusals.specs.declared.Checked.{Checked}
 use Rattle.refusals.specs.declared.Checked.the-variants.{Refused}
 use Rattle.refusals.specs.declared.Written.{Written}
 use Rattle.load.specs.declared.Load.{Load}
-use Rattle.load.specs.Calls.{CheckLoad}
-use Rattle.load_records.specs.Calls.{WriteLoad}
+use Rattle.load.specs.Calls.{CheckLoad, CheckPlain}
+use Rattle.load_records.specs.Calls.{WriteVersion1, WriteVersion2}
 use Rattle.sheet.specs.Calls.{WriteSheet}
 use Rattle.rules.specs.declared.Slot.{Slot}
 use Rattle.rules.specs.declared.Outcome.the-variants as outcome
@@ -45,8 +45,11 @@ pub record RefuseFirst (load : Load) (refusal : Refusal) : Type 0 where
       → r ≡ Refused refusal
   pub check-array : (slots : List Slot) (n : ℕ) (r : Checked) → CheckArray load slots n r
       → r ≡ Refused refusal
-  pub write-load : (out : List ℕ) (r : Checked) (after : List ℕ) → WriteLoad load out r after
-      → r ≡ Refused refusal
+  pub check-plain : (r : Checked) → CheckPlain load r → r ≡ Refused refusal
+  pub write-version-1 : (out : List ℕ) (r : Checked) (after : List ℕ)
+      → WriteVersion1 load out r after → r ≡ Refused refusal
+  pub write-version-2 : (out : List ℕ) (r : Checked) (after : List ℕ)
+      → WriteVersion2 load out r after → r ≡ Refused refusal
   pub write-sheet : (out : List ℕ) (r : Written) (after : List ℕ) → WriteSheet load out r after
       → r .answer ≡ Refused refusal
 

@@ -29,6 +29,10 @@ ofFields = ofRange ++ 21 ∷ []
 abbrev pub ofLoad : List ℕ
 ofLoad = ofFields ++ 4 ∷ 5 ∷ 6 ∷ 7 ∷ []
 
+-- the load's own and 22: a load to be written where no class and no head is carried
+abbrev pub ofPlain : List ℕ
+ofPlain = ofLoad ++ 22 ∷ []
+
 -- 1 to 8 and 21: a file, and so "the file's own numbers"
 abbrev pub ofFile : List ℕ
 ofFile = 1 ∷ 2 ∷ ofLoad ++ 8 ∷ []
@@ -68,6 +72,10 @@ ofC = ofFile ++ ofOutput
 -- the load's own and 9: a load that is written
 abbrev pub ofWriting : List ℕ
 ofWriting = ofLoad ++ ofOutput
+
+-- the load's own, 22 and 9: a load that is written as version 1 or as a sheet
+abbrev pub ofPlainWriting : List ℕ
+ofPlainWriting = ofPlain ++ ofOutput
 
 -- 3 and 9: slots that are written
 abbrev pub ofSlotWriting : List ℕ

@@ -1,14 +1,17 @@
 -- "Each is given exactly then, and returned alone": with which of the table's numbers each call can
 -- refuse. To be read after PublicCalls and NumberLists.
 use Prim.Native.Nat.{ℕ}
+use mathlib.Core.Bool.{Bool}
 use mathlib.Core.List.{List}
 use Rattle.refusals.specs.declared.Checked.{Checked}
 use Rattle.refusals.specs.declared.Written.{Written}
 use Rattle.refusals.specs.Refusals.{numberGiven}
+use Rattle.load.specs.declared.Step.{Step}
+use Rattle.load.specs.declared.Window.{Window}
 use Rattle.load.specs.declared.Row.{Row}
 use Rattle.load.specs.declared.Load.{Load}
-use Rattle.load.specs.Calls.{CheckLoad, CheckFields, CheckStep, CheckWindow, CheckParts}
-use Rattle.load_records.specs.Calls.{WriteLoad}
+use Rattle.load.specs.Calls.{CheckLoad, CheckPlain, CheckFields, CheckStep, CheckWindow, CheckParts}
+use Rattle.load_records.specs.Calls.{WriteVersion1, WriteVersion2}
 use Rattle.load_file.specs.declared.Reading.{Reading}
 use Rattle.load_file.specs.Calls.{ReadLoad}
 use Rattle.sheet.specs.Calls.{ReadSheet, WriteSheet}
@@ -30,8 +33,8 @@ use Rattle.bench.specs.Calls.{NextMove, Runs, WriteRun}
 use Rattle.reading_bench.specs.Calls.{BenchBound, BenchVerdict, BenchMargins, BenchSchedule}
 use Rattle.lines.specs.Calls.{PrintLines, PrintBlames}
 use Rattle.demands.specs.NumberLists.{OneOf, ofRange, ofFields, ofWindow}
-use Rattle.demands.specs.NumberLists.{ofLoad, ofFile, ofSheet}
-use Rattle.demands.specs.NumberLists.{ofOutput, ofC, ofWriting, ofSlotWriting}
+use Rattle.demands.specs.NumberLists.{ofLoad, ofPlain, ofFile, ofSheet}
+use Rattle.demands.specs.NumberLists.{ofOutput, ofC, ofWriting, ofPlainWriting, ofSlotWriting}
 use Rattle.demands.specs.NumberLists.{ofSchedule, ofMove}
 
 -- a call for C gives the file's own numbers and 9 alone
@@ -44,21 +47,24 @@ pub record Numbers : Type 0 where
   -- a load in memory, and its parts
   pub check-load : (load : Load) (r : Checked) → CheckLoad load r → OneOf ofLoad (numberGiven r)
   pub check-fields : (row : Row) (r : Checked) → CheckFields row r → OneOf ofFields (numberGiven r)
-  pub check-step : (row : Row) (j : ℕ) (r : Checked) → CheckStep row j r
+  pub check-plain : (load : Load) (r : Checked) → CheckPlain load r → OneOf ofPlain (numberGiven r)
+  pub check-step : (step : Step) (isLast : Bool) (r : Checked) → CheckStep step isLast r
       → OneOf ofRange (numberGiven r)
-  pub check-window : (row : Row) (k : ℕ) (r : Checked) → CheckWindow row k r
-      → OneOf ofWindow (numberGiven r)
+  pub check-window : (row : Row) (window : Window) (before : ℕ) (r : Checked)
+      → CheckWindow row window before r → OneOf ofWindow (numberGiven r)
   pub check-parts : (row : Row) (r : Checked) → CheckParts row r → OneOf ofWindow (numberGiven r)
-  -- a file that is read, and one that is written
+  -- a file that is read, and one that is written, in each version
   pub read-load : (bs : List ℕ) (r : Reading) → ReadLoad bs r
       → OneOf ofFile (numberGiven (r .answer))
-  pub write-load : (load : Load) (out : List ℕ) (r : Checked) (after : List ℕ)
-      → WriteLoad load out r after → OneOf ofWriting (numberGiven r)
+  pub write-version-1 : (load : Load) (out : List ℕ) (r : Checked) (after : List ℕ)
+      → WriteVersion1 load out r after → OneOf ofPlainWriting (numberGiven r)
+  pub write-version-2 : (load : Load) (out : List ℕ) (r : Checked) (after : List ℕ)
+      → WriteVersion2 load out r after → OneOf ofWriting (numberGiven r)
   -- a sheet that is read, and one that is written
   pub read-sheet : (bs : List ℕ) (r : Reading) → ReadSheet bs r
       → OneOf ofSheet (numberGiven (r .answer))
   pub write-sheet : (load : Load) (out : List ℕ) (r : Written) (after : List ℕ)
-      → WriteSheet load out r after → OneOf ofWriting (numberGiven (r .answer))
+      → WriteSheet load out r after → OneOf ofPlainWriting (numberGiven (r .answer))
   -- the largest W of each place; bound, margins, verdict and blames
   pub place-waits-of : (load : Load) (r : PlaceWaits) → PlaceWaitsOf load r
       → OneOf ofLoad (numberGiven (r .answer))

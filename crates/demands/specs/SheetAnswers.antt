@@ -1,6 +1,6 @@
 -- "Read a load from comma-separated lines .. and write one out": demand 2 for route sheets, over
 -- any results that meet the calls' relations. To be read after PublicCalls, and before Demand2.
--- Rests on D49, D86 and D88.
+-- Rests on D49, D86, D88 and D92.
 use Prim.Native.Nat.{ℕ, _≤_}
 use mathlib.Core.List.{List}
 use mathlib.Core.Path.{_≡_}
@@ -10,7 +10,7 @@ use Rattle.refusals.specs.declared.Checked.the-variants.{Good}
 use Rattle.refusals.specs.declared.Written.{Written}
 use Rattle.refusals.specs.Given.{WritesOut}
 use Rattle.load.specs.declared.Load.{Load}
-use Rattle.load.specs.Calls.{CheckLoad}
+use Rattle.load.specs.Calls.{CheckPlain}
 use Rattle.load_file.specs.declared.Reading.{Reading}
 use Rattle.load_file.specs.RoundTrip.{Held, accepted}
 use Rattle.sheet.specs.Writing.{mostSheetBytes}
@@ -24,11 +24,11 @@ pub record SheetAnswers : Type 0 where
   -- an accepted sheet reads to exactly one load
   pub one-load : (bs : List ℕ) (r s : Reading) → ReadSheet bs r → ReadSheet bs s
       → r .load ≡ s .load
-  -- that load is held as its types say, and passes its check
+  -- that load is held as its types say, passes its check, and has class 0 and head 1 throughout
   pub held : (bs : List ℕ) (r : Reading) → Bytes bs → ReadSheet bs r → r .answer ≡ Good
       → Held (r .load)
-  pub checked : (bs : List ℕ) (r : Reading) → Bytes bs → ReadSheet bs r → r .answer ≡ Good
-      → CheckLoad (r .load) Good
+  pub plain : (bs : List ℕ) (r : Reading) → Bytes bs → ReadSheet bs r → r .answer ≡ Good
+      → CheckPlain (r .load) Good
   -- it is exported to the same bytes: it is not refused, and the answer is the sheet
   pub read-write : (bs : List ℕ) (r : Reading) → Bytes bs → ReadSheet bs r → r .answer ≡ Good
       → (out : List ℕ) (w : Written) (after : List ℕ) → WriteSheet (r .load) out w after

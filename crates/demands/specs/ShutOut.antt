@@ -1,5 +1,5 @@
 -- "Four idle builds are shut out": what such a build gives does not meet a call's relation, or not
--- demand 3. To be read after IdleBuilds and AllLoads.
+-- demand 3; and with them a build that ignores the class. To be read after IdleBuilds and AllLoads.
 use Prim.Native.Nat.{ℕ, _<_}
 use mathlib.Core.Bool.{Bool}
 use mathlib.Core.List.{List}
@@ -27,6 +27,7 @@ use Rattle.bench.specs.Held.{nextMove}
 use Rattle.bench.specs.Calls.{Fresh, NextMove, Runs}
 use Rattle.demands.specs.LoadA.{loadA}
 use Rattle.demands.specs.LoadB.{loadB}
+use Rattle.demands.specs.LoadUrgent.{loadUrgent}
 use Rattle.demands.specs.SheetsToTry.{sheetA}
 use Rattle.demands.specs.Demand3.{Run}
 use Rattle.demands.specs.IdleBuilds.{
@@ -66,6 +67,9 @@ pub record ShutOut : Type 0 where
   -- and then only idles: A's second move is a start
   pub then-idles : (bench : Bench) (r : Moved) → Fresh bench → NextMove (loadA .load) bench r
       → NextMove (loadA .load) (r .bench) (onlyIdles (r .bench)) → ⊥
+  -- one that ignores the class: A with row 3 urgent does not start as A does (2026-05)
+  pub ignores-class : (bench : Bench) → Fresh bench
+      → NextMove (loadUrgent .load) bench (nextMove (loadA .load) bench) → ⊥
   -- one with invented lamp counts, of any load and bench
   pub invents-count : (load : Load) (bench : Bench) (n : ℕ) → n ≢ nextMove load bench .count
       → NextMove load bench (inventsCount n load bench) → ⊥

@@ -36,8 +36,8 @@ bench-relations =
       look-at = λ counts lengths moments i. listed;
       put-look = λ counts lengths moments i look. listed;
       opening-after = λ stays opened opening clock. listed;
-      chosen-row = λ counts lengths moments clock rows. listed;
-      next-start = λ counts lengths moments clock rows. listed;
+      chosen-row = λ counts lengths moments classes clock rows. listed;
+      next-start = λ counts lengths moments classes clock rows. listed;
       fresh = listed;
       next-move = λ load bench. listed;
       run = λ load. listed;
@@ -93,10 +93,10 @@ bench-answers =
         met = (refl, refl, refl);
       };
       opening-after = λ stays opened opening clock. is _;
-      chosen-row = λ counts lengths moments clock rows. is _;
-      next-start = λ counts lengths moments clock rows.
+      chosen-row = λ counts lengths moments classes clock rows. is _;
+      next-start = λ counts lengths moments classes clock rows.
           let board = boardIn counts lengths moments in
-          record { result = nextStart board clock rows; met = NextStart-met board clock rows };
+          record { result = nextStart board classes clock rows; met = NextStart-met board classes clock rows };
       fresh = is _;
       next-move = λ load bench. is _;
       run = λ load. is _;

@@ -2,6 +2,7 @@
 use mathlib.Core.Path.{refl}
 use Rattle.load.proofs.CallLaws.{
   CheckLoad-unique,
+  CheckPlain-unique,
   CheckFields-unique,
   CheckStep-unique,
   CheckWindow-unique,
@@ -28,9 +29,10 @@ abbrev pub load-relations : EveryLoadCall Relation
 load-relations =
     record {
       check-load = λ load. listed;
+      check-plain = λ load. listed;
       check-fields = λ row. listed;
-      check-step = λ row j. listed;
-      check-window = λ row k. listed;
+      check-step = λ step isLast. listed;
+      check-window = λ row window before. listed;
       check-parts = λ row. listed;
       identifier-taken = λ identifiers n identifier. listed;
       box-taken = λ boxes n box. listed;
@@ -48,6 +50,7 @@ pub load-contracts : LoadContracts load-relations
 load-contracts =
     record {
       check-load = refl;
+      check-plain = refl;
       check-fields = refl;
       check-step = refl;
       check-window = refl;
@@ -68,6 +71,7 @@ pub load-same : EveryLoadCall OneResult
 load-same =
     record {
       check-load = CheckLoad-unique;
+      check-plain = CheckPlain-unique;
       check-fields = CheckFields-unique;
       check-step = CheckStep-unique;
       check-window = CheckWindow-unique;
@@ -88,9 +92,10 @@ pub load-answers : EveryLoadCall Answer
 load-answers =
     record {
       check-load = λ load. is _;
+      check-plain = λ load. is _;
       check-fields = λ row. is _;
-      check-step = λ row j. is _;
-      check-window = λ row k. is _;
+      check-step = λ step isLast. is _;
+      check-window = λ row window before. is _;
       check-parts = λ row. is _;
       identifier-taken = λ identifiers n identifier. is _;
       box-taken = λ boxes n box. is _;

@@ -1,6 +1,6 @@
 -- The calls on route sheets: each contract is its relation in SheetCalls, which a result meets, and one only.
 use mathlib.Core.Path.{refl}
-use Rattle.load.specs.Check.{checkLoad}
+use Rattle.load.specs.Plain.{checkPlain}
 use Rattle.sheet_line.proofs.CallLaws.{LineAt-unique, LineOf-unique}
 use Rattle.sheet.specs.Writing.{sheetBytes}
 use Rattle.sheet.proofs.CallLaws.{ReadSheet-unique, WriteSheet-unique}
@@ -44,5 +44,5 @@ sheet-answers =
       line-at = λ bs at. is _;
       line-of = λ row j. is _;
       read-sheet = λ bs. is _;
-      write-sheet = λ load out. writes-out (checkLoad load) (sheetBytes load) out;
+      write-sheet = λ load out. writes-out (checkPlain load) (sheetBytes load) out;
     }

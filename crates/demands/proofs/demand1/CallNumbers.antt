@@ -14,11 +14,21 @@ use Rattle.refusals.specs.declared.Checked.{Checked}
 use Rattle.refusals.specs.declared.Checked.the-variants as finding
 use Rattle.refusals.specs.Refusals.{numberOf, numberGiven}
 use Rattle.refusals.specs.FirstMet.{firstMet}
+use Rattle.load.specs.declared.Step.{Step}
+use Rattle.load.specs.declared.Window.{Window}
 use Rattle.load.specs.declared.Row.{Row}
 use Rattle.load.specs.declared.Load.{Load}
-use Rattle.load.specs.Load.{mostRows, rowAt}
+use Rattle.load.specs.Load.{mostRows, shown, rowAt, stepAt, windowAt}
 use Rattle.load.specs.View.{View, viewOf, stepsInAll}
-use Rattle.load.specs.Faults.{rowTests, takenTests, stepTests, windowTests}
+use Rattle.load.specs.Faults.{
+  rowTests,
+  takenTests,
+  stepNumbers,
+  stepTests,
+  lastBefore,
+  windowNumbers,
+  windowTests,
+}
 use Rattle.load.specs.Check.{
   allZero,
   zeroStepsFrom,
@@ -31,8 +41,10 @@ use Rattle.load.specs.Check.{
   rowFault,
   checkLoad,
 }
+use Rattle.load.specs.Plain.{carriedTests, checkPlain}
 use Rattle.load_records.specs.Records.{rowKind, stepKind, windowKind}
 use Rattle.load_file.specs.Places.{
+  versionSaid,
   stepsSaid,
   windowsSaid,
   stepPlace,
@@ -70,6 +82,7 @@ use Rattle.bench.proofs.choice.NextLaws.{nextMove-good, nextMove-refused}
 use Rattle.demands.specs.NumberLists.{
   OneOf,
   ofLoad,
+  ofPlain,
   ofFile,
   ofSheet,
   ofRange,
@@ -93,13 +106,22 @@ pub fields-give : (row : Row) → Gives ofFields (checkFields row)
 unfolding rowTests anyIn
 fields-give row = tests-give ofFields (rowTests row) refl
 
-pub step-gives : (row : Row) (j : ℕ) → Gives ofRange (checkStep row j)
-unfolding stepTests anyIn
-step-gives row j = tests-give ofRange (stepTests row j) refl
+pub step-gives : (step : Step) (isLast : Bool) → Gives ofRange (firstMet (stepNumbers step isLast))
+unfolding anyIn
+step-gives step isLast = tests-give ofRange (stepNumbers step isLast) refl
 
-pub window-gives : (row : Row) (k : ℕ) → Gives ofWindow (checkWindow row k)
-unfolding windowTests anyIn
-window-gives row k = tests-give ofWindow (windowTests row k) refl
+pub window-gives : (row : Row) (window : Window) (before : ℕ)
+    → Gives ofWindow (firstMet (windowNumbers row window before))
+unfolding anyIn
+window-gives row window before = tests-give ofWindow (windowNumbers row window before) refl
+
+step-at-gives : (row : Row) (j : ℕ) → Gives ofRange (checkStep row j)
+unfolding stepTests
+step-at-gives row j = step-gives (stepAt row j) (eqb (shown j) (row .steps))
+
+window-at-gives : (row : Row) (k : ℕ) → Gives ofWindow (checkWindow row k)
+unfolding windowTests
+window-at-gives row k = window-gives row (windowAt row k) (lastBefore row k)
 
 zeros-give : (zeros : Bool) → Gives ofRange (allZero zeros)
 unfolding anyIn
@@ -109,9 +131,9 @@ pub parts-give : (row : Row) → Gives ofWindow (checkParts row)
 unfolding checkParts anyIn
 parts-give row =
     then-gives ofWindow _ _
-    (faultsTo-give ofWindow (checkStep row) (λ j. ranged (checkStep row j) (step-gives row j)) (row .steps))
+    (faultsTo-give ofWindow (checkStep row) (λ j. ranged (checkStep row j) (step-at-gives row j)) (row .steps))
     (then-gives ofWindow _ _ (ranged _ (zeros-give (zeroStepsFrom row (row .steps))))
-    (then-gives ofWindow _ _ (faultsTo-give ofWindow (checkWindow row) (window-gives row) (row .windows))
+    (then-gives ofWindow _ _ (faultsTo-give ofWindow (checkWindow row) (window-at-gives row) (row .windows))
     (last-gives ofWindow _ (ranged _ (zeros-give (zeroWindowsFrom row (row .windows)))))))
   where
     ranged : (found : Checked) → Gives ofRange found → Gives ofWindow found
@@ -133,15 +155,23 @@ load-gives load =
     (last-gives ofLoad _
     (Gives-more ofRange ofLoad refl _ (zeros-give (allFrom (λ i. isZeroRow (rowAt load i)) (load .rows) mostRows)))))
 
+pub plain-gives : (load : Load) → Gives ofPlain (checkPlain load)
+unfolding checkPlain anyIn
+plain-gives load =
+    then-gives ofPlain (checkLoad load) _ (Gives-more ofLoad ofPlain refl (checkLoad load) (load-gives load))
+    (last-gives ofPlain _ (tests-give ofPlain (carriedTests load) refl))
+
 file-row-gives : (bs : List ℕ) (i place : ℕ) → Gives ofFile (rowFaultAt bs i place)
 unfolding rowFaultAt ownFault stepFaultIn windowFaultIn rowTests takenTests stepTests windowTests anyIn
 file-row-gives bs i place =
     then-gives ofFile _ _
     (tests-give ofFile
-    (dueTests rowKind bs place ++ rowTests (rowFrom bs place) ++ takenTests (loadIn bs) i (rowFrom bs place)) refl)
+    (dueTests (rowKind (versionSaid bs)) bs place
+    ++ rowTests (rowFrom bs place)
+    ++ takenTests (loadIn bs) i (rowFrom bs place)) refl)
     (then-gives ofFile _ _
     (faultsTo-give ofFile (stepFaultIn bs place)
-    (λ j. tests-give ofFile (dueTests stepKind bs (stepPlace place j) ++ stepTests (rowFrom bs place) j) refl)
+    (λ j. tests-give ofFile (dueTests stepKind bs (stepPlace bs place j) ++ stepTests (rowFrom bs place) j) refl)
     (stepsSaid bs place))
     (last-gives ofFile _
     (faultsTo-give ofFile (windowFaultIn bs place)

@@ -7,6 +7,7 @@ use Rattle.refusals.specs.declared.Checked.the-variants.{Refused}
 use Rattle.refusals.specs.FirstMet.{andThen}
 use Rattle.load.specs.declared.Load.{Load}
 use Rattle.load.specs.Check.{checkLoad}
+use Rattle.load.specs.Plain.{checkPlain}
 use Rattle.rules.specs.declared.Slot.{Slot}
 use Rattle.rules.specs.Check.{checkSchedule}
 use Rattle.bound.specs.declared.Answered.{Answered}
@@ -31,6 +32,11 @@ check-refused : (load : Load) (slots : List Slot) (refusal : Refusal) → checkL
 unfolding checkSchedule
 check-refused load slots refusal e = first-refused (checkLoad load) _ refusal e
 
+plain-refused : (load : Load) (refusal : Refusal) → checkLoad load ≡ Refused refusal
+    → checkPlain load ≡ Refused refusal
+unfolding checkPlain
+plain-refused load refusal e = first-refused (checkLoad load) _ refusal e
+
 pub load-first : LoadFirst
 load-first =
     record {
@@ -48,8 +54,11 @@ load-first =
             ap (λ (x : Moved). x .outcome) (e ∙ nextMove-refused load bench refusal (sym c));
         check-schedule = λ slots r e. e ∙ check-refused load slots refusal (sym c);
         check-array = λ slots n r e. e ∙ check-refused load (firstSlots slots n) refusal (sym c);
-        write-load = λ out r after g. g .finding-is ∙ first-refused (checkLoad load) _ refusal (sym c);
+        check-plain = λ r e. e ∙ plain-refused load refusal (sym c);
+        write-version-1 = λ out r after g.
+            g .finding-is ∙ first-refused (checkPlain load) _ refusal (plain-refused load refusal (sym c));
+        write-version-2 = λ out r after g. g .finding-is ∙ first-refused (checkLoad load) _ refusal (sym c);
         write-sheet = λ out r after p.
-            p .given .finding-is ∙ first-refused (checkLoad load) _ refusal (sym c);
+            p .given .finding-is ∙ first-refused (checkPlain load) _ refusal (plain-refused load refusal (sym c));
       };
     }

@@ -7,6 +7,7 @@ use Rattle.lines.specs.Lines.{printed, printedBlamed}
 use Rattle.demands.specs.Numbers.{Numbers}
 use Rattle.demands.proofs.demand1.CallNumbers.{
   load-gives,
+  plain-gives,
   fields-give,
   step-gives,
   window-gives,
@@ -19,6 +20,7 @@ use Rattle.demands.proofs.demand1.CallNumbers.{
 use Rattle.demands.proofs.demand1.WritingCalls.{
   run-gives,
   load-written-gives,
+  plain-written-gives,
   sheet-written-gives,
   room-gives,
   slots-written-give,
@@ -31,11 +33,13 @@ numbers =
     record {
       check-load = λ load r e. rw e (load-gives load .passes);
       check-fields = λ row r e. rw e (fields-give row .passes);
-      check-step = λ row j r e. rw e (step-gives row j .passes);
-      check-window = λ row k r e. rw e (window-gives row k .passes);
+      check-plain = λ load r e. rw e (plain-gives load .passes);
+      check-step = λ step isLast r e. rw e (step-gives step isLast .passes);
+      check-window = λ row window before r e. rw e (window-gives row window before .passes);
       check-parts = λ row r e. rw e (parts-give row .passes);
       read-load = λ bs r e. rw e (file-gives bs .passes);
-      write-load = load-written-gives;
+      write-version-1 = plain-written-gives;
+      write-version-2 = load-written-gives;
       read-sheet = λ bs r e. rw e (sheet-gives bs .passes);
       write-sheet = sheet-written-gives;
       place-waits-of = λ load r e. rw e (load-gives load .passes);

@@ -18,8 +18,9 @@ use Rattle.refusals.proofs.GivenLaws.{ifGood-refused}
 use Rattle.load.specs.declared.Load.{Load}
 use Rattle.load.specs.View.{View, viewOf}
 use Rattle.load.specs.Check.{checkLoad}
+use Rattle.load.specs.Plain.{checkPlain}
 use Rattle.load_records.specs.Writing.{loadBytes}
-use Rattle.load_records.specs.Calls.{WriteLoad}
+use Rattle.load_records.specs.Calls.{WriteVersion1, WriteVersion2}
 use Rattle.load_file.specs.Places.{loadIn}
 use Rattle.load_file.specs.Reading.{fileFault, readLoad}
 use Rattle.sheet.specs.Writing.{sheetBytes}
@@ -30,9 +31,19 @@ use Rattle.schedule_file.specs.ScheduleFile.{slotPlace, scheduleBytes, countFau
 use Rattle.schedule_file.specs.Calls.{WriteSchedule}
 use Rattle.bench.specs.Calls.{WriteRun}
 use Rattle.reading_bench.specs.Calls.{ForC, scheduleFile}
-use Rattle.demands.specs.NumberLists.{OneOf, ofLoad, ofFile, ofOutput, ofC, ofWriting, ofSlotWriting}
+use Rattle.demands.specs.NumberLists.{
+  OneOf,
+  ofLoad,
+  ofPlain,
+  ofFile,
+  ofOutput,
+  ofC,
+  ofWriting,
+  ofPlainWriting,
+  ofSlotWriting,
+}
 use Rattle.demands.proofs.demand1.NumberLaws.{Gives, tests-give, then-gives, last-gives, eachAmong, OneOf-more}
-use Rattle.demands.proofs.demand1.CallNumbers.{load-gives, file-gives}
+use Rattle.demands.proofs.demand1.CallNumbers.{load-gives, plain-gives, file-gives}
 
 -- 9 comes last, behind whatever a finding gives
 given-gives : (numbers : List ℕ) (finding : Checked) (answer out : List ℕ) (found : Checked) (after : List ℕ)
@@ -51,19 +62,26 @@ with-nine : (numbers : List ℕ) (found : Checked) → eachAmong (numbers ++ ofO
 with-nine numbers found each g =
     record { passes = OneOf-more numbers (numbers ++ ofOutput) each (numberGiven found) (g .passes) }
 
-pub load-written-gives : (load : Load) (out : List ℕ) (r : Checked) (after : List ℕ) → WriteLoad load out r after
-    → OneOf ofWriting (numberGiven r)
+pub plain-written-gives : (load : Load) (out : List ℕ) (r : Checked) (after : List ℕ)
+    → WriteVersion1 load out r after → OneOf ofPlainWriting (numberGiven r)
+unfolding anyIn
+plain-written-gives load out r after g =
+    given-gives ofPlainWriting (checkPlain load) (loadBytes 1 load) out r after refl
+    (with-nine ofPlain (checkPlain load) refl (plain-gives load)) g
+
+pub load-written-gives : (load : Load) (out : List ℕ) (r : Checked) (after : List ℕ)
+    → WriteVersion2 load out r after → OneOf ofWriting (numberGiven r)
 unfolding anyIn
 load-written-gives load out r after g =
-    given-gives ofWriting (checkLoad load) (loadBytes load) out r after refl
+    given-gives ofWriting (checkLoad load) (loadBytes 2 load) out r after refl
     (with-nine ofLoad (checkLoad load) refl (load-gives load)) g
 
 pub sheet-written-gives : (load : Load) (out : List ℕ) (r : Written) (after : List ℕ) → WriteSheet load out r after
-    → OneOf ofWriting (numberGiven (r .answer))
+    → OneOf ofPlainWriting (numberGiven (r .answer))
 unfolding anyIn
 sheet-written-gives load out r after p =
-    given-gives ofWriting (checkLoad load) (sheetBytes load) out (r .answer) after refl
-    (with-nine ofLoad (checkLoad load) refl (load-gives load)) (p .given)
+    given-gives ofPlainWriting (checkPlain load) (sheetBytes load) out (r .answer) after refl
+    (with-nine ofPlain (checkPlain load) refl (plain-gives load)) (p .given)
 
 count-gives : (n : ℕ) → Gives ofSlotWriting (countFault n)
 unfolding anyIn

@@ -15,6 +15,8 @@ use Rattle.refusals.proofs.FirstMetLaws.{andThen-good-first}
 use Rattle.refusals.proofs.GivenLaws.{ifGood-good}
 use Rattle.load.specs.declared.Load.{Load}
 use Rattle.load.specs.Check.{checkLoad}
+use Rattle.load.specs.Plain.{checkPlain}
+use Rattle.load.proofs.PlainLaws.{checkPlain-good}
 use Rattle.load_file.specs.declared.Reading.{Reading}
 use Rattle.load_file.specs.RoundTrip.{Held, accepted}
 use Rattle.sheet.specs.Reading.{readSheet}
@@ -26,23 +28,27 @@ use Rattle.sheet.proofs.marks.RowSize.{sheetBytes-le}
 use Rattle.demands.specs.SheetAnswers.{SheetAnswers}
 
 -- a sheet that is not refused, exported again
-pub sheet-back : (bs : List ℕ) (r : Reading) → Bytes bs → ReadSheet bs r → r .answer ≡ Good → ExportedLoad (r .load) bs
+sheet-back : (bs : List ℕ) (r : Reading) → Bytes bs → ReadSheet bs r → r .answer ≡ Good → ExportedLoad (r .load) bs
 sheet-back bs r b e g =
     let good : readSheet bs .answer ≡ Good = ap (λ (x : Reading). x .answer) (sym e) ∙ g in
     rw e (sheet-trip .read-write bs (readSheet bs .load) (sheet-trip .some-load bs b good))
+
+-- its load passes its check
+pub sheet-good : (bs : List ℕ) (r : Reading) → Bytes bs → ReadSheet bs r → r .answer ≡ Good → checkLoad (r .load) ≡ Good
+sheet-good bs r b e g = checkPlain-good (r .load) (sheet-back bs r b e g .plain) .load-good
 
 reads-writes : (bs : List ℕ) (r : Reading) → Bytes bs → ReadSheet bs r → r .answer ≡ Good → (out : List ℕ)
     (w : Written) (after : List ℕ) → WriteSheet (r .load) out w after → WritesOut Good bs out w after
 reads-writes bs r b e g out w after h =
     let x : ExportedLoad (r .load) bs = sheet-back bs r b e g in
-    let told : WritesOut (checkLoad (r .load)) (sheetBytes (r .load)) out w after = h in
-    rw (x .good, ← x .sheet) at told
+    let told : WritesOut (checkPlain (r .load)) (sheetBytes (r .load)) out w after = h in
+    rw (x .plain, ← x .sheet) at told
 
--- a load that is written passes its check
-good-load : (load : Load) (out : List ℕ) (w : Written) (after : List ℕ) → WriteSheet load out w after
-    → w .answer ≡ Good → checkLoad load ≡ Good
-good-load load out w after h g =
-    andThen-good-first (checkLoad load) (firstFault (roomFor (sheetBytes load) out ∷ []))
+-- a load that is written is plain
+plain-load : (load : Load) (out : List ℕ) (w : Written) (after : List ℕ) → WriteSheet load out w after
+    → w .answer ≡ Good → checkPlain load ≡ Good
+plain-load load out w after h g =
+    andThen-good-first (checkPlain load) (firstFault (roomFor (sheetBytes load) out ∷ []))
     (sym (h .given .finding-is) ∙ g)
 
 -- and what the output's front holds is its sheet
@@ -61,7 +67,7 @@ writes-reads load held out w after h g r e =
     e
     ∙ ap readSheet (front-is load out w after h g)
     ∙ sheet-trip .write-read (sheetBytes load) load
-    (record { held = held; good = good-load load out w after h g; sheet = refl }) .reads
+    (record { held = held; plain = plain-load load out w after h g; sheet = refl }) .reads
 
 few-bytes : (load : Load) (out : List ℕ) (w : Written) (after : List ℕ) → WriteSheet load out w after
     → w .length ≤ mostSheetBytes
@@ -69,7 +75,7 @@ few-bytes load out w after h = go (w .answer) refl (h .length-is)
   where
     go : (c : Checked) → w .answer ≡ c → w .length ≡ ifGood c (length (sheetBytes load)) 0
         → w .length ≤ mostSheetBytes
-    go Good g e = rw e (sheetBytes-le load (good-load load out w after h g))
+    go Good g e = rw e (sheetBytes-le load (checkPlain-good load (plain-load load out w after h g) .load-good))
     go (Refused refusal) g e = rw e (omega arith)
 
 pub sheet-answers : SheetAnswers
@@ -78,7 +84,7 @@ sheet-answers =
       round-trips = sheet-trip;
       one-load = λ bs r s p q. ap (λ (x : Reading). x .load) (p ∙ sym q);
       held = λ bs r b e g. sheet-back bs r b e g .held;
-      checked = λ bs r b e g. sym (sheet-back bs r b e g .good);
+      plain = λ bs r b e g. sym (sheet-back bs r b e g .plain);
       read-write = reads-writes;
       write-read = writes-reads;
       most-bytes = few-bytes;

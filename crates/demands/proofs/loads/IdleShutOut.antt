@@ -29,6 +29,7 @@ use Rattle.bench.proofs.running.RunsLaws.{Runs-count}
 use Rattle.demands.specs.LoadsToTry.{Sound, Answers, answersFor}
 use Rattle.demands.specs.LoadA.{loadA}
 use Rattle.demands.specs.LoadB.{loadB}
+use Rattle.demands.specs.LoadUrgent.{loadUrgent}
 use Rattle.demands.specs.SmallLoads.{loadEmpty}
 use Rattle.demands.specs.AllLoads.{SoundHolds}
 use Rattle.demands.specs.IdleBuilds.{fixedVerdict, inventsMargins, inventsBlames}
@@ -81,6 +82,15 @@ a-second = refl
 b-count : first (loadB .load) .count ≡ 1
 unfolding computing nextMove benchOf loadB
 b-count = refl
+
+-- on A with row 3 urgent: what row 1 has finished after the first move, and on A
+urgent-finished : getD (first (loadUrgent .load) .bench .finished) 0 0 ≡ 0
+unfolding computing nextMove benchOf loadUrgent
+urgent-finished = refl
+
+a-begins : getD (first (loadA .load) .bench .finished) 0 0 ≡ 1
+unfolding computing nextMove benchOf loadA
+a-begins = refl
 
 -- how many slots a worked load has
 slots-of : (e : Sound) → SoundHolds e → (r : Ran) → Runs (e .load) r → r .count ≡ length (e .answers .slots)
@@ -168,6 +178,13 @@ shut-out =
         ap (λ (x : Moved). startsIn x) n,
         ap (λ (x : Moved). startsIn (nextMove (loadA .load) (x .bench))) (first-is (loadA .load) bench f r m),
         a-second,
+      );
+      ignores-class = λ bench f m. omega (
+        arith,
+        ap (λ (x : Moved). getD (x .bench .finished) 0 0) (first-is (loadUrgent .load) bench f _ m),
+        ap (λ (b : Bench). getD (nextMove (loadA .load) b .bench .finished) 0 0) f,
+        urgent-finished,
+        a-begins,
       );
       invents-count = λ load bench n ne m. ne (ap (λ (r : Moved). r .count) m);
       counts-one = λ bench n f ne m.

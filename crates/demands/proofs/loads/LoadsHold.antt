@@ -7,6 +7,7 @@ use Rattle.demands.specs.LoadB9.{loadB9}
 use Rattle.demands.specs.LoadPhase.{loadPhase8, loadPhase7}
 use Rattle.demands.specs.SmallLoads.{loadUnequal, loadWaits0, loadEmpty}
 use Rattle.demands.specs.FaultyLoads.{loadB7, loadTwins, loadTwinsInOneBox, loadFactory}
+use Rattle.demands.specs.LoadUrgent.{loadUrgent}
 use Rattle.demands.specs.AllLoads.{SoundHolds, FaultyHolds, LoadsHold}
 use Rattle.demands.proofs.loads.Computing.{computing}
 
@@ -146,6 +147,21 @@ factory-holds : FaultyHolds loadFactory
 unfolding computing loadFactory
 factory-holds = record { reads = refl; checks = refl; numbered = refl; prints = refl; prints-blames = refl }
 
+pub urgent-holds : SoundHolds loadUrgent
+unfolding computing answersFor glimpseAfter loadUrgent
+urgent-holds =
+    record {
+      reads = refl;
+      writes = refl;
+      checks = refl;
+      answered = refl;
+      seen = refl;
+      margined = refl;
+      scheduled = refl;
+      prints = refl;
+      prints-blames = refl;
+    }
+
 -- all of them, in the list's order
 pub loads-hold : LoadsHold
 loads-hold = (
@@ -160,7 +176,10 @@ loads-hold = (
           phase8-holds,
           (
             phase7-holds,
-            (unequal-holds, (waits0-holds, (empty-holds, (twins-holds, (one-box-holds, (factory-holds, tt)))))),
+            (
+              unequal-holds,
+              (waits0-holds, (empty-holds, (twins-holds, (one-box-holds, (factory-holds, (urgent-holds, tt)))))),
+            ),
           ),
         ),
       ),
