@@ -19,6 +19,8 @@ mod written;
 use given::from_file;
 use given::from_memory;
 use input::read_whole;
+use load_records::VERSION_1;
+use load_records::VERSION_2;
 use output::write_text;
 
 // Reads what follows a question's letter, and answers it. Says no where there is no such letter, or
@@ -27,8 +29,10 @@ fn answer_kind(letter: u8) -> bool {
     match letter {
         b'C' => checks::answer(from_file()),
         b'D' => checks::answer(from_memory()),
-        b'W' => loads::answer(false),
-        b'w' => loads::answer(true),
+        b'W' => loads::answer(VERSION_1, false),
+        b'w' => loads::answer(VERSION_1, true),
+        b'V' => loads::answer(VERSION_2, false),
+        b'v' => loads::answer(VERSION_2, true),
         b'S' => schedules::answer(false),
         b's' => schedules::answer(true),
         b'R' => sheets::answer(),

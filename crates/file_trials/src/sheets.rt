@@ -1,13 +1,13 @@
 // The question R: a route sheet (its length in 2 bytes, at most 16,384, and its bytes). It is
 // answered by `sheet` and the number of what its reading finds; where that is 0, in hexadecimal
-// digits by the file of its load.
+// digits by the version 1 file of its load.
 use crate::input::NO_COUNT;
 use crate::input::front;
 use crate::input::read_things;
 use crate::rooms::filled;
 use crate::written::write_written;
-use load_records::file_size;
-use load_records::write_load;
+use load_records::version_1_size;
+use load_records::write_version_1;
 use sheet::read_sheet;
 ghost use mathlib.Core.Path.{_≡_};
 ghost use lib.ListN.{length};
@@ -34,7 +34,7 @@ pub fn answer() -> bool {
     let found = reading.answer;
     let load = reading.load;
     let mut bytes = filled();
-    write_load(load, &mut bytes);
-    write_written(b"sheet ", found, &bytes, file_size(load));
+    write_version_1(load, &mut bytes);
+    write_written(b"sheet ", found, &bytes, version_1_size(load));
     true
 }

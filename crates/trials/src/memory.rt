@@ -1,7 +1,7 @@
 // A load in memory, field by field and unchecked: its number of rows (1 byte) and 24 rows. A row is
 // its identifier (4 bytes), its box (4), its phase (4), its deadline (4), its number of steps (1)
-// and of windows (1), 8 steps and 4 windows. A step is its cost (2) and its wait (2), a window its
-// first step (1), its last (1) and its limit (2).
+// and of windows (1), its class (1), its head (1), 8 steps and 4 windows. A step is its cost (2)
+// and its wait (2), a window its first step (1), its last (1) and its limit (2).
 use load::BoxNumber;
 use load::Identifier;
 use load::Load;
@@ -18,15 +18,15 @@ use words::number32_at;
 ghost use Prim.Native.Nat.{_≤_};
 
 // The bytes of a load.
-pub const LOAD_SIZE: usize = 1585;
+pub const LOAD_SIZE: usize = 1633;
 
 const ROWS_AT: usize = 1;
 
-const ROW_SIZE: usize = 66;
+const ROW_SIZE: usize = 68;
 
-const STEPS_AT: usize = 18;
+const STEPS_AT: usize = 20;
 
-const WINDOWS_AT: usize = 50;
+const WINDOWS_AT: usize = 52;
 
 const PART_SIZE: usize = 4;
 
@@ -77,6 +77,8 @@ fn row_from(bytes: &[u8], at: usize) -> Row
         deadline: number32_at(bytes, at + 12),
         steps: byte_at(bytes, at + 16),
         windows: byte_at(bytes, at + 17),
+        class: byte_at(bytes, at + 18),
+        head: byte_at(bytes, at + 19),
         step: steps_from(bytes, at),
         window: windows_from(bytes, at),
     }
