@@ -6,6 +6,14 @@
 
 /* Of random_load.h's sizes the first 8 are quick to run. */
 enum { QUICK = 8, SOUND_EVERY = 4, SLOW_EVERY = 100, FULL_EVERY = 1000, EMPTY_AT = 500 };
+enum { URGENT_EVERY = 3 };
+
+/* Classes for one load of three; the others have class 0 throughout, and fit either version. */
+static void set_some_classes(struct dice *dice, struct load *load)
+{
+    if (throw_dice(dice) % URGENT_EVERY == 0)
+        set_classes(dice, load);
+}
 
 /* A load that is not refused, its deadlines on either side of its row bounds. */
 static struct load sound_load(struct dice *dice, unsigned sizes)
@@ -14,6 +22,7 @@ static struct load sound_load(struct dice *dice, unsigned sizes)
     struct load load = any_load(dice, sizes);
     if (row_bounds_of(&load, bounds) == ACCEPTED)
         set_deadlines(dice, &load, bounds);
+    set_some_classes(dice, &load);
     return load;
 }
 
@@ -25,19 +34,25 @@ static struct load full_load(struct dice *dice)
         load.rows[row] = (struct row){.identifier = {row + 1},
                                       .box = {row + 1},
                                       .deadline = MOST_DEADLINE,
-                                      .step_count = MOST_STEPS};
+                                      .step_count = MOST_STEPS,
+                                      .head = ONLY_HEAD};
         for (unsigned step = 0; step < MOST_STEPS; step++) {
             load.rows[row].steps[step].cost = (uint16_t)(1 + throw_dice(dice) % 9);
             if (step + 1 < MOST_STEPS)
                 load.rows[row].steps[step].wait = (uint16_t)(throw_dice(dice) % 40);
         }
     }
+    set_some_classes(dice, &load);
     return load;
 }
 
-static void put_file(const struct load *load, struct damaged_file *file)
+/* In version 2, or in version 1 where that carries all of the load: one as often as the other. */
+static void put_file(struct dice *dice, const struct load *load, struct damaged_file *file)
 {
-    file->length = (size_t)(put_load(file->bytes, load) - file->bytes);
+    bool lowest = throw_dice(dice) % 2 == 0;
+    uint8_t *end = lowest ? put_load(file->bytes, load)
+                          : put_load_in(file->bytes, VERSION_2, load);
+    file->length = (size_t)(end - file->bytes);
 }
 
 static size_t any_place(struct dice *dice, const struct damaged_file *file)
@@ -77,6 +92,11 @@ static void alter_mark(struct dice *dice, struct damaged_file *file)
     file->bytes[at + throw_dice(dice) % 2] = (uint8_t)throw_dice(dice);
 }
 
+static void alter_version(struct dice *dice, struct damaged_file *file)
+{
+    file->bytes[VERSION_AT] = (uint8_t)(throw_dice(dice) % (VERSION_2 + 2));
+}
+
 static void alter_row_count(struct dice *dice, struct damaged_file *file)
 {
     file->bytes[3] = (uint8_t)(throw_dice(dice) % 27);
@@ -87,6 +107,15 @@ static void alter_part_count(struct dice *dice, struct damaged_file *file)
     size_t at = any_record(dice, file, "RW") + ROW_BYTES - 2 + throw_dice(dice) % 2;
     if (at < file->length)
         file->bytes[at] = (uint8_t)(throw_dice(dice) % 10);
+}
+
+/* In a file of version 1 a byte of the first step's mark stands there. */
+static void alter_class_or_head(struct dice *dice, struct damaged_file *file)
+{
+    size_t at = any_record(dice, file, "RW") + ROW_BYTES;
+    at += throw_dice(dice) % CLASS_AND_HEAD_BYTES;
+    if (at < file->length)
+        file->bytes[at] = (uint8_t)(throw_dice(dice) % (MOST_CLASS + 3));
 }
 
 static void alter_end_count(struct dice *dice, struct damaged_file *file)
@@ -103,9 +132,10 @@ static void factory_identifier(struct dice *dice, struct damaged_file *file)
 
 typedef void damage(struct dice *dice, struct damaged_file *file);
 
-static damage *const DAMAGES[] = {cut_short,       alter_byte,       append,
-                                  alter_mark,      alter_row_count,  alter_part_count,
-                                  alter_end_count, factory_identifier};
+static damage *const DAMAGES[] = {cut_short,        alter_byte,          append,
+                                  alter_mark,       alter_version,       alter_row_count,
+                                  alter_part_count, alter_class_or_head, alter_end_count,
+                                  factory_identifier};
 
 enum { DAMAGE_COUNT = sizeof DAMAGES / sizeof *DAMAGES, SPOILED = DAMAGE_COUNT };
 
@@ -115,7 +145,7 @@ static void make_damaged(struct dice *dice, struct damaged_file *file)
     unsigned way = throw_dice(dice) % (2 * DAMAGE_COUNT);
     if (way >= SPOILED)
         spoil(dice, &load);
-    put_file(&load, file);
+    put_file(dice, &load, file);
     if (way < SPOILED)
         DAMAGES[way](dice, file);
 }
@@ -133,7 +163,7 @@ void make_file(struct dice *dice, uint64_t turn, struct damaged_file *file)
 {
     if (turn % SOUND_EVERY == 0) {
         struct load load = sound_at(dice, turn);
-        put_file(&load, file);
+        put_file(dice, &load, file);
     } else {
         make_damaged(dice, file);
     }

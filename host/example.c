@@ -57,7 +57,7 @@ static const char *reason_of(uint32_t number)
 {
     static const char *const reasons[] = {
         [BENCH_FILE_SHORT] = "it ends before or inside a record that is due",
-        [BENCH_MARK_DIFFERS] = "a mark differs, or the version is not 1",
+        [BENCH_MARK_DIFFERS] = "a mark differs, or the version is not 1 or 2",
         [BENCH_OUT_OF_RANGE] = "a number is outside its range",
         [BENCH_IDENTIFIER_TAKEN] = "an identifier stands in an earlier row",
         [BENCH_BOX_TAKEN] = "a box stands in an earlier row",

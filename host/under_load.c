@@ -32,6 +32,7 @@ _Static_assert(BENCH_LIMIT_BELOW_CHAIN == LIMIT_BELOW_CHAIN, "7");
 _Static_assert(BENCH_END_DIFFERS == END_DIFFERS, "8");
 _Static_assert(BENCH_OUTPUT_SHORT == OUTPUT_SHORT, "9");
 _Static_assert(BENCH_FACTORY_IDENTIFIER == FACTORY_IDENTIFIER, "21");
+_Static_assert(BENCH_LOAD_BYTES_MAX == MOST_LOAD_BYTES, "the longest load file");
 
 /* The numbers that a call for C gives, 0 first. */
 static const uint32_t NUMBERS[] = {
@@ -83,6 +84,7 @@ struct tally {
     uint64_t answers;
     uint64_t altered;
     uint64_t by_number[BENCH_FACTORY_IDENTIFIER + 1];
+    uint64_t by_version[VERSION_2 + 1]; /* answers for files that are accepted */
 };
 
 static void fill(struct dice *dice, uint8_t *bytes, size_t length)
@@ -147,6 +149,8 @@ static int compare(struct tally *tally, struct dice *dice, const struct asked *a
     if (memcmp(&out, &out_wanted, sizeof out) != 0)
         return tell(asked, file, room, "the output, or a byte beside it,");
     tally->by_number[number]++;
+    if (number == BENCH_GOOD)
+        tally->by_version[file->bytes[VERSION_AT]]++;
     return SAME;
 }
 
@@ -182,10 +186,11 @@ static int compare_files(struct tally *tally, uint64_t files)
     return found;
 }
 
-/* Whether every number was met: a comparison that never meets one shows nothing of it. */
+/* Whether every number was met, and answers for both versions: a comparison that never meets one
+   shows nothing of it. */
 static bool all_met(const struct tally *tally)
 {
-    bool met = true;
+    bool met = tally->by_version[VERSION_1] > 0 && tally->by_version[VERSION_2] > 0;
     for (unsigned at = 0; at < NUMBER_COUNT; at++)
         met = met && tally->by_number[NUMBERS[at]] > 0;
     return met;
@@ -205,6 +210,8 @@ int main(int count, char **words)
     for (unsigned at = 0; at < NUMBER_COUNT; at++)
         printf("%s %" PRIu32 ": %" PRIu64, at > 0 ? "," : "", NUMBERS[at],
                tally.by_number[NUMBERS[at]]);
+    printf("; answered of version 1: %" PRIu64 ", of version 2: %" PRIu64,
+           tally.by_version[VERSION_1], tally.by_version[VERSION_2]);
     puts(found == SAME ? "; no difference" : "; a difference");
     return found == SAME && !all_met(&tally) ? CANNOT : found;
 }

@@ -2,7 +2,8 @@
  *
  * A load file says which loggers stand on the bench and what each of them needs. From its bytes
  * these calls give the bound on the moment at which all steps are over, the margin of each row, the
- * verdict, and the schedule. docs/FORMATS.md has every byte of both files.
+ * verdict, and the schedule. docs/FORMATS.md has every byte of both files. A load file is of
+ * version 1, or of version 2, whose rows have class and head besides; its third byte says which.
  */
 #ifndef READING_BENCH_H
 #define READING_BENCH_H
@@ -15,10 +16,12 @@ extern "C" {
 #endif
 
 /* The version of this header and of the archive beside it. A later MINOR has every call, size and
- * number of this one. 1.1 has number 21 besides, for files that 1.0 answered. */
+ * number of this one, but that BENCH_LOAD_BYTES_MAX can be larger. 1.1 has number 21 besides, for
+ * files that 1.0 answered. 1.2 answers load files of version 2, which 1.1 refused with 2, and those
+ * of version 1 as before. */
 #define BENCH_VERSION_MAJOR 1
-#define BENCH_VERSION_MINOR 1
-#define BENCH_VERSION "1.1"
+#define BENCH_VERSION_MINOR 2
+#define BENCH_VERSION "1.2"
 
 /* Duties and promises of every call
  *
@@ -40,7 +43,7 @@ extern "C" {
 /* The numbers that these calls give, in the order of the documents' table. */
 #define BENCH_GOOD 0              /* the answer is written */
 #define BENCH_FILE_SHORT 1        /* the file ends before or inside a record that is due */
-#define BENCH_MARK_DIFFERS 2      /* a mark differs, or the version is not 1 */
+#define BENCH_MARK_DIFFERS 2      /* a mark differs, or the version is not 1 or 2 */
 #define BENCH_OUT_OF_RANGE 3      /* a number is outside its range */
 #define BENCH_IDENTIFIER_TAKEN 4  /* the identifier stands in an earlier row */
 #define BENCH_BOX_TAKEN 5         /* the box stands in an earlier row */
@@ -56,7 +59,7 @@ extern "C" {
 #define BENCH_MARGINS_BYTES 96
 #define BENCH_SCHEDULE_BYTES(slots) (4 + 8 * (slots))
 #define BENCH_SCHEDULE_BYTES_MAX 1540 /* 192 slots: 24 rows of 8 steps */
-#define BENCH_LOAD_BYTES_MAX 2216     /* the longest load file that is not refused */
+#define BENCH_LOAD_BYTES_MAX 2264     /* the longest load file that is not refused: of version 2 */
 
 /* Stack and time, for x86-64: measured, not proved. docs/PERFORMANCE.md has loads and commands.
  *
