@@ -6,7 +6,7 @@
  * The cost of a load is the number of instructions of one call, where the emulator's plugin counts
  * them; elsewhere the least processor time of some calls. One share of the time goes to the known
  * loads, one to each kind of random loads: the costliest of them is altered again and again, and
- * what costs no less is kept. The last share goes to the costliest of all. */
+ * what costs no less is kept. The last share goes to the costliest of all. Classes are 0. */
 #define _POSIX_C_SOURCE 200809L /* for clock_gettime */
 
 #include <inttypes.h>
@@ -73,7 +73,7 @@ static uint64_t cost_of(struct search *search, const struct load *load)
     uint8_t bytes[MOST_LOAD_BYTES], out[BENCH_SCHEDULE_BYTES_MAX];
     size_t length;
     uint64_t cost;
-    if (write_load(load, bytes, sizeof bytes, &length) != ACCEPTED) {
+    if (write_version_1(load, bytes, sizeof bytes, &length) != ACCEPTED) {
         fputs("find: a load was made that is refused\n", stderr);
         exit(1);
     }

@@ -47,7 +47,8 @@ static struct row row_without_windows(struct dice *dice, unsigned number, unsign
     struct row row = {.identifier = {100 + number},
                       .box = {200 + number},
                       .deadline = MOST_DEADLINE,
-                      .step_count = (uint8_t)steps};
+                      .step_count = (uint8_t)steps,
+                      .head = ONLY_HEAD};
     row.phase = between(dice, 0, most->phase);
     for (unsigned step = 0; step < steps; step++) {
         row.steps[step].cost = (uint16_t)between(dice, 1, most->cost);

@@ -24,7 +24,7 @@ struct most {
     uint32_t cost, wait, room, phase;
 };
 
-/* A good load of that kind, with so many rows and steps, and deadlines 1,000,000. */
+/* A good load of that kind, with so many rows and steps, deadlines 1,000,000, and class 0. */
 struct load load_of_kind(struct dice *dice, enum kind kind, unsigned rows, unsigned steps,
                          const struct most *most);
 
@@ -35,7 +35,8 @@ void place_windows(struct dice *dice, struct row *row, unsigned windows, uint32_
 /* Sets a window's limit to its chain and that room, or to the loosest there is. */
 void give_room(const struct row *row, struct window *window, uint32_t room);
 
-/* Prints a load's rows in the notation of benchmarks/rows, whether it is refused or not. */
+/* Prints a load's rows in the notation of benchmarks/rows, whether it is refused or not, without
+   class and head. */
 void print_rows(const struct load *load);
 
 #endif
