@@ -68,8 +68,9 @@ pub struct Row {
     pub window: [Window; MOST_WINDOWS],
 }
 
-// A load: `rows` of the places of `row` are used; the others are zero.
+// A load: `rows` of the places of `row` are used; the others are zero. The places stand first, as a
+// gap before them would have them copied once more where a file is read.
 pub struct Load {
-    pub rows: u8,
     pub row: [Row; MOST_ROWS],
+    pub rows: u8,
 }

@@ -10,8 +10,8 @@ pub use read::read_load;
 use refusals::Checked;
 
 // What a reading gives: the refusal that comes first, or Good and the load. A refused reading gives
-// the all-zero load.
+// the all-zero load. The load stands first, so that there is no gap before its places.
 pub struct Reading {
-    pub answer: Checked,
     pub load: Load,
+    pub answer: Checked,
 }

@@ -48,7 +48,7 @@ goes-on c =
     let a = c .before .before .before in
     let start = a .before .before in
     let load = start .args .load in
-    let all : length (load .row) ≡ mostRows = simp length-map at (start .good .0 .1 .1 .1 .0 .1 .0 .1) in
+    let all : length (load .row) ≡ mostRows = simp length-map at (start .good .0 .1 .1 .0 .1 .0 .1) in
     let added : c .before .row-at .result .steps ≡ stepsOf load (a .loop .i) =
     ap (λ (row : Row). row .steps) (c .before .row-at .ensures) ∙ steps-there load (a .loop .i) all in
     (search needs, omega (arith, sumTo-next (stepsOf load) (a .loop .i), added, a .loop .inv .1), search needs)
