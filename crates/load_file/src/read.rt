@@ -123,11 +123,11 @@ fn read_rows(bytes: &[u8], version: u8, rows: u8) -> Reading
             break;
         }
         let row = reading.row;
+        kept[i] = row;
         let identifier = row.identifier;
         identifiers[i] = identifier;
         let box_number = row.box_number;
         boxes[i] = box_number;
-        kept[i] = row;
         steps += row.steps as u16;
         at = place_behind(at, version, row.steps, row.windows);
     }

@@ -15,12 +15,19 @@ use words::byte_at;
 use words::number16_at;
 use words::number32_at;
 ghost use mathlib.Core.Path.{_≡_};
-ghost use Prim.Native.Nat.{_≤_};
+ghost use Prim.Native.Nat.{_+_, _*_, _≤_, _<_};
 ghost use Rattle.refusals.specs.FirstMet.{firstMet};
 ghost use Rattle.load_records.specs.Records.{newest, rowKind};
 ghost use Rattle.load_file.specs.Places.{stepIn, windowIn, classSaid, headSaid};
 ghost use Rattle.load_file.specs.Reading.{dueTests};
 ghost use Rattle.load_file.specs.inner.ReadingSteps.{kindOf, ownFields};
+
+// Gives two bytes as one number, so that both are compared at once.
+fn pair(first: u8, second: u8) -> u16
+    ensures { λ r. ⌜ (r ≡ first + 256 * second) × (first < 256) ⌝ }
+{
+    first as u16 + 256 * second as u16
+}
 
 // Checks a record that is due at a place: that the file holds it whole, and then its mark.
 pub fn check_due(bytes: &[u8], at: usize, mark: [u8; 2], size: usize) -> Checked
@@ -30,10 +37,7 @@ pub fn check_due(bytes: &[u8], at: usize, mark: [u8; 2], size: usize) -> Checked
     if bytes.len() < at + size {
         return Checked::Refused(Refusal::FileShort);
     }
-    if byte_at(bytes, at) != mark[0] {
-        return Checked::Refused(Refusal::MarkDiffers);
-    }
-    if byte_at(bytes, at + 1) != mark[1] {
+    if pair(byte_at(bytes, at), byte_at(bytes, at + 1)) != pair(mark[0], mark[1]) {
         return Checked::Refused(Refusal::MarkDiffers);
     }
     Checked::Good

@@ -11,6 +11,7 @@ use load::MOST_ROWS;
 use load::Row;
 use load_records::ROW_MARK;
 use load_records::STEP_SIZE;
+use load_records::VERSION_1;
 use load_records::row_size;
 use refusals::Checked;
 use refusals::Refusal;
@@ -72,7 +73,8 @@ fn no_row(refusal: Refusal) -> RowReading
 }
 
 // Reads the own record of row i at a place, of so many bytes: gives the first refusal that is met,
-// or Good and the row with no steps and no windows read yet.
+// or Good and the row with no steps and no windows read yet. That the bytes of version 1 are there,
+// which every version has, is asked by itself: so it is asked of none of their numbers again.
 fn read_own(
     bytes: &[u8],
     at: usize,
@@ -86,6 +88,9 @@ fn read_own(
     ensures { λ r. ⌜ r .answer ≡ ownFault (now (bytes .entry)) i at ⌝ }
     ensures { λ r. ⌜ (r .answer ≡ Good → r .row ≡ ownFields (now (bytes .entry)) at) ⌝ }
 {
+    if bytes.len() < at + row_size(VERSION_1) {
+        return no_row(Refusal::FileShort);
+    }
     match check_due(bytes, at, ROW_MARK, size) {
         Checked::Good => {}
         Checked::Refused(refusal) => return no_row(refusal),
