@@ -1,6 +1,6 @@
 /* Makes one call of the library, so that its instructions can be counted.
  *
- * usage: counted_call schedule|bound-margins-verdict FILE
+ * usage: counted_call schedule|bound-and-margins FILE
  *
  * The call's number and its whole output go to standard output, as bytes, for a comparison. Where
  * the emulator's plugin counts, the instructions of the call go to standard error; callgrind is
@@ -26,13 +26,13 @@ __attribute__((noinline)) uint32_t counted_call(form *call, const struct file *f
 
 int main(int count, char **words)
 {
-    static form *const forms[] = {our_schedule, our_answers};
+    static form *const forms[] = {our_schedule, our_margins};
     static struct file file;
     static struct output out;
     struct marks marks;
     unsigned chosen = count == 3 ? form_named(words[1]) : NO_FORM;
     if (chosen == NO_FORM || !take_file(words[2], &file)) {
-        fputs("counted_call: it is counted_call schedule|bound-margins-verdict FILE\n", stderr);
+        fputs("counted_call: it is counted_call schedule|bound-and-margins FILE\n", stderr);
         return 2;
     }
     bool counts = open_marks(&marks);

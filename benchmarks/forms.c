@@ -8,18 +8,18 @@ uint32_t our_schedule(const struct file *file, struct output *out)
     return bench_schedule(file->bytes, file->length, out->bytes, sizeof out->bytes);
 }
 
-uint32_t our_answers(const struct file *file, struct output *out)
+uint32_t our_margins(const struct file *file, struct output *out)
 {
     return bench_bound(file->bytes, file->length, out->bytes, BENCH_BOUND_BYTES)
-        + bench_margins(file->bytes, file->length, out->bytes + MARGINS_AT, BENCH_MARGINS_BYTES)
-        + bench_verdict(file->bytes, file->length, out->bytes + VERDICT_AT, BENCH_VERDICT_BYTES);
+        + bench_margins(file->bytes, file->length, out->bytes + BENCH_BOUND_BYTES,
+                        BENCH_MARGINS_BYTES);
 }
 
 unsigned form_named(const char *word)
 {
     if (strcmp(word, "schedule") == 0)
         return SCHEDULE;
-    return strcmp(word, "bound-margins-verdict") == 0 ? BOUND_MARGINS_VERDICT : NO_FORM;
+    return strcmp(word, "bound-and-margins") == 0 ? BOUND_AND_MARGINS : NO_FORM;
 }
 
 bool take_file(const char *path, struct file *file)

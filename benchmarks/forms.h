@@ -20,13 +20,10 @@ struct output {
 typedef uint32_t form(const struct file *file, struct output *out);
 
 form our_schedule;
-form our_answers; /* the bound, the margins behind it, and then the verdict */
+form our_margins; /* the bound, and the margins behind it */
 
-/* Where the three answers stand in the output, one behind the other. */
-enum { MARGINS_AT = BENCH_BOUND_BYTES, VERDICT_AT = MARGINS_AT + BENCH_MARGINS_BYTES };
-
-/* Which form a word names: `schedule` is 0, `bound-margins-verdict` is 1; 2 where it names none. */
-enum { SCHEDULE, BOUND_MARGINS_VERDICT, NO_FORM };
+/* Which form a word names: `schedule` is 0, `bound-and-margins` is 1; 2 where it names none. */
+enum { SCHEDULE, BOUND_AND_MARGINS, NO_FORM };
 unsigned form_named(const char *word);
 
 /* Whether there was a file to read. */

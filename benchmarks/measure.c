@@ -1,9 +1,8 @@
 /* Measures the library's calls against the second program's, which walks every tick, in one run and
    on the same load file.
 
-   usage: measure schedule|bound-margins-verdict FILE
-
-   Prints the microseconds of our calls, those of theirs, and how many times as fast ours are.
+   usage: measure schedule|bound-and-margins FILE      prints the microseconds of our call, those of
+                                                       theirs, and how many times as fast ours is
 
    Both forms fill an output of their own, and the answers must agree before anything is timed; the
    exit status is 1 where they differ, 2 for a wrong use or a file that cannot be read.
@@ -31,11 +30,11 @@ static uint32_t their_schedule(const struct file *file, struct output *out)
     return second_schedule(file->bytes, file->length, out->bytes, sizeof out->bytes);
 }
 
-static uint32_t their_answers(const struct file *file, struct output *out)
+static uint32_t their_margins(const struct file *file, struct output *out)
 {
     return second_bound(file->bytes, file->length, out->bytes, BENCH_BOUND_BYTES)
-        + second_margins(file->bytes, file->length, out->bytes + MARGINS_AT, BENCH_MARGINS_BYTES)
-        + second_verdict(file->bytes, file->length, out->bytes + VERDICT_AT, BENCH_VERDICT_BYTES);
+        + second_margins(file->bytes, file->length, out->bytes + BENCH_BOUND_BYTES,
+                         BENCH_MARGINS_BYTES);
 }
 
 static double seconds_now(void)
@@ -90,12 +89,12 @@ static void time_both(form *ours, form *theirs, const struct file *file)
 
 int main(int count, char **words)
 {
-    static form *const ours[] = {our_schedule, our_answers};
-    static form *const theirs[] = {their_schedule, their_answers};
+    static form *const ours[] = {our_schedule, our_margins};
+    static form *const theirs[] = {their_schedule, their_margins};
     static struct file file;
     unsigned chosen = count == 3 ? form_named(words[1]) : NO_FORM;
     if (chosen == NO_FORM || !take_file(words[2], &file)) {
-        fputs("measure: it is measure schedule|bound-margins-verdict FILE\n", stderr);
+        fputs("measure: it is measure schedule|bound-and-margins FILE\n", stderr);
         return 2;
     }
     if (!agree(ours[chosen], theirs[chosen], &file)) {

@@ -18,11 +18,10 @@ extern "C" {
 /* The version of this header and of the archive beside it. A later MINOR has every call, size and
  * number of this one, but that BENCH_LOAD_BYTES_MAX can be larger. 1.1 has number 21 besides, for
  * files that 1.0 answered. 1.2 answers load files of version 2, which 1.1 refused with 2, and those
- * of version 1 as before. 1.3 has the bound of request 2026-06: no bound is above what 1.2 gave, no
- * margin is below it, and a verdict that was yes stays yes. */
+ * of version 1 as before. */
 #define BENCH_VERSION_MAJOR 1
-#define BENCH_VERSION_MINOR 3
-#define BENCH_VERSION "1.3"
+#define BENCH_VERSION_MINOR 2
+#define BENCH_VERSION "1.2"
 
 /* Duties and promises of every call
  *
@@ -66,17 +65,16 @@ extern "C" {
  *
  * Stack: so many bytes are enough for a call, from its return address down. A program that binds
  *   names at their first use needs some 4 KiB more for its loader, once.
- * Time: bound, verdict and margins ran at most 46,000 instructions each on every load measured,
- *   some two fifths of them to read the file. The schedule ran at most 0.5 million on most full
- *   loads, and 2.1 million on the worst that is known, which is a millisecond or less.
+ * Time: bound and margins together ran at most 2.5 million instructions on every load measured;
+ *   the verdict runs what the margins run. The schedule ran at most 0.5 million on most full loads,
+ *   and 2.1 million on the worst that is known, which is a millisecond or less.
  */
 #define BENCH_BOUND_STACK 5888
 #define BENCH_VERDICT_STACK 5888
 #define BENCH_MARGINS_STACK 5888
 #define BENCH_SCHEDULE_STACK 9216
 
-/* bench_bound gives the bound of the load: a moment by which every step is over. It is that of
- * request 2026-06.
+/* bench_bound gives the bound of the load.
  *
  * Answer: 4 bytes, a number from 0 to 806,400, little-endian.
  * Numbers: 1 to 8 or 21 by the first faulty record of the file, then 9 where `out_len` is below 4.

@@ -76,30 +76,24 @@ uint32_t largest_phase(const struct load *load)
     return largest;
 }
 
-static uint32_t all_largest_by(w_rule *rule, const struct load *load)
+static uint32_t all_largest_w(const struct load *load)
 {
     uint32_t sum = 0;
     for (unsigned j = 1; j <= MOST_PLACES; j++)
-        sum += largest_by(rule, load, j).w;
+        sum += largest_w(load, j).w;
     return sum;
 }
 
-static uint32_t four_terms(w_rule *rule, const struct load *load)
+static uint32_t four_terms(const struct load *load)
 {
-    return all_costs(load) + largest_phase(load) + all_embedded_waits(load)
-        + all_largest_by(rule, load);
-}
-
-enum refusal bound_by(w_rule *rule, const struct load *load, uint32_t *bound)
-{
-    enum refusal refusal = check_load(load);
-    *bound = refusal == ACCEPTED ? four_terms(rule, load) : 0;
-    return refusal;
+    return all_costs(load) + largest_phase(load) + all_embedded_waits(load) + all_largest_w(load);
 }
 
 enum refusal bound_of(const struct load *load, uint32_t *bound)
 {
-    return bound_by(w_of, load, bound);
+    enum refusal refusal = check_load(load);
+    *bound = refusal == ACCEPTED ? four_terms(load) : 0;
+    return refusal;
 }
 
 /* The load as it is cut for a row: at that row's own steps. */
@@ -108,25 +102,20 @@ static struct load cut_for(const struct load *load, unsigned row)
     return cut_load(load, row_of(load, row)->step_count);
 }
 
-static uint32_t row_bound(w_rule *rule, const struct load *load, unsigned row)
+static uint32_t row_bound(const struct load *load, unsigned row)
 {
     struct load cut = cut_for(load, row);
-    return four_terms(rule, &cut);
-}
-
-enum refusal row_bounds_by(w_rule *rule, const struct load *load, uint32_t bounds[MOST_ROWS])
-{
-    enum refusal refusal = check_load(load);
-    for (unsigned row = 1; row <= MOST_ROWS; row++) {
-        bool there = refusal == ACCEPTED && row <= load->row_count;
-        bounds[row - 1] = there ? row_bound(rule, load, row) : 0;
-    }
-    return refusal;
+    return four_terms(&cut);
 }
 
 enum refusal row_bounds_of(const struct load *load, uint32_t bounds[MOST_ROWS])
 {
-    return row_bounds_by(w_of, load, bounds);
+    enum refusal refusal = check_load(load);
+    for (unsigned row = 1; row <= MOST_ROWS; row++) {
+        bool there = refusal == ACCEPTED && row <= load->row_count;
+        bounds[row - 1] = there ? row_bound(load, row) : 0;
+    }
+    return refusal;
 }
 
 /* Rows not there have deadline 0 and row bound 0, so their margin is 0 by itself. */

@@ -1,5 +1,4 @@
-/* The bound and the margins, computed as the document says them: cut the load, add four terms. The
-   fourth goes by 2026-06's W (waits.h). */
+/* The bound and the margins, computed as the document says them: cut the load, add four terms. */
 #ifndef BOUND_H
 #define BOUND_H
 
@@ -20,10 +19,6 @@ enum refusal bound_of(const struct load *load, uint32_t *bound);
 enum refusal row_bounds_of(const struct load *load, uint32_t bounds[MOST_ROWS]);
 enum refusal margins_of(const struct load *load, int32_t margins[MOST_ROWS]);
 enum refusal verdict_of(const struct load *load, bool *yes);
-
-/* The bound and the row bounds with any rule for W in its place: for comparing two rules. */
-enum refusal bound_by(w_rule *rule, const struct load *load, uint32_t *bound);
-enum refusal row_bounds_by(w_rule *rule, const struct load *load, uint32_t bounds[MOST_ROWS]);
 
 /* The largest W of each place, nothing cut; and for each row the blame of its own cut load. */
 enum refusal places_of(const struct load *load, struct place_w places[MOST_PLACES]);

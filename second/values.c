@@ -4,7 +4,6 @@
 
 #include "bench.h"
 #include "bound.h"
-#include "earlier.h"
 #include "load_file.h"
 
 /* The length of the record that opens here, by its mark and the length of a row record; the rest of
@@ -87,28 +86,17 @@ static bool has_place(const struct load *load, unsigned j)
     return false;
 }
 
-static void print_place(FILE *out, w_rule *rule, const struct load *load, unsigned j)
+static void print_place(FILE *out, const struct load *load, unsigned j)
 {
-    struct place_w largest = largest_by(rule, load, j);
-    fprintf(out, " place %u W %lu row %u of", j, (unsigned long)largest.w, largest.row);
+    struct place_w largest = largest_w(load, j);
+    fprintf(out, "place %u W %lu row %u of", j, (unsigned long)largest.w, largest.row);
     for (unsigned row = 1; row <= load->row_count; row++) {
         if (is_free(row_of(load, row), j + 1))
-            fprintf(out, " %lu", (unsigned long)rule(load, row, j));
+            fprintf(out, " %lu", (unsigned long)w_of(load, row, j));
         else
             fputs(" -", out);
     }
     fputc('\n', out);
-}
-
-static void print_by(FILE *out, const char *name, w_rule *rule, const struct load *load)
-{
-    uint32_t bound;
-    for (unsigned j = 1; has_place(load, j); j++) {
-        fprintf(out, "rule %s", name);
-        print_place(out, rule, load, j);
-    }
-    bound_by(rule, load, &bound);
-    fprintf(out, "rule %s bound %lu\n", name, (unsigned long)bound);
 }
 
 void print_terms(FILE *out, const uint8_t *bytes, size_t length)
@@ -121,6 +109,6 @@ void print_terms(FILE *out, const uint8_t *bytes, size_t length)
     }
     fprintf(out, "costs %lu\nphase %lu\nembedded %lu\n", (unsigned long)all_costs(&load),
             (unsigned long)largest_phase(&load), (unsigned long)all_embedded_waits(&load));
-    print_by(out, "2026-06", w_of, &load);
-    print_by(out, "01", earlier_w_of, &load);
+    for (unsigned j = 1; has_place(&load, j); j++)
+        print_place(out, &load, j);
 }

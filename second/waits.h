@@ -1,5 +1,4 @@
-/* The free waits of a good load: W, the largest at each place, and which of them is to blame. W is
-   that of 2026-06, and every answer goes by it; document 01's stands in earlier.h. */
+/* The free waits of a good load: W, the largest at each place, and which of them is to blame. */
 #ifndef WAITS_H
 #define WAITS_H
 
@@ -20,16 +19,10 @@ struct blame {
     unsigned row;
 };
 
-/* A rule for W: asked of row i at place j, from 1, where its wait is free. */
-typedef uint32_t w_rule(const struct load *load, unsigned i, unsigned j);
-
-/* By 2026-06. */
+/* Asked of row i at place j, from 1, where its wait is free. */
 uint32_t w_of(const struct load *load, unsigned i, unsigned j);
+
 struct place_w largest_w(const struct load *load, unsigned j);
 struct blame blame_of(const struct load *load);
-
-/* The same by any rule. */
-struct place_w largest_by(w_rule *rule, const struct load *load, unsigned j);
-struct blame blame_by(w_rule *rule, const struct load *load);
 
 #endif

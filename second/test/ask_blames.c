@@ -18,14 +18,13 @@ static void ask_blame_of(struct asking *asking, const struct load *load)
 }
 
 /* Costs of 1 and 2, and waits that the other rows just outweigh or just do not: so W is small, and
-   equal to others often. Of two costs the smaller is 2 now and then, which many rows feel. Every
-   third row has a window somewhere. */
+   equal to others often. Every third row has a window somewhere. */
 static struct row close_row(struct dice *dice, unsigned number, unsigned steps, unsigned rows)
 {
     struct row row = {.identifier = {1000 - number}, .box = {number}, .deadline = MOST_DEADLINE,
                       .step_count = (uint8_t)steps, .head = ONLY_HEAD};
     for (unsigned step = 1; step <= steps; step++) {
-        uint32_t wait = step < steps ? between(dice, rows - 1, rows + 2 + rows / 8) : 0;
+        uint32_t wait = step < steps ? between(dice, rows - 1, rows + 2) : 0;
         row.steps[step - 1] = (struct step){(uint16_t)between(dice, 1, 2), (uint16_t)wait};
     }
     if (number % 3 != 0 || steps < 2)

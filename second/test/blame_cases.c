@@ -36,12 +36,6 @@ static void worked_rows(struct tally *tally, const struct worked *worked)
     }
 }
 
-void worked_case(struct tally *tally, const struct worked *worked)
-{
-    worked_places(tally, worked);
-    worked_rows(tally, worked);
-}
-
 static void nothing_blamed(struct tally *tally, const char *name, const struct load *load,
                            enum refusal refusal)
 {
@@ -85,8 +79,14 @@ static void rows_not_there_cases(struct tally *tally)
 
 void blame_cases(struct tally *tally)
 {
-    for (unsigned at = 0; at < WORKED_LOADS; at++)
-        worked_case(tally, &WORKED[at]);
+    struct worked b = {"B: every wait is embedded", load_b(), {{0, 0}},
+                       {999985, 999985, 999985}, {{0, 0}}};
+    worked_places(tally, &b);
+    worked_rows(tally, &b);
+    for (unsigned at = 0; at < WORKED_LOADS; at++) {
+        worked_places(tally, &WORKED[at]);
+        worked_rows(tally, &WORKED[at]);
+    }
     nothing_to_blame_cases(tally);
     rows_not_there_cases(tally);
 }

@@ -26,9 +26,8 @@ static void row_bound_cases(struct tally *tally)
     same(tally, "refused bounds are 0", 0, (long)bounds[0]);
 }
 
-/* 4 w3 9 w9 9 (window 1 to 2) / 1 w5 1 w20 1: at place 2 row 1's step 2 is embedded but its step 3
-   is free, so it gives row 2 a cost of 9 and W is 11; row 1's own wait there is free, less row 2's
-   smaller cost 1. */
+/* 4 w3 9 w9 9 (window 1 to 2) / 1 w5 1 w20 1: at place 2 row 1's step 2 is embedded, so it gives
+   row 2 no costs and W is 20; row 1's own wait there is free, less row 2's smaller cost 1. */
 static void embedded_place_cases(struct tally *tally)
 {
     uint32_t bound;
@@ -37,15 +36,15 @@ static void embedded_place_cases(struct tally *tally)
         {{102}, {202}, 0, 1000000, 3, 0, 0, 1, {{1, 5}, {1, 20}, {1, 0}}, {{0, 0, 0}}},
     }};
     bound_of(&load, &bound);
-    same(tally, "25 costs, embedded 3, W 5 and 20 - 9", 44, (long)bound);
+    same(tally, "25 costs, embedded 3, W 5 and 20", 53, (long)bound);
     load.rows[0].steps[1].wait = 40;
     bound_of(&load, &bound);
     same(tally, "25 costs, embedded 3, W 5 and 40 - 1", 72, (long)bound);
 }
 
-/* 1 w9 1 / 1 w8 1 / 2 w0 6 / 6 w0 2: of row 1's others the smaller costs are 1, 2 and 2. The three
-   smallest of all six would be 4. */
-static void smaller_costs_cases(struct tally *tally)
+/* 1 w9 1 / 1 w8 1 / 2 w0 6 / 6 w0 2: row 1's others give 1, 1, 2, 6, 6, 2, and the three smallest
+   are 4. The smaller of each pair would be 1, 2 and 2. */
+static void smallest_costs_cases(struct tally *tally)
 {
     uint32_t bound;
     struct load load = {4, {
@@ -55,7 +54,7 @@ static void smaller_costs_cases(struct tally *tally)
         {{104}, {204}, 0, 1000000, 2, 0, 0, 1, {{6, 0}, {2, 0}}, {{0, 0, 0}}},
     }};
     bound_of(&load, &bound);
-    same(tally, "20 costs, W 9 - 5", 24, (long)bound);
+    same(tally, "20 costs, W 9 - 4", 25, (long)bound);
 }
 
 /* 1 w4 2 w50 7 (window 1 to 2) cut to one step: its window stays whole, and no wait follows. */
@@ -104,6 +103,6 @@ void bound_cases(struct tally *tally)
     edge_cases(tally);
     row_bound_cases(tally);
     embedded_place_cases(tally);
-    smaller_costs_cases(tally);
+    smallest_costs_cases(tally);
     cut_cases(tally);
 }

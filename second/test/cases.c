@@ -54,7 +54,6 @@ int main(void)
     sheet_cases(&tally);
     bound_cases(&tally);
     blame_cases(&tally);
-    tighter_cases(&tally);
     bench_cases(&tally);
     schedule_cases(&tally);
     call_cases(&tally);

@@ -23,10 +23,6 @@ struct load urgent_a(void);
    deadline 100. */
 struct load load_two_windows(void);
 
-/* A load's places, margins and blames are those worked by hand. */
-struct worked;
-void worked_case(struct tally *tally, const struct worked *worked);
-
 void load_cases(struct tally *tally);
 void factory_cases(struct tally *tally);
 void urgent_cases(struct tally *tally);
@@ -36,7 +32,6 @@ void sheet_cases(struct tally *tally);
 void bench_cases(struct tally *tally);
 void bound_cases(struct tally *tally);
 void blame_cases(struct tally *tally);
-void tighter_cases(struct tally *tally);
 void schedule_cases(struct tally *tally);
 void call_cases(struct tally *tally);
 

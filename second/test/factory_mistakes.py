@@ -169,8 +169,7 @@ FACTORY_MISTAKES = [
     ("factory: a file is written with it", "load_writing.c", CHECK_WRITTEN, CHECK_WRITTEN + PASSED),
     ("factory: a sheet is written with it", "sheet.c", CHECK_WRITTEN, CHECK_WRITTEN + PASSED),
     ("factory: bounds with it", "bound.c",
-     *passed_by("enum refusal row_bounds_by(w_rule *rule, const struct load *load, "
-                "uint32_t bounds[MOST_ROWS])")),
+     *passed_by("enum refusal row_bounds_of(const struct load *load, uint32_t bounds[MOST_ROWS])")),
     ("factory: places with it", "bound.c",
      *passed_by("enum refusal places_of(const struct load *load, "
                 "struct place_w places[MOST_PLACES])")),

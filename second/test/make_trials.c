@@ -91,11 +91,9 @@ static bool ask_everything(struct asking *asking, char **names)
     if (!ask_each(asking, names, &file, ask_blame))
         return false;
     ask_blames(asking);
-    ask_tighter(asking);
     ask_places_in_memory(asking);
     ask_factory_places(asking);
     ask_urgent_places(asking);
-    ask_tighter_places(asking);
     ask_files_and_sheets(asking);
     ask_halves(asking, &file);
     return true;
@@ -117,9 +115,6 @@ static void print_counts(const struct asking *asking)
             asking->row_ties, asking->place_ties, asking->cuts, asking->outweighed);
     fprintf(stderr, "the class decides %lu\nclass and plan decide %lu\na move by class %lu\n",
             asking->class_turns, asking->class_and_plan_turns, asking->class_moves);
-    fprintf(stderr, "a smaller bound %lu\nby an embedded step %lu\nanother blame %lu\n"
-            "another verdict %lu\n", asking->tightened, asking->tightened_by_embedded,
-            asking->rule_turns, asking->rule_passes);
 }
 
 int main(int count, char **words)

@@ -1,7 +1,6 @@
 #!/bin/sh
-# The two tables of PAPER.md: ours are computed, by document 01's W; the paper's agree with ours
-# where they bear no star, and differ where they do. The last columns are computed by 2026-06's W.
-# Usage: paper.sh PROGRAM PAPER
+# The two tables of PAPER.md: ours are computed; the paper's agree with ours where they bear no
+# star, and differ where they do. Usage: paper.sh PROGRAM PAPER
 . "$(dirname "$0")/same.sh"
 paper=$2
 
@@ -26,22 +25,15 @@ terms() {
     "$second" report < "$work/load" | head -n 1 > "$work/line"
 }
 
-# computed: costs, phase, embedded waits, sum of W, bound, end, idle and the report's bound, as a
-# line of the table.
+# computed: costs, phase, embedded waits, sum of W, bound, end and idle, as a line of the table.
 computed() {
     cat "$work/terms" "$work/line" | awk '
         $1 == "costs" { costs = $2 }
         $1 == "phase" { phase = $2 }
         $1 == "embedded" { embedded = $2 }
-        $2 == "01" && $3 == "place" { w += $6 }
-        $2 == "01" && $3 == "bound" { bound = $4 }
-        $1 == "load" { print "|", costs, "|", phase, "|", embedded, "|", w, "|", bound, "|", $4,
-                       "|", $4 - costs, "|", $5, "|" }'
-}
-
-# waits RULE PLACE: W there by that rule, row by row.
-waits() {
-    sed -n "s/^rule $1 place $2 W [0-9]* row [0-9]* of //p" "$work/terms" | tr - .
+        $1 == "place" { w += $4 }
+        $1 == "load" { print "|", costs, "|", phase, "|", embedded, "|", w, "|", $5, "|", $4, "|",
+                       $4 - costs, "|" }'
 }
 
 # row FIGURE WHOSE: that line's numbers in the first table.
@@ -55,21 +47,18 @@ for figure in 3 4 5 6 7 8; do
     same "figure $figure" "$ours" "$(computed)"
     cells "$ours" > "$work/ours"
     cells "$(row "$figure" paper)" > "$work/paper"
-    same "figure $figure: the bound by 2026-06" "$(sed -n 8p "$work/ours")" \
-        "$(sed -n 's/^rule 2026-06 bound //p' "$work/terms")"
     for column in 1 2 3 4 5 6 7; do
         beside "figure $figure, column $column" "$(sed -n "${column}p" "$work/paper")" \
             "$(sed -n "${column}p" "$work/ours")"
     done
-    places=$(grep -c '^rule 01 place' "$work/terms")
+    places=$(grep -c '^place' "$work/terms")
     same "figure $figure: places" "$places" \
         "$(grep -c "^| $figure | [0-9] |" "$paper")"
     for place in $(seq "$places"); do
         line=$(row "$figure" "$place")
         ours=$(cells "$line" | sed -n 2p)
-        same "figure $figure, place $place" "$ours" "$(waits 01 "$place")"
-        same "figure $figure, place $place, by 2026-06" "$(cells "$line" | sed -n 3p)" \
-            "$(waits 2026-06 "$place")"
+        same "figure $figure, place $place" "$ours" \
+            "$(sed -n "s/^place $place W [0-9]* row [0-9]* of //p" "$work/terms" | tr - .)"
         beside "figure $figure, place $place" "$(cells "$line" | sed -n 1p)" "$ours"
     done
 done

@@ -10,9 +10,8 @@ enum { LETTERS = 128 };
 
 /* `out` is the stream of the question that is being written, one of the other two. `in_memory` says
    how ask_move_of and ask_check_of lend a load: as it is, or else as its file. `asked` counts the
-   questions by their letter, `row_ties` and so on the blamed loads of a kind (blame_kinds.h),
-   `class_turns` and so on the loads and moves with classes that show them (class_kinds.h), and
-   `tightened` and so on the loads that tell one rule for W from another (tighter_kinds.h). */
+   questions by their letter, `row_ties` and so on the blamed loads of a kind (blame_kinds.h), and
+   `class_turns` and so on the loads and moves with classes that show them (class_kinds.h). */
 struct asking {
     FILE *bench_stream, *file_stream, *out;
     struct dice dice;
@@ -20,7 +19,6 @@ struct asking {
     unsigned long asked[LETTERS];
     unsigned long row_ties, place_ties, cuts, outweighed;
     unsigned long class_turns, class_and_plan_turns, class_moves;
-    unsigned long tightened, tightened_by_embedded, rule_turns, rule_passes;
 };
 
 /* Asks something of a load in memory. */
@@ -107,11 +105,9 @@ void ask_urgent_moves_in_memory(struct asking *asking);
 void ask_urgent_loads(struct asking *asking);
 void ask_urgent_files(struct asking *asking);
 void ask_blames(struct asking *asking);
-void ask_tighter(struct asking *asking);
 void ask_places_in_memory(struct asking *asking);
 void ask_factory_places(struct asking *asking);
 void ask_urgent_places(struct asking *asking);
-void ask_tighter_places(struct asking *asking);
 void ask_checks_of_refused_files(struct asking *asking);
 void ask_sheets(struct asking *asking);
 void ask_damaged_sheets(struct asking *asking);

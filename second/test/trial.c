@@ -1,7 +1,6 @@
 /* Random loads, two of three with classes: the run from fresh must end by the bound, each row by
-   its row bound, and its own slots must pass the check whenever no margin is negative; the bound
-   must not be above document 01's, and for some loads it must be below it. One load for which this
-   fails is printed with its numbers, and the trial ends with 1.
+   its row bound, and its own slots must pass the check whenever no margin is negative. One load for
+   which this fails is printed with its numbers, and the trial ends with 1.
    Usage: trial [COUNT [SEED [SIZES]]], where SIZES takes the first so many sizes of load alone, the
    quick ones. */
 #include <stdio.h>
@@ -12,8 +11,6 @@
 #include "file_fault.h"
 #include "plain.h"
 #include "schedule.h"
-#include "tighter_fault.h"
-#include "tighter_kinds.h"
 
 enum { DEFAULT_COUNT = 600, DEFAULT_SEED = 1, PERTURBED = 20 };
 
@@ -156,7 +153,7 @@ int main(int count, char **words)
     unsigned long sizes = number_at(count, words, 3, ALL_SIZES);
     unsigned among = sizes < 1 || sizes > ALL_SIZES ? ALL_SIZES : (unsigned)sizes;
     struct dice dice = {UINT64_C(0x9E3779B97F4A7C15) ^ (uint64_t)seed};
-    unsigned long yes = 0, tightened = 0;
+    unsigned long yes = 0;
     for (unsigned long at = 0; at < loads; at++) {
         uint32_t bounds[MOST_ROWS];
         bool verdict;
@@ -167,14 +164,12 @@ int main(int count, char **words)
             set_classes(&dice, &load);
         verdict_of(&load, &verdict);
         yes += verdict;
-        tightened += is_tightened(&load);
         if (!keeps_demands(&load) || !is_shared_class_unseen(&load) || !moves_are_the_run(&load)
             || !has_no_fault(&load, file_fault(&dice, &load)) || !any_state_is_moved(&dice, &load)
-            || !has_no_fault(&load, blame_fault(&load))
-            || !has_no_fault(&load, tighter_fault(&load)))
+            || !has_no_fault(&load, blame_fault(&load)))
             return 1;
     }
-    printf("trial: %lu random loads, %lu with verdict yes, %lu with a smaller bound than by 01, no "
-           "counterexample\n", loads, yes, tightened);
-    return tightened > 0 || loads < DEFAULT_COUNT ? 0 : 1;
+    printf("trial: %lu random loads, %lu of them with verdict yes, no counterexample\n", loads,
+           yes);
+    return 0;
 }

@@ -126,13 +126,6 @@ met "A's places" "$(count '^waits 8:1( 0:0){6} blames( 1:1){3}( 0:0){21}$')"
 met 'the cut by hand' "$(count '^waits 3:1 3:2 20:2( 0:0){4} blames 1:1 3:2( 0:0){22}$')"
 met 'the ties by hand' "$(count '^waits( 8:1){2}( 0:0){5} blames( 1:1){2}( 0:0){22}$')"
 met 'nothing to blame' "$(count '^waits( 0:0){7} blames( 0:0){24}$')"
-printf '; by the rule for W'
-for kind in 'a smaller bound' 'by an embedded step' 'another blame' 'another verdict'; do
-    met "$kind" "$(sed -n "s/^$kind //p" "$work/counts")"
-done
-met 'the embedded step by hand' "$(count '^load 2 6 15 18 yes$')"
-met 'the verdict by hand' "$(count '^load 4 8 20 24 yes$')"
-met 'no blame left by hand' "$(count '^load 3 6 21 21 yes$')"
 
 # p, the last questions but one, have a line each: `refused N` is also what is said of files.
 asked=$(sed -n '1s/.* p //p' "$work/counts")

@@ -114,9 +114,9 @@ URGENT_MISTAKES = [
     ("urgent: equal dues by class", "plan.c",
      SORTED,
      sorted_again("(before.due == after.due && then > first)")),
-    ("urgent: rows of a lower class give nothing", "waits.c",
-     "other != i && ",
-     "other != i && row_of(load, other)->class >= row_of(load, i)->class && "),
+    ("urgent: W pairs with no lower class", "waits.c",
+     "other == i || ",
+     "other == i || row_of(load, other)->class < row_of(load, i)->class || "),
 
     ("urgent: class 4 passes", "load.h", "MOST_CLASS = 3", "MOST_CLASS = 4"),
     ("urgent: class 3 is refused", "load.h", "MOST_CLASS = 3", "MOST_CLASS = 2"),

@@ -1,6 +1,12 @@
 #include "worked.h"
 
-#include "worked_rows.h"
+/* Rows 101, 102 and so on, in boxes 201, 202 and so on, with phase 0 and no window. */
+#define ROW(number, deadline, count, ...) \
+    {{100 + number}, {200 + number}, 0, deadline, count, 0, 0, 1, {__VA_ARGS__}, {{0, 0, 0}}}
+
+/* The same with deadline 1,000,000 and a window over the first two steps. */
+#define WINDOW_ROW(number, limit, count, ...) \
+    {{100 + number}, {200 + number}, 0, 1000000, count, 1, 0, 1, {__VA_ARGS__}, {{1, 2, limit}}}
 
 const struct worked WORKED[WORKED_LOADS] = {
     {"A: 2 w10 3 / 1 w4 2 / 2 w3 1",
@@ -29,7 +35,7 @@ const struct worked WORKED[WORKED_LOADS] = {
      {2, {ROW(1, 1000000, 2, {5, 3}, {5, 0}), ROW(2, 1000000, 2, {6, 4}, {6, 0})}},
      {{0, 0}}, {999978, 999978}, {{0, 0}}},
 
-    /* Two other rows give a cost of 1 each. */
+    /* Two other rows give four costs of 1, of which two are taken. */
     {"1 w3 1 / 1 w9 1 / 1 w9 1: the lower of two rows, not the first",
      {3, {ROW(1, 1000000, 2, {1, 3}, {1, 0}), ROW(2, 1000000, 2, {1, 9}, {1, 0}),
           ROW(3, 1000000, 2, {1, 9}, {1, 0})}},

@@ -4,7 +4,7 @@
 
 #include "bound.h"
 
-enum { WORKED_ROWS = 4, WORKED_LOADS = 10 };
+enum { WORKED_ROWS = 3, WORKED_LOADS = 10 };
 
 /* Places and rows that are not written have 0 and 0. */
 struct worked {

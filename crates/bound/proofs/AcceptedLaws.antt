@@ -1,13 +1,10 @@
 -- The bound of an acceptable load: it is within the ranges, so each of its terms fits, and the load cut at 8 steps, of
 -- which no row has more, has the bound of the load.
 use Prim.Native.Nat.{ℕ, ◌+◌, ◌-◌, ◌≤◌, ◌<◌}
-use mathlib.Core.List.{List}
 use mathlib.Core.Path.{◌≡◌, ap, ap₂, ◌∙◌}
 use native.Mathlib.Omega.{arith}
 use Rattle.counting.specs.Sums.{sum_to}
-use Rattle.counting.specs.Lists.{list_to, member_at}
 use Rattle.counting.proofs.sums.SumLaws.{sum_to-ext}
-use Rattle.counting.proofs.lists.ListLaws.{get_or-list_to}
 use Rattle.counting.proofs.sorting.SortLaws.{at-Every}
 use Rattle.load.specs.declared.Load.{Load}
 use Rattle.load.specs.Load.{most_rows, most_steps, last_moment, no_window, row_at}
@@ -21,14 +18,13 @@ use Rattle.rules.specs.Bound.{
   all_embedded_waits,
   largest_w,
   bound_by,
-  smaller_costs,
+  smallest_costs,
   bound,
 }
 use Rattle.rules.proofs.cut.CutLaws.{Within, first_kept-le, kept-le}
 use Rattle.rules.proofs.cut.CutBound.{kept_costs, kept_waits, bound-of-cut}
 use Rattle.rules.proofs.bound.BoundLaws.{Ranged, largest_bound, bound-le}
 use Rattle.rules.proofs.bound.MarginLaws.{ranged-of-cut}
-use Rattle.bound.specs.inner.CutTerms.{bound_at}
 
 module _ (L : View) (ok : Acceptable L) where
   pub accepted-ranged : Ranged L
@@ -47,7 +43,7 @@ module _ (L : View) (ok : Acceptable L) where
 
   -- the four terms of the load cut at m
   pub cut-bound-is : (m : ℕ) → m ≤ most_steps
-      → bound (cut L m) ≡ kept_costs L m + largest_phase L + kept_waits L m + sum_to (largest_w smaller_costs L) (m - 1)
+      → bound (cut L m) ≡ kept_costs L m + largest_phase L + kept_waits L m + sum_to (largest_w smallest_costs L) (m - 1)
   cut-bound-is m h = bound-of-cut L m accepted-within h
 
   pub cut-bound-le : (m : ℕ) → bound (cut L m) ≤ largest_bound
@@ -57,24 +53,16 @@ module _ (L : View) (ok : Acceptable L) where
   kept-all : (i : ℕ) → i < L.rows → kept L most_steps i ≡ L.steps i
   kept-all i l = omega (arith, kept-le L most_steps i, first_kept-le L most_steps i, ok.steps-most i l)
 
-  bound-uncut : bound (cut L most_steps) ≡ bound L
+  pub bound-uncut : bound (cut L most_steps) ≡ bound L
   unfolding bound bound_by all_costs all_embedded_waits
   bound-uncut =
       bound-of-cut L most_steps accepted-within (omega arith)
-      ∙ ap₂ (λ costs waits. costs + largest_phase L + waits + sum_to (largest_w smaller_costs L) (most_steps - 1))
+      ∙ ap₂ (λ costs waits. costs + largest_phase L + waits + sum_to (largest_w smallest_costs L) (most_steps - 1))
       (sum_to-ext (λ i. sum_to (L.cost i) (kept L most_steps i)) (λ i. sum_to (L.cost i) (L.steps i)) L.rows
       (λ i l. ap (sum_to (L.cost i)) (kept-all i l)))
       (sum_to-ext (λ i. sum_to (embedded_wait_at L i) (kept L most_steps i - 1))
       (λ i. sum_to (embedded_wait_at L i) (L.steps i - 1)) L.rows
       (λ i l. ap (λ n. sum_to (embedded_wait_at L i) (n - 1)) (kept-all i l)))
-
-  -- so the bounds of the load cut at 1 to 8 steps end with the bound
-  pub bound-last : (bounds : List ℕ) → bounds ≡ list_to (bound_at L) most_steps
-      → member_at bounds (most_steps - 1) ≡ bound L
-  bound-last bounds e =
-      ap (λ l. member_at l (most_steps - 1)) e
-      ∙ get_or-list_to (bound_at L) most_steps (most_steps - 1) 0 (omega arith)
-      ∙ bound-uncut
 
 -- a load in memory that is accepted
 module _ (load : Load) (ok : Acceptable (view_of load)) where

@@ -15,9 +15,6 @@ use Rattle.bound.specs.Calls.{
   BoundOf,
   MarginsOf,
   VerdictOf,
-  BoundIn,
-  MarginsIn,
-  VerdictIn,
   BlamesOf,
   PlaceWaitsOf,
   MarginBytes,
@@ -34,15 +31,6 @@ MarginsOf-unique load r s p q = p ∙ sym q
 
 pub VerdictOf-unique : (load : Load) (r s : Judged) → VerdictOf load r → VerdictOf load s → r ≡ s
 VerdictOf-unique load r s p q = p ∙ sym q
-
-pub BoundIn-unique : (bs : List ℕ) (r s : Bounded) → BoundIn bs r → BoundIn bs s → r ≡ s
-BoundIn-unique bs r s p q = p ∙ sym q
-
-pub MarginsIn-unique : (bs : List ℕ) (r s : Margined) → MarginsIn bs r → MarginsIn bs s → r ≡ s
-MarginsIn-unique bs r s p q = p ∙ sym q
-
-pub VerdictIn-unique : (bs : List ℕ) (r s : Judged) → VerdictIn bs r → VerdictIn bs s → r ≡ s
-VerdictIn-unique bs r s p q = p ∙ sym q
 
 pub BlamesOf-unique : (load : Load) (r s : Blamed) → BlamesOf load r → BlamesOf load s → r ≡ s
 BlamesOf-unique load r s p q = p ∙ sym q

@@ -1,6 +1,5 @@
 -- What the calls give of a load that is not refused: bound, margins, verdict and blames as the rules define them. What
 -- one call gives together is what four give one by one.
-use Prim.Native.Nat.{ℕ, ◌<◌}
 use mathlib.Core.Bool.{false}
 use mathlib.Core.Path.{◌≡◌, ap, sym, ◌∙◌}
 use lib.IntN.{pos}
@@ -11,9 +10,8 @@ use Rattle.load.specs.declared.Load.{Load}
 use Rattle.load.specs.Load.{most_rows}
 use Rattle.load.specs.View.{view_of}
 use Rattle.load.specs.Check.{check_load}
-use Rattle.load.proofs.AcceptableLaws.{check-acceptable}
 use Rattle.rules.specs.Bound.{most_places, bound}
-use Rattle.rules.specs.Margins.{margin, margins, margin_in, verdict}
+use Rattle.rules.specs.Margins.{margins, verdict}
 use Rattle.rules.specs.Blame.{none_left, nobody, place_waits, blames}
 use Rattle.bound.specs.declared.Answered.{Answered}
 use Rattle.bound.specs.declared.Blamed.{Blamed}
@@ -22,7 +20,6 @@ use Rattle.bound.specs.declared.Margined.{Margined}
 use Rattle.bound.specs.declared.Judged.{Judged}
 use Rattle.bound.specs.declared.PlaceWaits.{PlaceWaits}
 use Rattle.bound.specs.Calls.{AnswersOf, BoundOf, MarginsOf, VerdictOf, BlamesOf, PlaceWaitsOf}
-use Rattle.bound.proofs.MarginsRead.{margin-read}
 
 module _ (load : Load) where
   pub BoundOf-good : (r : Bounded) → BoundOf load r → r.answer ≡ Good → r.bound ≡ bound (view_of load)
@@ -35,15 +32,6 @@ module _ (load : Load) where
       ap (λ (x : Margined). x.margins) e
       ∙ if_good-good (check_load load) (margins (view_of load)) (replicate most_rows (pos 0))
       (ap (λ (x : Margined). x.answer) (sym e) ∙ g)
-
-  -- the margin of a row
-  pub MarginsOf-row : (r : Margined) → MarginsOf load r → r.answer ≡ Good → (i : ℕ) → i < load.rows
-      → margin_in r.margins i ≡ margin (view_of load) i
-  unfolding view_of
-  MarginsOf-row r e g i l =
-      ap (λ margins. margin_in margins i) (MarginsOf-good r e g)
-      ∙ margin-read (view_of load)
-      (check-acceptable load (ap (λ (x : Margined). x.answer) (sym e) ∙ g)).rows-most i l
 
   pub VerdictOf-good : (r : Judged) → VerdictOf load r → r.answer ≡ Good → r.verdict ≡ verdict (view_of load)
   VerdictOf-good r e g =

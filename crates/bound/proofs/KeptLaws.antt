@@ -1,22 +1,21 @@
 -- What a row keeps is where a search over its places stops: at the first step from the certain ones on that is not
--- embedded, or at the row's end. So a free step is kept with the embedded steps that follow it directly.
-use Prim.Native.Nat.{ℕ, ◌+◌, ◌-◌, ◌≤◌, ◌<◌}
-use mathlib.Core.Bool.{Bool, true, false, ◌&&◌, not}
+-- embedded, or at the row's end. What the rows of a load keep in this way is what the cut keeps.
+use Prim.Native.Nat.{ℕ, ◌+◌, ◌-◌, ◌≤◌, ◌<◌, min}
+use mathlib.Core.Bool.{Bool, true, false, cond, not}
 use mathlib.Core.Path.{◌≡◌, ap, sym, ◌∙◌}
-use native.Mathlib.Decide.{ℕ_discrete, dec_lt}
+use native.Mathlib.Numerals.{add-one}
 use native.Mathlib.Omega.{arith}
-use borrow.Author.Tests.{lt-ltb, le-ltb, ltb-true, not-true, not-false}
-use lib.Dec.{ltb}
-use Rattle.counting.specs.Lists.{is_marked}
+use Rattle.counting.specs.Sums.{sum_to}
 use Rattle.counting.specs.Searches.{first_to}
-use Rattle.counting.proofs.tests.TestLaws.{and_left, and_right}
-use Rattle.counting.proofs.lists.ListLaws.{get_or-filled, get_or-unfilled}
+use Rattle.counting.proofs.sums.SumLaws.{sum_to-add}
 use Rattle.counting.proofs.searches.FirstToLaws.{first_to-unique, first_to-first}
 use Rattle.load.specs.declared.Row.{Row}
-use Rattle.load.specs.Load.{most_steps}
-use Rattle.load.specs.View.{row_windows, embedded_among}
-use Rattle.bound.specs.inner.Places.{free_in}
-use Rattle.bound.specs.inner.CutTerms.{kept_from, frees_of}
+use Rattle.load.specs.declared.Load.{Load}
+use Rattle.load.specs.Load.{row_at, step_at}
+use Rattle.load.specs.View.{view_of, embedded, row_windows, embedded_among}
+use Rattle.rules.specs.Cut.{kept}
+use Rattle.rules.proofs.cut.CutBound.{kept_costs, kept_waits}
+use Rattle.bound.specs.inner.CutTerms.{kept_from, kept_of, wait_in, ticks_of}
 
 -- a search over places stops at j
 pub record Stops (row : Row) (first j : ℕ) : Type 0 where
@@ -43,70 +42,28 @@ kept_from-is row first j h =
           (first_to-first (λ d. not (embedded_among (first + d) (row_windows row))) n),
     )
 
--- where a row's search stops
-pub kept_from-stops : (row : Row) (first : ℕ) → first ≤ row.steps → Stops row first (kept_from row first)
+pub kept_of-le : (row : Row) (m : ℕ) → kept_of row m ≤ row.steps
 unfolding kept_from
-kept_from-stops row first h =
-    let n : ℕ = row.steps - first in
-    let test : ℕ → Bool = λ d. not (embedded_among (first + d) (row_windows row)) in
-    let found = first_to-first test n in
-    record {
-      from = omega arith;
-      most = omega (arith, found.most);
-      before = λ k from l.
-          let e : first + (k - first) ≡ k = omega arith in
-          ap (λ k. embedded_among k (row_windows row)) (sym e)
-          ∙ not-false _ (found.before (k - first) (omega arith));
-      stop = λ l. not-true _ (found.has (omega arith));
-    }
+kept_of-le row m =
+    let first : ℕ = min m row.steps in
+    omega (
+      arith,
+      (first_to-first (λ d. not (embedded_among (first + d) (row_windows row))) (row.steps - first)).most,
+    )
 
--- the marks of a row's free steps say which are free
-pub is_marked-free : (row : Row) (k : ℕ) → row.steps ≤ most_steps → k < most_steps
-    → is_marked (frees_of row) k ≡ free_in row k
-is_marked-free row k few l =
-    elim (dec_lt k row.steps) [
-      | yes h ↦ get_or-filled (free_in row) row.steps most_steps k false false h
-      | no h ↦
-          get_or-unfilled (free_in row) row.steps most_steps k false false (omega arith) l
-          ∙ sym (ap (λ b. b && not (embedded_among k (row_windows row))) (le-ltb k row.steps (omega arith)))
-    ]
+pub le-kept_of : (row : Row) (m : ℕ) → min m row.steps ≤ kept_of row m
+unfolding kept_from
+le-kept_of row m = omega arith
 
-module _ (row : Row) (k : ℕ) where
-  pub free-there : free_in row k ≡ true → k < row.steps
-  free-there e =
-      ltb-true k row.steps (and_left (ltb k row.steps) (not (embedded_among k (row_windows row))) e)
+-- the wait after step j, by whether the next step is embedded
+pub wait_in-by : (row : Row) (j : ℕ) (b : Bool) → embedded_among (j + 1) (row_windows row) ≡ b
+    → wait_in row j ≡ cond b (step_at row j).wait 0
+wait_in-by row j b e =
+    ap (λ t. cond t (step_at row j).wait 0) (ap (λ k. embedded_among k (row_windows row)) (sym (add-one j)) ∙ e)
 
-  pub free-outside : free_in row k ≡ true → embedded_among k (row_windows row) ≡ false
-  free-outside e =
-      not-true _ (and_right (ltb k row.steps) (not (embedded_among k (row_windows row))) e)
-
-  pub unfree-inside : k < row.steps → free_in row k ≡ false → embedded_among k (row_windows row) ≡ true
-  unfree-inside l e =
-      not-false _ (sym (ap (λ b. b && not (embedded_among k (row_windows row))) (lt-ltb k row.steps l)) ∙ e)
-
-module _ (row : Row) (m : ℕ) where
-  -- a step that is free, or past the last, is where the search from it stops
-  pub kept_from-here : m ≤ row.steps → (m < row.steps → embedded_among m (row_windows row) ≡ false)
-      → kept_from row m ≡ m
-  kept_from-here h stop =
-      sym
-      (kept_from-is row m m
-      (record { from = omega arith; most = h; before = λ k from l. absurd (omega arith); stop = stop }))
-
-  -- an embedded step is passed over
-  pub kept_from-past : m < row.steps → embedded_among m (row_windows row) ≡ true
-      → kept_from row m ≡ kept_from row (m + 1)
-  kept_from-past h e =
-      let next = kept_from-stops row (m + 1) (omega arith) in
-      sym
-      (kept_from-is row m (kept_from row (m + 1))
-      (record {
-        from = omega (arith, next.from);
-        most = next.most;
-        before = λ k from l.
-            elim (ℕ_discrete k m) [
-              | yes q ↦ ap (λ k. embedded_among k (row_windows row)) q ∙ e
-              | no q ↦ next.before k (omega arith) l
-            ];
-        stop = next.stop;
-      }))
+pub kept_ticks-is : (load : Load) (m : ℕ)
+    → sum_to (λ i. ticks_of (row_at load i) m) load.rows ≡ kept_costs (view_of load) m + kept_waits (view_of load) m
+unfolding kept kept_from view_of embedded
+kept_ticks-is load m =
+    sum_to-add (λ i. sum_to (λ j. (step_at (row_at load i) j).cost) (kept_of (row_at load i) m))
+    (λ i. sum_to (wait_in (row_at load i)) (kept_of (row_at load i) m - 1)) load.rows

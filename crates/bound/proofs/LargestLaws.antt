@@ -12,7 +12,7 @@ use Rattle.counting.proofs.sums.MaxLaws.{max_to-none}
 use Rattle.counting.proofs.searches.LargestLaws.{first_largest-none, first_largest-next, first_largest-ext}
 use Rattle.rules.specs.declared.LargestW.{LargestW}
 use Rattle.rules.specs.Blame.{none_left}
-use Rattle.bound.specs.inner.Places.{largest_to}
+use Rattle.bound.specs.inner.Marks.{largest_to}
 
 -- one W and its row
 abbrev both : ℕ → ℕ → LargestW
@@ -42,7 +42,7 @@ largest_to-next f n =
           (sym (first_largest-next f n ∙ rw (le-ltb (max_to f n) (f n) (omega arith)))))
     ]
 
--- a turn of a loop that keeps the largest so far
+-- a turn of a loop that keeps the largest so far: with one number more, and with one that is 0
 module _ (f : ℕ → ℕ) (n : ℕ) (most : LargestW) (held : most ≡ largest_to f n) where
   pub largest_to-turn : (left : ℕ) (r : LargestW) → left ≡ f n
       → r ≡ cond (ltb most.left left) (both left (n + 1)) most → r ≡ largest_to f (n + 1)
@@ -50,3 +50,6 @@ module _ (f : ℕ → ℕ) (n : ℕ) (most : LargestW) (held : most ≡ largest_
       kept
       ∙ ap₂ (λ (m : LargestW) v. cond (ltb m.left v) (both v (n + 1)) m) held e
       ∙ largest_to-next f n
+
+  pub largest_to-skips : f n ≡ 0 → most ≡ largest_to f (n + 1)
+  largest_to-skips e = held ∙ sym (rw (le-ltb (max_to f n) (f n) (omega arith))) ∙ largest_to-next f n

@@ -1,11 +1,10 @@
 -- All margins, place by place: at a row's place stands the row's margin. So their signs give the verdict.
 use Prim.Native.Nat.{ℕ, ◌≤◌, ◌<◌}
 use mathlib.Core.Bool.{not, cond}
-use mathlib.Core.List.{List}
-use mathlib.Core.Path.{◌≡◌, ap, ap₂, ◌∙◌}
+use mathlib.Core.Path.{◌≡◌, ap, ◌∙◌}
 use native.Mathlib.Omega.{arith}
 use borrow.Author.Tests.{lt-ltb}
-use lib.IntN.{ℤ, pos}
+use lib.IntN.{pos}
 use Rattle.counting.specs.Sums.{all_to}
 use Rattle.counting.proofs.tests.TestLaws.{all_to-ext}
 use Rattle.counting.proofs.lists.ListLaws.{get_or-list_to}
@@ -18,20 +17,11 @@ module _ (L : View) where
   unfolding margins
   margin_in-at i l = get_or-list_to (margin_at L) most_rows i (pos 0) l
 
-  -- at the place of a row that is there
-  pub margin-read : L.rows ≤ most_rows → (i : ℕ) → i < L.rows → margin_in (margins L) i ≡ margin L i
-  margin-read few i l =
-      margin_in-at i (omega arith) ∙ ap (λ t. cond t (margin L i) (pos 0)) (lt-ltb i L.rows l)
-
-  verdict-read : L.rows ≤ most_rows
+  pub verdict-read : L.rows ≤ most_rows
       → all_to (λ i. not (is_negative (margin_in (margins L) i))) L.rows ≡ verdict L
   unfolding verdict
   verdict-read few =
       all_to-ext (λ i. not (is_negative (margin_in (margins L) i))) (λ i. not (is_negative (margin L i))) L.rows
-      (λ i l. ap (λ z. not (is_negative z)) (margin-read few i l))
-
-  -- out of a list that holds them, and a number of rows that is the load's
-  pub verdict-from : L.rows ≤ most_rows → (zs : List ℤ) (n : ℕ) → zs ≡ margins L → n ≡ L.rows
-      → all_to (λ i. not (is_negative (margin_in zs i))) n ≡ verdict L
-  verdict-from few zs n e m =
-      ap₂ (λ zs n. all_to (λ i. not (is_negative (margin_in zs i))) n) e m ∙ verdict-read few
+      (λ i l.
+      ap (λ z. not (is_negative z))
+      (margin_in-at i (omega arith) ∙ ap (λ t. cond t (margin L i) (pos 0)) (lt-ltb i L.rows l)))

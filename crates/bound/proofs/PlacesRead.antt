@@ -12,7 +12,7 @@ use Rattle.load.specs.View.{View}
 use Rattle.load.specs.Acceptable.{Acceptable}
 use Rattle.rules.specs.declared.LargestW.{LargestW}
 use Rattle.rules.specs.declared.Blame.{Blame}
-use Rattle.rules.specs.Bound.{largest_w, most_places, smaller_costs}
+use Rattle.rules.specs.Bound.{largest_w, most_places, smallest_costs}
 use Rattle.rules.specs.Blame.{none_left, largest_at, blame_among, place_waits, row_blame}
 use Rattle.rules.proofs.bound.BlameLaws.{blame_among-larger, blame_among-smaller, blame_among-ext}
 use Rattle.rules.proofs.cut.CutBlame.{blame-of-cut}
@@ -52,14 +52,14 @@ module _
     )
 
 module _ (L : View) where
-  place_in-is : (j : ℕ) → j < most_places → place_in (place_waits L) j ≡ largest_at smaller_costs L j
+  place_in-is : (j : ℕ) → j < most_places → place_in (place_waits L) j ≡ largest_at smallest_costs L j
   unfolding place_waits
-  place_in-is j l = get_or-list_to (largest_at smaller_costs L) most_places j none_left l
+  place_in-is j l = get_or-list_to (largest_at smallest_costs L) most_places j none_left l
 
   -- the load's W's, added
-  pub waits_below-is : (k : ℕ) → k < most_steps → waits_below (place_waits L) k ≡ sum_to (largest_w smaller_costs L) k
+  pub waits_below-is : (k : ℕ) → k < most_steps → waits_below (place_waits L) k ≡ sum_to (largest_w smallest_costs L) k
   waits_below-is k h =
-      sum_to-ext (λ j. (place_in (place_waits L) j).left) (largest_w smaller_costs L) k
+      sum_to-ext (λ j. (place_in (place_waits L) j).left) (largest_w smallest_costs L) k
       (λ j l. ap (λ (w : LargestW). w.left) (place_in-is j (omega arith)))
 
   -- a row's blame is that of the places between its steps
@@ -67,6 +67,6 @@ module _ (L : View) where
       → blame_among (place_in (place_waits L)) (L.steps i - 1) ≡ row_blame L i
   unfolding row_blame
   row_blame-is ok i l =
-      blame_among-ext (place_in (place_waits L)) (largest_at smaller_costs L) (L.steps i - 1)
+      blame_among-ext (place_in (place_waits L)) (largest_at smallest_costs L) (L.steps i - 1)
       (λ j b. place_in-is j (omega (arith, ok.steps-most i l)))
       ∙ sym (blame-of-cut L (L.steps i) (accepted-within L ok) (ok.steps-most i l))

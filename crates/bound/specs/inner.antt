@@ -1,3 +1,3 @@
 -- What the parts of the code give, for private functions alone: nothing here needs to be believed.
-pub mod Places
+pub mod Marks
 pub mod CutTerms

@@ -9,7 +9,7 @@ ghost use Rattle.bound.specs.Calls.{AnswersOf};
 
 use crate::Answered;
 use crate::blames::{blames_by, cut_blames};
-use crate::bounds::cut_bounds;
+use crate::bounds::{cut_bounds, waits_below};
 use crate::margins::{margins_by, none_negative};
 use crate::waits::place_waits;
 use load::{Load, MOST_ROWS, MOST_STEPS, check_load};
@@ -30,7 +30,8 @@ pub fn load_answers(load: Load, rows: usize, places: [LargestW; MOST_PLACES]) ->
       blames = blames (view_of load);
     } }
 {
-    let bounds = cut_bounds(load, places);
+    let waits = waits_below(places);
+    let bounds = cut_bounds(load, &waits);
     let margins = margins_by(load, &bounds);
     let blames = blames_by(load, cut_blames(places));
     Answered {

@@ -8,12 +8,12 @@ ghost use Rattle.load.specs.Acceptable.{Acceptable};
 ghost use Rattle.rules.specs.Blame.{place_waits};
 ghost use Rattle.bound.specs.inner.CutTerms.{waits_below, bound_at};
 
-use crate::cut::{all_ticks, largest_phase};
+use crate::cut::{kept_ticks, largest_phase};
 use load::{Load, MOST_STEPS};
 use rules::{LargestW, MOST_PLACES};
 
 // Gives for each place the sum of the largest W's of the places below it.
-fn waits_below(places: [LargestW; MOST_PLACES]) -> [u32; MOST_STEPS]
+pub fn waits_below(places: [LargestW; MOST_PLACES]) -> [u32; MOST_STEPS]
     ensures { result ≡ list_to (waits_below places) most_steps }
 {
     let mut sums = [0u32; MOST_STEPS];
@@ -26,20 +26,17 @@ fn waits_below(places: [LargestW; MOST_PLACES]) -> [u32; MOST_STEPS]
     sums
 }
 
-// Gives the bounds of the load cut at 1 to 8 steps. Cut at k + 1 it is the largest phase, the costs
-// and embedded waits that come with the first k + 1 steps, and the largest W's of the places
-// between them.
-pub fn cut_bounds(load: Load, places: [LargestW; MOST_PLACES]) -> [u32; MOST_STEPS]
-    requires { Acceptable (view_of load) × (places ≡ place_waits (view_of load)) }
+// Gives the bounds of the load cut at 1 to 8 steps. Cut at k + 1 it is the kept costs and embedded
+// waits, the largest phase, and the largest W's of the places between the first k + 1 steps.
+pub fn cut_bounds(load: Load, waits: &[u32; MOST_STEPS]) -> [u32; MOST_STEPS]
+    requires { Acceptable (view_of load)
+        × (waits.now ≡ list_to (waits_below (place_waits (view_of load))) most_steps) }
     ensures { result ≡ list_to (bound_at (view_of load)) most_steps }
 {
-    let waits = waits_below(places);
-    let ticks = all_ticks(load);
-    let mut sum = largest_phase(load);
+    let phase = largest_phase(load);
     let mut bounds = [0u32; MOST_STEPS];
     for k in 0..MOST_STEPS {
-        sum += ticks[k];
-        bounds[k] = sum + waits[k];
+        bounds[k] = kept_ticks(load, k + 1) + phase + waits[k];
     }
     bounds
 }

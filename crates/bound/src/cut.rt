@@ -1,80 +1,94 @@
 // What rows keep when a load is cut at m: their first m steps, or all, and then the embedded steps
-// that follow directly; with the waits between kept steps, but not the one after the last. So a
-// free step is kept with the embedded steps that follow it, or not at all: their ticks are added up
-// by the free step, once a load, and a cut takes those of the first m.
-ghost use Rattle.std.specs.Prelude.{◌≡◌, ℕ, ◌+◌, ◌≤◌, ◌<◌};
-ghost use Rattle.counting.specs.Lists.{list_to, member_at};
-ghost use Rattle.load.specs.Load.{most_steps};
+// that follow directly; with the waits between kept steps, but not the one after the last.
+ghost use Rattle.std.specs.Prelude.{◌≡◌, ◌+◌, ◌≤◌, min};
+ghost use Rattle.counting.specs.Sums.{sum_to};
+ghost use Rattle.load.specs.Load.{most_steps, step_at};
 ghost use Rattle.load.specs.View.{view_of};
 ghost use Rattle.load.specs.Acceptable.{Acceptable};
 ghost use Rattle.rules.specs.Bound.{largest_phase};
-ghost use Rattle.rules.proofs.bound.BoundLaws.{largest_bound};
-ghost use Rattle.bound.specs.inner.CutTerms.{ticks_from, ticks_with, frees_of};
+ghost use Rattle.rules.proofs.cut.CutBound.{kept_costs, kept_waits};
+ghost use Rattle.bound.specs.inner.CutTerms.{kept_of, wait_in, ticks_of};
 
-use load::{Load, MOST_STEPS, Row, embedded_at};
+use load::{Load, Row, embedded_at, step_at};
 
-// Marks the steps of a row that are free.
-fn frees_of(row: Row) -> [bool; MOST_STEPS]
-    requires { row.steps ≤ most_steps }
-    ensures { result ≡ frees_of row }
+// Gives the smaller of two numbers.
+fn smaller(a: usize, b: usize) -> usize
+    ensures { result ≡ min a b }
 {
-    let steps = row.steps as usize;
-    let mut frees = [false; MOST_STEPS];
-    for j in 0..steps {
-        frees[j] = !embedded_at(row, j);
-    }
-    frees
+    if a < b { a } else { b }
 }
 
-// Adds the costs of a free step and of the embedded steps that follow it directly, and the waits
-// between them; gives 0 where the step is embedded or not there.
-fn ticks_from(row: Row, frees: &[bool; MOST_STEPS], first: usize) -> u32
-    requires { (row.steps ≤ most_steps) × (frees.now ≡ frees_of row) × (first < most_steps) }
-    ensures { result ≡ ticks_from row first }
+// Gives how many steps a row keeps when the load is cut at m.
+fn kept_of(row: Row, m: usize) -> usize
+    ensures { result ≡ kept_of row m }
 {
-    if !frees[first] {
-        return 0;
-    }
     let steps = row.steps as usize;
-    let step = row.step[first];
-    let mut sum = step.cost as u32;
-    for j in first + 1..steps {
-        if frees[j] {
-            return sum;
+    let first = smaller(m, steps);
+    for j in first..steps {
+        if !embedded_at(row, j) {
+            return j;
         }
-        let before = row.step[j - 1];
-        let next = row.step[j];
-        sum += before.wait as u32 + next.cost as u32;
+    }
+    steps
+}
+
+// Adds the costs of a row's first n steps.
+fn costs_to(row: Row, n: usize) -> u32
+    requires { n ≤ most_steps }
+    ensures { (result ≡ sum_to (λ j. (step_at row j).cost) n) × (result ≤ 524280) }
+{
+    let mut sum: u32 = 0;
+    for j in 0..n {
+        let step = step_at(row, j);
+        sum += step.cost as u32;
     }
     sum
 }
 
-// Adds a row's ticks to those of other rows, by the free step that they come with.
-fn with_ticks(row: Row, ticks: [u32; MOST_STEPS]) -> [u32; MOST_STEPS]
-    requires { (row.steps ≤ most_steps)
-        × ((k : ℕ) → k < most_steps → member_at ticks k + ticks_from row k ≤ largest_bound) }
-    ensures { result ≡ list_to (λ k. member_at ticks k + ticks_from row k) most_steps }
+// Gives the wait after a row's step where it is embedded, and 0 where it is free.
+fn embedded_wait(row: Row, j: usize) -> u32
+    requires { j ≤ most_steps }
+    ensures { (result ≡ wait_in row j) × (result ≤ 65535) }
 {
-    let frees = frees_of(row);
-    let mut sums = [0u32; MOST_STEPS];
-    for k in 0..MOST_STEPS {
-        sums[k] = ticks[k] + ticks_from(row, &frees, k);
+    if embedded_at(row, j + 1) {
+        let step = step_at(row, j);
+        return step.wait as u32;
     }
-    sums
+    0
 }
 
-// Adds the ticks of all rows, by the free step that they come with.
-pub fn all_ticks(load: Load) -> [u32; MOST_STEPS]
-    requires { Acceptable (view_of load) }
-    ensures { result ≡ list_to (ticks_with load load.rows) most_steps }
+// Adds the embedded waits after a row's first n steps.
+fn waits_to(row: Row, n: usize) -> u32
+    requires { n ≤ most_steps }
+    ensures { (result ≡ sum_to (wait_in row) n) × (result ≤ 524280) }
+{
+    let mut sum: u32 = 0;
+    for j in 0..n {
+        sum += embedded_wait(row, j);
+    }
+    sum
+}
+
+// Adds the costs that a row keeps when the load is cut at m, and the embedded waits between them.
+fn row_ticks(row: Row, m: usize) -> u32
+    requires { (1 ≤ m) × (1 ≤ row.steps) × (row.steps ≤ most_steps) }
+    ensures { (result ≡ ticks_of row m) × (result ≤ 1048560) }
+{
+    let kept = kept_of(row, m);
+    costs_to(row, kept) + waits_to(row, kept - 1)
+}
+
+// Adds all costs that are kept when the load is cut at m, and all embedded waits.
+pub fn kept_ticks(load: Load, m: usize) -> u32
+    requires { Acceptable (view_of load) × (1 ≤ m) }
+    ensures { result ≡ kept_costs (view_of load) m + kept_waits (view_of load) m }
 {
     let rows = load.rows as usize;
-    let mut ticks = [0u32; MOST_STEPS];
+    let mut sum: u32 = 0;
     for i in 0..rows {
-        let more = with_ticks(load.row[i], ticks);
-        ticks = more;
+        sum += row_ticks(load.row[i], m);
     }
-    ticks
+    sum
 }
 
 // Gives the largest phase; 0 where there is no row.

@@ -1,15 +1,15 @@
 // The bound of a load, its margins, its verdict, whom its rows blame, and the largest W of each
-// place. A call takes a load in memory and checks it once, or a load file and reads it; a refusal
-// comes with bound 0, margins that are all 0, the verdict no, and blames and W's that are all 0 and
-// 0. One look at an accepted load gives all of them.
+// place. Each call takes a load in memory and checks it once; a refusal comes with bound 0, margins
+// that are all 0, the verdict no, and blames and W's that are all 0 and 0. One look at an accepted
+// load gives all of them.
 mod answers;
 mod blames;
 mod bounds;
 mod bytes;
 mod cut;
-mod files;
 mod margins;
 mod places;
+mod smallest;
 mod waits;
 
 ghost use Rattle.bound.specs.Calls.{PlaceWaitsOf, BoundOf, MarginsOf, VerdictOf, BlamesOf};
@@ -17,7 +17,6 @@ ghost use Rattle.bound.specs.Calls.{PlaceWaitsOf, BoundOf, MarginsOf, VerdictOf,
 pub use answers::answers_of;
 use answers::load_answers;
 pub use bytes::margin_bytes;
-pub use files::{bound_in, margins_in, verdict_in};
 use load::{Load, MOST_ROWS, check_load};
 use refusals::Checked;
 use rules::{Blame, LargestW, MOST_PLACES};

@@ -1,21 +1,11 @@
-// What the rows of a load have at a place: the smaller of two costs, which each gives to the others
-// while they wait, and its own wait. Each is an array of its own, so that the loops above copy no
-// load and look at no row's windows again.
-ghost use Rattle.std.specs.Prelude.{◌≡◌, ◌≤◌, ◌<◌, min};
+// What is read at a place of a load: a row's wait, and which rows are free there. Those are marked
+// in an array, so that the loops above look at no row's windows again.
+ghost use Rattle.std.specs.Prelude.{false, ◌&&◌, ◌≡◌, ◌+◌, ◌≤◌, ◌<◌};
 ghost use Rattle.counting.specs.Lists.{filled};
-ghost use Rattle.load.specs.Load.{most_rows, row_at};
-ghost use Rattle.rules.specs.Bound.{most_places};
-ghost use Rattle.bound.specs.inner.Places.{free_in, given_in, free_wait_in};
+ghost use Rattle.load.specs.Load.{most_rows, most_steps, row_at};
+ghost use Rattle.bound.specs.inner.Marks.{wait_at, free_in, frees_at};
 
-use load::{Load, MOST_ROWS, Row, embedded_at};
-
-// What each row gives at a place, and its wait there: both 0 where the row has no next step, or
-// that is embedded.
-#[derive(Drop)]
-pub struct Place {
-    pub gives: [u16; MOST_ROWS],
-    pub waits: [u16; MOST_ROWS],
-}
+use load::{Load, MOST_ROWS, Row, embedded_at, step_at};
 
 // Says whether a row has a step at a place and that step is free.
 fn free_in(row: Row, j: usize) -> bool
@@ -27,31 +17,49 @@ fn free_in(row: Row, j: usize) -> bool
     false
 }
 
-// Gives the smaller of two costs.
-fn smaller(a: u16, b: u16) -> u16
-    ensures { result ≡ min a b }
+// Says whether a row has a step at a place and one after it, and both are free.
+fn paired_in(row: Row, j: usize) -> bool
+    requires { j < most_steps }
+    ensures { result ≡ (free_in row j && free_in row (j + 1)) }
 {
-    if a < b { a } else { b }
+    if free_in(row, j) {
+        return free_in(row, j + 1);
+    }
+    false
 }
 
-// Gives what the rows of a load with so many have at a place.
-pub fn place_of(load: Load, rows: usize, j: usize) -> Place
-    requires { (rows ≤ most_rows) × (j < most_places) }
-    ensures { result ≡ record {
-      gives = filled (λ i. given_in (row_at load i) j) rows most_rows 0;
-      waits = filled (λ i. free_wait_in (row_at load i) j) rows most_rows 0;
-    } }
+// Gives the wait after a row's step at a place.
+pub fn wait_at(load: Load, i: usize, j: usize) -> u16
+    requires { i < most_rows }
+    ensures { result ≡ wait_at load j i }
 {
-    let mut gives = [0u16; MOST_ROWS];
-    let mut waits = [0u16; MOST_ROWS];
+    let step = step_at(load.row[i], j);
+    step.wait
+}
+
+// Marks the rows whose step at a place is there and free.
+pub fn frees_at(load: Load, j: usize) -> [bool; MOST_ROWS]
+    requires { load.rows ≤ most_rows }
+    ensures { result ≡ frees_at load j }
+{
+    let rows = load.rows as usize;
+    let mut frees = [false; MOST_ROWS];
     for i in 0..rows {
-        let row = load.row[i];
-        if free_in(row, j + 1) {
-            let here = row.step[j];
-            let next = row.step[j + 1];
-            gives[i] = smaller(here.cost, next.cost);
-            waits[i] = here.wait;
-        }
+        frees[i] = free_in(load.row[i], j);
     }
-    Place { gives, waits }
+    frees
+}
+
+// Marks the rows whose steps at a place and at the next are both there and free.
+pub fn pairs_at(load: Load, j: usize) -> [bool; MOST_ROWS]
+    requires { (load.rows ≤ most_rows) × (j < most_steps) }
+    ensures { result ≡ filled (λ i. free_in (row_at load i) j && free_in (row_at load i) (j + 1))
+        load.rows most_rows false }
+{
+    let rows = load.rows as usize;
+    let mut pairs = [false; MOST_ROWS];
+    for i in 0..rows {
+        pairs[i] = paired_in(load.row[i], j);
+    }
+    pairs
 }

@@ -1,35 +1,50 @@
-// W: what is left of a free wait once the smaller of each other row's two costs is taken off, and
-// the largest of it at a place, with its row. What all rows give at a place is added up once, and
-// each row's own is taken off that.
-ghost use Rattle.std.specs.Prelude.{◌≡◌, ◌-◌, ◌≤◌};
-ghost use Rattle.counting.specs.Sums.{sum_to};
-ghost use Rattle.counting.specs.Lists.{member_at};
+// W: what is left of a free wait once the r smallest of the other rows' 2r costs are taken off, and
+// the largest of it at a place, with its row.
+ghost use Rattle.std.specs.Prelude.{cond, ◌≡◌, ◌+◌, ◌-◌, ◌≤◌, ◌<◌, ltb};
+ghost use Rattle.counting.specs.Sums.{any_to};
+ghost use Rattle.counting.specs.Lists.{is_marked};
+ghost use Rattle.counting.proofs.sorting.PairLaws.{pairs_smallest};
 ghost use Rattle.load.specs.Load.{most_rows};
 ghost use Rattle.load.specs.View.{view_of};
 ghost use Rattle.load.specs.Acceptable.{Acceptable};
 ghost use Rattle.rules.specs.Blame.{place_waits};
-ghost use Rattle.bound.specs.inner.Places.{left_in, largest_to};
+ghost use Rattle.bound.specs.inner.Marks.{
+  cost_at,
+  wait_at,
+  is_other,
+  Costed,
+  left_in,
+  largest_to,
+};
 
-use crate::places::place_of;
+use crate::places::{frees_at, pairs_at, wait_at};
+use crate::smallest::smallest_sum;
 use load::{Load, MOST_ROWS};
 use rules::{LargestW, MOST_PLACES};
 
-// Adds what the first n rows give.
-fn all_given(n: usize, gives: [u16; MOST_ROWS]) -> u32
-    requires { n ≤ most_rows }
-    ensures { result ≡ sum_to (member_at gives) n }
+// Gives the larger of a W found before and one more, with its row: the one before where they are
+// equal.
+fn larger(most: LargestW, left: u16, row: u8) -> LargestW
+    ensures { result ≡ cond (ltb most.left left) (record { left = left; row = row }) most }
 {
-    let mut sum: u32 = 0;
-    for i in 0..n {
-        sum += gives[i] as u32;
+    if most.left < left {
+        LargestW { left, row }
+    } else {
+        most
     }
-    sum
 }
 
-// Gives what is left of a wait once what the others give is taken off, or 0.
-fn left_of(wait: u16, given: u32) -> u16
-    ensures { result ≡ wait - given }
+// Gives what is left of row i's wait at a place: the wait less the r smallest of the 2r costs of
+// the other rows that are paired, or 0.
+fn wait_left(load: Load, n: usize, j: usize, pairs: [bool; MOST_ROWS], i: usize) -> u16
+    requires { Costed load n j pairs × (i < n) }
+    ensures { result ≡ wait_at load j i - pairs_smallest
+        (cost_at load j) (cost_at load (j + 1)) (is_other pairs i) n }
 {
+    let wait = wait_at(load, i, j);
+    let mut others = pairs;
+    others[i] = false;
+    let given = smallest_sum(load, n, j, &others);
     if given < wait as u32 {
         wait - given as u16
     } else {
@@ -37,40 +52,58 @@ fn left_of(wait: u16, given: u32) -> u16
     }
 }
 
-// Gives the largest of what is left of the waits of the first n rows at a place, with its row, the
-// lowest where several are equal; 0 and 0 where nothing is left.
-fn largest_left(n: usize, gives: [u16; MOST_ROWS], waits: [u16; MOST_ROWS]) -> LargestW
-    requires { n ≤ most_rows }
-    ensures { result ≡ largest_to (left_in gives waits n) n }
+// Gives the largest of what is left of the free waits of the first n rows at a place, with its row;
+// 0 and 0 where nothing is left.
+fn largest_left(
+    load: Load,
+    n: usize,
+    j: usize,
+    pairs: [bool; MOST_ROWS],
+    frees: &[bool; MOST_ROWS],
+) -> LargestW
+    requires { Costed load n j pairs }
+    ensures { result ≡ largest_to (left_in
+        (λ i. pairs_smallest (cost_at load j) (cost_at load (j + 1)) (is_other pairs i) n)
+        (wait_at load j) frees.now) n }
 {
-    let all = all_given(n, gives);
-    let mut most: u16 = 0;
-    let mut worst: u8 = 0;
+    let mut most = LargestW { left: 0, row: 0 };
     for i in 0..n {
-        let left = left_of(waits[i], all - gives[i] as u32);
-        if most < left {
-            most = left;
-            worst = i as u8 + 1;
+        if frees[i] {
+            let left = wait_left(load, n, j, pairs, i);
+            most = larger(most, left, i as u8 + 1);
         }
     }
-    LargestW {
-        left: most,
-        row: worst,
+    most
+}
+
+// Says whether one of the first n rows is marked.
+fn any_marked(n: usize, marks: &[bool; MOST_ROWS]) -> bool
+    requires { n ≤ most_rows }
+    ensures { result ≡ any_to (is_marked marks.now) n }
+{
+    for i in 0..n {
+        if marks[i] {
+            return true;
+        }
     }
+    false
 }
 
 // Gives the largest W of each place of an accepted load with so many rows; 0 and 0 where no row has
-// a free wait there, or nothing is left of any.
+// a free wait there.
 pub fn place_waits(load: Load, rows: usize) -> [LargestW; MOST_PLACES]
     requires { Acceptable (view_of load) × (rows ≡ load.rows) }
     ensures { result ≡ place_waits (view_of load) }
 {
     let mut places = [LargestW { left: 0, row: 0 }; MOST_PLACES];
     for j in 0..MOST_PLACES {
-        let place = place_of(load, rows, j);
-        let gives = place.gives;
-        let waits = place.waits;
-        places[j] = largest_left(rows, gives, waits);
+        let mut most = LargestW { left: 0, row: 0 };
+        let frees = frees_at(load, j + 1);
+        if any_marked(rows, &frees) {
+            let pairs = pairs_at(load, j);
+            most = largest_left(load, rows, j, pairs, &frees);
+        }
+        places[j] = most;
     }
     places
 }

@@ -5,3 +5,5 @@ pub mod KeyLaws
 pub mod KeysLaws
 pub mod InsertLaws
 pub mod SmallestLaws
+pub mod ThresholdLaws
+pub mod PairLaws

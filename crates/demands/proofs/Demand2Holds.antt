@@ -25,8 +25,6 @@ use Rattle.demands.proofs.moves.MovesHeld.{next-same}
 use Rattle.demands.proofs.demand2.FilesHold.{file-good, file-answers}
 use Rattle.demands.proofs.demand2.HostHolds.{host-answers}
 use Rattle.demands.proofs.demand2.SheetHolds.{sheet-good, sheet-answers}
-use Rattle.demands.proofs.demand2.AskedHolds.{asked-of-files}
-use Rattle.demands.proofs.demand2.TighterHolds.{tighter-answers}
 use Rattle.demands.proofs.demand2.TwinsHold.{twins-answered}
 
 -- a load that is accepted, in memory or as what a file or a sheet reads to, has its facts
@@ -48,8 +46,6 @@ demand2 =
       margins-are = MarginsOf-good;
       margins-written = λ load r e g bytes h. h ∙ ap bytes_of_margins (MarginsOf-good load r e g);
       verdicts = VerdictOf-good;
-      asked-of-files = asked-of-files;
-      tighter = tighter-answers;
       place-waits = PlaceWaitsOf-good;
       blames-are = BlamesOf-good;
       blames-margins = BlamesOf-margins;

@@ -13,9 +13,6 @@ use Rattle.bound.specs.Calls.{
   BoundOf,
   MarginsOf,
   VerdictOf,
-  BoundIn,
-  MarginsIn,
-  VerdictIn,
   BlamesOf,
   PlaceWaitsOf,
   MarginBytes,
@@ -29,9 +26,6 @@ pub record EveryBoundCall {ℓ} (Claim : (A : Type 0) → (A → Type 0) → Typ
   pub bound_of : (load : Load) → Claim Bounded (BoundOf load)
   pub margins-of : (load : Load) → Claim Margined (MarginsOf load)
   pub verdict-of : (load : Load) → Claim Judged (VerdictOf load)
-  pub bound-in : (bs : List ℕ) → Claim Bounded (BoundIn bs)
-  pub margins-in : (bs : List ℕ) → Claim Margined (MarginsIn bs)
-  pub verdict-in : (bs : List ℕ) → Claim Judged (VerdictIn bs)
   pub blames-of : (load : Load) → Claim Blamed (BlamesOf load)
   pub place-waits-of : (load : Load) → Claim PlaceWaits (PlaceWaitsOf load)
   pub margin-bytes : (margins : List ℤ) → Claim (List ℕ) (MarginBytes margins)

@@ -1,7 +1,7 @@
 -- Demand 2: "An accepted file reads to exactly one load, that load is written back to the same
 -- bytes, and a written load reads back as itself. The bound, the margins and every move equal
 -- document 01's definitions. The schedule check says yes exactly when document 01's rules hold."
--- Over any results that meet the calls' relations. Rests on D49, D84, D93 and D95.
+-- Over any results that meet the calls' relations. Rests on D49, D84 and D93.
 use Rattle.std.specs.Prelude.{ℕ, List, ◌↔◌, ◌≡◌}
 use Rattle.refusals.specs.declared.Checked.{Checked}
 use Rattle.refusals.specs.declared.Checked.TheVariants.{Good}
@@ -39,8 +39,6 @@ use Rattle.demands.specs.FileAnswers.{FileAnswers}
 use Rattle.demands.specs.HostAnswers.{HostAnswers}
 use Rattle.demands.specs.SheetAnswers.{SheetAnswers}
 use Rattle.demands.specs.NoFactory.{NoFactory}
-use Rattle.demands.specs.AskedOfFiles.{AskedOfFiles}
-use Rattle.demands.specs.TighterAnswers.{TighterAnswers}
 use Rattle.demands.specs.Twins.{Twins}
 
 -- what a call hands back is what a move of the rules does
@@ -66,7 +64,7 @@ pub record Demand2 : Type 0 where
   pub sheets : SheetAnswers
   -- and nothing that is accepted has the factory identifier (2026-04)
   pub no-factory : NoFactory
-  -- the bound equals document 01's definition, with the W of 2026-06
+  -- the bound equals document 01's definition
   pub bounds : (load : Load) (r : Bounded) → BoundOf load r → r.answer ≡ Good
       → r.bound ≡ bound (view_of load)
   -- the margins do, and their 96 bytes
@@ -77,10 +75,6 @@ pub record Demand2 : Type 0 where
   -- the verdict does
   pub verdicts : (load : Load) (r : Judged) → VerdictOf load r → r.answer ≡ Good
       → r.verdict ≡ verdict (view_of load)
-  -- asked of a file, they are those of the load that is read
-  pub asked-of-files : AskedOfFiles
-  -- no bound is above what it was before 2026-06, no margin below, and a yes stays a yes
-  pub tighter : TighterAnswers
   -- the largest W of each place and its row equal document 02's (2026-01), nothing cut
   pub place-waits : (load : Load) (r : PlaceWaits) → PlaceWaitsOf load r → r.answer ≡ Good
       → r.places ≡ place_waits (view_of load)

@@ -20,8 +20,6 @@ pub mod FileAnswers
 pub mod HostAnswers
 pub mod SheetAnswers
 pub mod NoFactory
-pub mod AskedOfFiles
-pub mod TighterAnswers
 pub mod Twins
 pub mod Demand2
 pub mod Demand3

@@ -22,7 +22,6 @@ use Rattle.bound.specs.declared.Judged.{Judged}
 use Rattle.bound.specs.declared.Blamed.{Blamed}
 use Rattle.bound.specs.declared.PlaceWaits.{PlaceWaits}
 use Rattle.bound.specs.Calls.{AnswersOf, BoundOf, MarginsOf, VerdictOf, BlamesOf, PlaceWaitsOf}
-use Rattle.bound.specs.Calls.{BoundIn, MarginsIn, VerdictIn}
 use Rattle.schedule.specs.Calls.{CheckSchedule, CheckArray}
 use Rattle.schedule_file.specs.Calls.{CheckRoom, WriteSchedule, WriteArray}
 use Rattle.bench.specs.declared.Bench.{Bench}
@@ -77,13 +76,6 @@ pub record Numbers : Type 0 where
       → OneOf of_load (number_given r.answer)
   pub blames-of : (load : Load) (r : Blamed) → BlamesOf load r
       → OneOf of_load (number_given r.answer)
-  -- bound, margins and verdict of a file
-  pub bound-in : (bs : List ℕ) (r : Bounded) → BoundIn bs r
-      → OneOf of_file (number_given r.answer)
-  pub margins-in : (bs : List ℕ) (r : Margined) → MarginsIn bs r
-      → OneOf of_file (number_given r.answer)
-  pub verdict-in : (bs : List ℕ) (r : Judged) → VerdictIn bs r
-      → OneOf of_file (number_given r.answer)
   -- a schedule that is checked, and one that is written, its room by itself too
   pub check-schedule : (load : Load) (slots : List Slot) (r : Checked) → CheckSchedule load slots r
       → OneOf of_schedule (number_given r)

@@ -18,7 +18,6 @@ use Rattle.bound.specs.declared.Judged.{Judged}
 use Rattle.bound.specs.declared.Blamed.{Blamed}
 use Rattle.bound.specs.declared.PlaceWaits.{PlaceWaits}
 use Rattle.bound.specs.Calls.{AnswersOf, BoundOf, MarginsOf, VerdictOf, BlamesOf, PlaceWaitsOf}
-use Rattle.bound.specs.Calls.{BoundIn, MarginsIn, VerdictIn}
 use Rattle.bench.specs.declared.Ran.{Ran}
 use Rattle.bench.specs.Calls.{Runs}
 
@@ -64,12 +63,6 @@ pub record ReturnedAlone : Type 0 where
   pub no-margins : (load : Load) (r : Margined) (refusal : Refusal) → MarginsOf load r
       → r.answer ≡ Refused refusal → r.margins ≡ replicate most_rows (pos 0)
   pub no-verdict : (load : Load) (r : Judged) (refusal : Refusal) → VerdictOf load r
-      → r.answer ≡ Refused refusal → r.verdict ≡ false
-  pub no-bound-in : (bs : List ℕ) (r : Bounded) (refusal : Refusal) → BoundIn bs r
-      → r.answer ≡ Refused refusal → r.bound ≡ 0
-  pub no-margins-in : (bs : List ℕ) (r : Margined) (refusal : Refusal) → MarginsIn bs r
-      → r.answer ≡ Refused refusal → r.margins ≡ replicate most_rows (pos 0)
-  pub no-verdict-in : (bs : List ℕ) (r : Judged) (refusal : Refusal) → VerdictIn bs r
       → r.answer ≡ Refused refusal → r.verdict ≡ false
   pub no-blames : (load : Load) (r : Blamed) (refusal : Refusal) → BlamesOf load r
       → r.answer ≡ Refused refusal → r ≡ no_blames_but refusal

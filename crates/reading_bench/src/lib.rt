@@ -6,7 +6,8 @@ ghost use Rattle.reading_bench.specs.Calls.{Numbered, BenchBound, BenchVerdict};
 ghost use Rattle.reading_bench.specs.Calls.{BenchMargins, BenchSchedule};
 
 use bench::write_run;
-use bound::{bound_in, margin_bytes, margins_in, verdict_in};
+use bound::{bound_of, margin_bytes, margins_of, verdict_of};
+use load_file::read_load;
 use refusals::{Checked, Refusal, number_given, number_of};
 use words::{bytes32, overwrite};
 
@@ -28,10 +29,13 @@ fn give(answer: &[u8], out: &mut [u8]) -> u32
 pub extern "C" fn bench_bound(load: &[u8], out: &mut [u8]) -> u32
     ensures { BenchBound load.now out.old result out.new }
 {
-    let told = bound_in(load);
-    let found = told.answer;
+    let read = read_load(load);
+    let found = read.answer;
     match found {
-        Checked::Good => give(&bytes32(told.bound), out),
+        Checked::Good => {
+            let bounded = bound_of(read.load);
+            give(&bytes32(bounded.bound), out)
+        }
         Checked::Refused(refusal) => number_of(refusal),
     }
 }
@@ -41,10 +45,13 @@ pub extern "C" fn bench_bound(load: &[u8], out: &mut [u8]) -> u32
 pub extern "C" fn bench_verdict(load: &[u8], out: &mut [u8]) -> u32
     ensures { BenchVerdict load.now out.old result out.new }
 {
-    let told = verdict_in(load);
-    let found = told.answer;
+    let read = read_load(load);
+    let found = read.answer;
     match found {
-        Checked::Good => give(&[told.verdict as u8], out),
+        Checked::Good => {
+            let judged = verdict_of(read.load);
+            give(&[judged.verdict as u8], out)
+        }
         Checked::Refused(refusal) => number_of(refusal),
     }
 }
@@ -54,11 +61,12 @@ pub extern "C" fn bench_verdict(load: &[u8], out: &mut [u8]) -> u32
 pub extern "C" fn bench_margins(load: &[u8], out: &mut [u8]) -> u32
     ensures { BenchMargins load.now out.old result out.new }
 {
-    let told = margins_in(load);
-    let found = told.answer;
+    let read = read_load(load);
+    let found = read.answer;
     match found {
         Checked::Good => {
-            let margins = told.margins;
+            let margined = margins_of(read.load);
+            let margins = margined.margins;
             give(&margin_bytes(margins), out)
         }
         Checked::Refused(refusal) => number_of(refusal),

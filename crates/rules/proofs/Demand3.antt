@@ -16,13 +16,13 @@ use Rattle.load.specs.Check.{check_load}
 use Rattle.load.specs.Acceptable.{Acceptable}
 use Rattle.load.proofs.AcceptableLaws.{check-acceptable}
 use Rattle.rules.specs.Cut.{cut}
-use Rattle.rules.specs.Bound.{smaller_costs, bound}
 use Rattle.rules.specs.Margins.{row_bound, margin, is_negative, verdict}
 use Rattle.rules.specs.State.{fresh}
 use Rattle.rules.specs.Run.{state_after, schedule}
 use Rattle.rules.specs.Slots.{slot_at, row_of, slot_end}
 use Rattle.rules.specs.Check.{check_schedule}
 use Rattle.rules.specs.Demand3.{Demand3}
+use Rattle.rules.proofs.bound.TightBound.{minima, tight_bound, tight_bound-le}
 use Rattle.rules.proofs.invariant.Runnable.{Runnable}
 use Rattle.rules.proofs.invariant.RunnableLaws.{acceptable-runnable}
 use Rattle.rules.proofs.invariant.Setting.{Charging, Setting}
@@ -55,18 +55,18 @@ verdict-true L e i l =
     (not-true (is_negative (margin L i)) (all_to-true (λ k. not (is_negative (margin L k))) L.rows e i l))
 
 module _ (L : View) (g : Runnable L) where
-  abbrev full : Setting L L.cost smaller_costs worked_since
+  abbrev full : Setting L L.cost minima worked_since
   full = full_setting L g
 
-  cuts : (m : ℕ) → 1 ≤ m → Charging (cut L m) L.cost smaller_costs worked_since
+  cuts : (m : ℕ) → 1 ≤ m → Charging (cut L m) L.cost minima worked_since
   unfolding cut
   cuts m h = (full_setting (cut L m) (runnable-of-cut L m g h)).charging
 
   -- a finished row has ended by its row bound
   row_ends : (i t : ℕ) → i < L.rows → L.steps i ≤ (state_after L t fresh).finished i
       → (state_after L t fresh).end i ≤ row_bound L i
-  unfolding row_bound bound
-  row_ends i t l h = row-in-bound L full cuts i l t h
+  unfolding row_bound
+  row_ends i t l h = omega (arith, row-in-bound L full cuts i l t h, tight_bound-le (cut L (L.steps i)))
 
   w : Whole L (schedule L)
   w = schedule-is-whole L g
@@ -83,7 +83,7 @@ module _ (L : View) (g : Runnable L) where
       omega (
         arith,
         last-ends L g k i l li (slot_is L x mine).its-row e,
-        row_ends i (bound L) li (omega (arith, finished-all L g (bound L) (omega arith) i li)),
+        row_ends i (tight_bound L) li (omega (arith, finished-all L g (tight_bound L) (omega arith) i li)),
       )
 
   in-time : verdict L ≡ true → (k : ℕ) → k < length (schedule L)
@@ -98,16 +98,15 @@ module _ (L : View) (g : Runnable L) where
       )
 
   pub runnable-demand3 : Demand3 L
-  unfolding bound
   runnable-demand3 =
       record {
-        moves = bound L;
-        moves-few = omega (arith, bound_by-fits smaller_costs L g);
-        done = run-done L full (bound L) (omega arith);
+        moves = tight_bound L;
+        moves-few = omega (arith, bound_by-fits minima L g);
+        done = run-done L full (tight_bound L) (omega arith);
         all-starts = schedule-whole L full;
-        made = schedule-whole L full (bound L) (omega arith) ∙ starts-joined L full (bound L);
+        made = schedule-whole L full (tight_bound L) (omega arith) ∙ starts-joined L full (tight_bound L);
         numbers = run-number L full;
-        in-bound = run-clock L full;
+        in-bound = λ n. omega (arith, run-clock L full n, tight_bound-le L);
         last-end = schedule-ends L g;
         rules = rules-hold L (schedule L) w g.first-last;
         rows = rows_end;

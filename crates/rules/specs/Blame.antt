@@ -1,6 +1,6 @@
 -- "See which wait holds the rack up" (document 02, 2026-01): "The largest W at a place shall come
 -- with its row", "for each row the place and row with the largest W of its cut load". Rows and
--- places count from 1. By the W of 2026-06. To be read after Margins. Rests on D84.
+-- places count from 1. To be read after Margins. Rests on D84.
 use Rattle.std.specs.Prelude.{ℕ, ◌-◌, cond, List, eqb, ltb}
 use Rattle.counting.specs.Lists.{list_to}
 use Rattle.counting.specs.Searches.{first_largest}
@@ -9,7 +9,7 @@ use Rattle.load.specs.View.{View}
 use Rattle.rules.specs.declared.LargestW.{LargestW}
 use Rattle.rules.specs.declared.Blame.{Blame}
 use Rattle.rules.specs.Cut.{cut}
-use Rattle.rules.specs.Bound.{wait_left, largest_w, most_places, smaller_costs}
+use Rattle.rules.specs.Bound.{wait_left, largest_w, most_places, smallest_costs}
 
 -- no W, and nobody's
 abbrev pub none_left : LargestW
@@ -44,11 +44,11 @@ blame_among places n =
 
 -- the largest W of each place, nothing cut
 unfoldable pub place_waits : View → List LargestW
-place_waits L = list_to (largest_at smaller_costs L) most_places
+place_waits L = list_to (largest_at smallest_costs L) most_places
 
 -- whom row i's bound is blamed on: the place and row with the largest W of its cut load
 unfoldable pub row_blame : View → ℕ → Blame
-row_blame L i = blame_among (largest_at smaller_costs (cut L (L.steps i))) most_places
+row_blame L i = blame_among (largest_at smallest_costs (cut L (L.steps i))) most_places
 
 -- that of a row at a place of the list: rows not there blame nobody
 abbrev pub blame_at : View → ℕ → Blame

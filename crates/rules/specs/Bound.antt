@@ -1,9 +1,10 @@
 -- "The bound and the margins", the four terms. What the other rows give while a wait lasts is a
--- parameter: "every other row whose step j+1 exists and is free, and for each the smaller of its
--- costs at j and j+1" (document 02, 2026-06). To be read after Cut. Rests on D17 to D20, D35 and
--- D95.
-use Rattle.std.specs.Prelude.{ℕ, suc, ◌+◌, ◌-◌, min, Bool, cond, ◌&&◌, not, eqb}
+-- parameter: here it is the r smallest of their 2r costs. To be read after Cut. Rests on D17 to
+-- D20 and D35.
+use Rattle.std.specs.Prelude.{ℕ, suc, ◌+◌, ◌-◌, Bool, cond, ◌&&◌, not, List, [], ◌∷◌, eqb, leb, length, take}
 use Rattle.counting.specs.Sums.{sum_to, max_to}
+use Rattle.counting.specs.Lists.{join_in, numbers_where, sum_in}
+use Rattle.counting.specs.Sorting.{sorted}
 use Rattle.load.specs.Load.{most_steps}
 use Rattle.load.specs.View.{View, is_free, free_wait, embedded_wait}
 
@@ -41,18 +42,22 @@ unfoldable pub bound_by : (View → ℕ → ℕ → ℕ) → View → ℕ
 bound_by gives L =
     all_costs L + largest_phase L + all_embedded_waits L + sum_to (largest_w gives L) most_places
 
--- another row k "whose step j+1 exists and is free"; its step j may be embedded
-abbrev pub gives_to : View → ℕ → ℕ → ℕ → Bool
-gives_to L j i k = not (eqb k i) && is_free L k (suc j)
+-- another row k whose steps j and j + 1 both exist and are free
+abbrev pub is_partner : View → ℕ → ℕ → ℕ → Bool
+is_partner L j i k = not (eqb k i) && is_free L k j && is_free L k (suc j)
 
--- "the smaller of its costs at j and j+1"
-abbrev pub smaller_cost : View → ℕ → ℕ → ℕ
-smaller_cost L j k = min (L.cost k j) (L.cost k (suc j))
+-- the r other rows whose steps j and j + 1 both exist and are free
+unfoldable pub partners : View → ℕ → ℕ → List ℕ
+partners L j i = numbers_where (is_partner L j i) L.rows
 
--- "and add those": what every other row gives (2026-06)
-unfoldable pub smaller_costs : View → ℕ → ℕ → ℕ
-smaller_costs L j i = sum_to (λ k. cond (gives_to L j i k) (smaller_cost L j k) 0) L.rows
+-- the 2r costs that they give
+unfoldable pub pair_costs : View → ℕ → ℕ → List ℕ
+pair_costs L j i = join_in (λ k. L.cost k j ∷ L.cost k (suc j) ∷ []) (partners L j i)
 
--- the bound of a load, with the W of 2026-06
+-- the sum of the r smallest
+unfoldable pub smallest_costs : View → ℕ → ℕ → ℕ
+smallest_costs L j i = sum_in (take (length (partners L j i)) (sorted leb (pair_costs L j i)))
+
+-- the bound of a load
 unfoldable pub bound : View → ℕ
-bound L = bound_by smaller_costs L
+bound L = bound_by smallest_costs L

@@ -1,6 +1,5 @@
 -- Demand 3: what is promised of the run of every load that is not refused, started fresh, each step
--- at full cost. Bound and margins are those of 2026-06. To be read after Run, Check, ScheduleRules
--- and Margins.
+-- at full cost. To be read after Run, Check, ScheduleRules and Margins.
 use Rattle.std.specs.Prelude.{ℕ, ◌≤◌, ◌<◌, true, ◌≡◌, length}
 use Rattle.counting.specs.Lists.{join_to}
 use Rattle.refusals.specs.declared.Refusal.TheVariants.{RowLate}

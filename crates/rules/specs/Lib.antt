@@ -4,8 +4,6 @@ pub mod SameLoads
 pub mod Cut
 pub mod Bound
 pub mod Margins
-pub mod EarlierBound
-pub mod Tighter
 pub mod Blame
 pub mod State
 pub mod Shape
@@ -22,7 +20,6 @@ pub mod ScheduleRules
 pub mod FirstBroken
 pub mod Demand3
 pub mod WorkedBound
-pub mod WorkedEarlier
 pub mod WorkedBlame
 pub mod WorkedStates
 pub mod WorkedReady

@@ -1,6 +1,5 @@
--- "The bound and the margins": row bounds, margins, the verdict, and the margins' 96 bytes. Each is
--- said over what it goes by, so that it can be said of an earlier bound too. To be read after
--- Bound. Rests on D20.
+-- "The bound and the margins": row bounds, margins, the verdict, and the margins' 96 bytes. To be
+-- read after Bound. Rests on D20.
 use Rattle.std.specs.Prelude.{ℕ, Bool, true, false, cond, not, List, ltb, ℤ, pos, negsuc, ◌-ℤ◌, get_or}
 use Rattle.counting.specs.Sums.{all_to}
 use Rattle.counting.specs.Lists.{join_to, list_to}
@@ -11,34 +10,22 @@ use Rattle.load.specs.View.{View}
 use Rattle.rules.specs.Cut.{cut}
 use Rattle.rules.specs.Bound.{bound}
 
--- a row's bound, by the bounds of loads: that of the load cut at its number of steps
-abbrev pub row_bound_by : (View → ℕ) → View → ℕ → ℕ
-row_bound_by by L i = by (cut L (L.steps i))
-
--- by the bound of 2026-06
+-- a row's bound: that of the load cut at its number of steps
 unfoldable pub row_bound : View → ℕ → ℕ
-row_bound L i = row_bound_by bound L i
+row_bound L i = bound (cut L (L.steps i))
 
--- a row's margin, by the row bounds: its deadline less its row bound
-abbrev pub margin_by : (View → ℕ → ℕ) → View → ℕ → ℤ
-margin_by by L i = pos (L.deadline i) -ℤ pos (by L i)
-
--- by the row bounds above
+-- a row's margin: its deadline less its row bound
 unfoldable pub margin : View → ℕ → ℤ
-margin L i = margin_by row_bound L i
+margin L i = pos (L.deadline i) -ℤ pos (row_bound L i)
 
 -- a whole number is negative
 abbrev pub is_negative : ℤ → Bool
 is_negative (pos n) = false
 is_negative (negsuc n) = true
 
--- the verdict, by the margins: "yes when no margin is negative"
-abbrev pub verdict_by : (View → ℕ → ℤ) → View → Bool
-verdict_by by L = all_to (λ i. not (is_negative (by L i))) L.rows
-
--- by the margins above
+-- yes when no margin is negative
 unfoldable pub verdict : View → Bool
-verdict L = verdict_by margin L
+verdict L = all_to (λ i. not (is_negative (margin L i))) L.rows
 
 -- the margin at a place: those of rows not there are 0
 abbrev pub margin_at : View → ℕ → ℤ

@@ -59,15 +59,7 @@ pub record WorkedBlame : Type 0 where
   pub no_place :
       Holds (row 1 (1 w 0 ∷ []) [] ∷ row 2 (2 w 6 ∷ 2 w 0 ∷ []) [] ∷ []) (6 of 2 ∷ [])
       (nobody ∷ 1 by 2 ∷ [])
-  -- "or the largest W is 0": waits that two other rows fill. They give 5 + 2, 3 + 2 and 3 + 5; by
-  -- the two smallest costs 1 would be left of row 1's wait (2026-06)
-  pub each-gives :
-      Holds
-      (row 1 (3 w 5 ∷ 4 w 0 ∷ []) []
-      ∷ row 2 (5 w 2 ∷ 5 w 0 ∷ []) []
-      ∷ row 3 (2 w 3 ∷ 2 w 0 ∷ []) []
-      ∷ []) [] []
-  -- waits that the other row's steps fill
+  -- "or the largest W is 0": waits that the other row's steps fill
   pub all-filled : Holds (row 1 (5 w 3 ∷ 5 w 0 ∷ []) [] ∷ row 2 (6 w 4 ∷ 6 w 0 ∷ []) [] ∷ []) [] []
   -- "where no row has a free wait there": load B, whose waits are embedded
   pub none_free :

@@ -1,6 +1,6 @@
--- "The bound and the margins", with the W of 2026-06: worked cases. The answers come from documents
--- 01 and 02 by hand and from the second program; on each the nearest wrong rule gives another. To
--- be read after Margins; loads are written as in load's Notation.
+-- "The bound and the margins": worked cases. The answers come from document 01 by hand and from the
+-- second program; on each the nearest wrong rule gives another. To be read after Margins; loads are
+-- written as in load's Notation.
 use Rattle.std.specs.Prelude.{ℕ, true, false, List, [], ◌∷◌, map, ◌≡◌, ℤ, pos, negsuc}
 use Rattle.counting.specs.Lists.{list_to}
 use Rattle.load.specs.declared.Row.{Row}
@@ -23,43 +23,34 @@ bound_of rows = bound (rows_seen rows)
 abbrev pub row_bounds_of : List Row → List ℕ
 row_bounds_of rows = list_to (row_bound (rows_seen rows)) (rows_seen rows).rows
 
--- two rows that wait, and two that give costs which differ
-abbrev pub unlike_costs : List Row
-unlike_costs =
-    row 1 (1 w 9 ∷ 1 w 0 ∷ []) []
-    ∷ row 2 (1 w 8 ∷ 1 w 0 ∷ []) []
-    ∷ row 3 (2 w 0 ∷ 6 w 0 ∷ []) []
-    ∷ row 4 (6 w 0 ∷ 2 w 0 ∷ []) []
-    ∷ []
-
--- a row that waits beside one of a single step, and one that gives
-abbrev pub beside_one_step : List Row
-beside_one_step =
-    row 1 (1 w 9 ∷ 1 w 0 ∷ []) [] ∷ row 2 (2 w 0 ∷ []) [] ∷ row 3 (5 w 0 ∷ 4 w 0 ∷ []) [] ∷ []
-
--- a row that waits beside one whose second step is embedded
-abbrev pub beside_a_window : List Row
-beside_a_window =
-    row 1 (1 w 9 ∷ 1 w 0 ∷ []) [] ∷ row 2 (2 w 0 ∷ 2 w 0 ∷ []) (window 1 2 4 ∷ []) ∷ []
-
 -- the bound
 pub record WorkedBound : Type 0 where
-  -- "for each the smaller of its costs at j and j+1", 1 + 2 + 2, be it the first or the second, and
-  -- not the three smallest of the six, 1 + 1 + 2
-  pub smaller-of-each : bound_of unlike_costs ≡ 24
-  -- "whose step j+1 exists": row 2 gives nothing, and not its one cost; row 3 gives 4, the smaller.
-  -- Cut at 1, the load has no wait
-  pub next-exists : row_bounds_of beside_one_step ≡ 18 ∷ 8 ∷ 18 ∷ []
+  -- "add the r smallest" of the 2r costs, 1 + 1 + 2, and not the smaller of each pair, 1 + 2 + 2
+  pub r-smallest :
+      bound_of
+      (row 1 (1 w 9 ∷ 1 w 0 ∷ []) []
+      ∷ row 2 (1 w 8 ∷ 1 w 0 ∷ []) []
+      ∷ row 3 (2 w 0 ∷ 6 w 0 ∷ []) []
+      ∷ row 4 (6 w 0 ∷ 2 w 0 ∷ []) []
+      ∷ []) ≡ 25
+  -- "whose steps j and j+1 both exist": row 2 gives nothing, so that r is 1 and the sum 4, the
+  -- smallest and not the first; and it has no step more, where the load is cut at 2
+  pub both-exist :
+      row_bounds_of
+      (row 1 (1 w 9 ∷ 1 w 0 ∷ []) [] ∷ row 2 (2 w 0 ∷ []) [] ∷ row 3 (5 w 0 ∷ 4 w 0 ∷ []) [] ∷ [])
+      ≡ 18 ∷ 8 ∷ 18 ∷ []
   -- "the other rows": the row itself gives nothing
   pub other-rows : bound_of (row 1 (3 w 9 ∷ 1 w 0 ∷ []) [] ∷ []) ≡ 13
-  -- step j is not asked to be free: row 2 gives 2 at place 2, where its step 2 is embedded
-  pub first-embedded :
+  -- "and are free": row 2 gives nothing at place 2, whose first step is embedded
+  pub first-free :
       bound_of
       (row 1 (1 w 0 ∷ 1 w 9 ∷ 1 w 0 ∷ []) []
       ∷ row 2 (2 w 0 ∷ 2 w 0 ∷ 3 w 0 ∷ []) (window 1 2 4 ∷ [])
-      ∷ []) ≡ 17
-  -- "and is free": row 2 gives nothing at place 1, where its step 2 is embedded
-  pub next-free : bound_of beside_a_window ≡ 15
+      ∷ []) ≡ 19
+  -- "and are free": row 2 gives nothing at place 1, whose second step is embedded
+  pub second-free :
+      bound_of (row 1 (1 w 9 ∷ 1 w 0 ∷ []) [] ∷ row 2 (2 w 0 ∷ 2 w 0 ∷ []) (window 1 2 4 ∷ []) ∷ [])
+      ≡ 15
   -- "rows i whose wait after step j is free": it is, though step j is embedded
   pub wait-free : bound_of (row 1 (1 w 0 ∷ 1 w 5 ∷ 1 w 0 ∷ []) (window 1 2 2 ∷ []) ∷ []) ≡ 8
   -- "the largest W", 7 and not 7 + 6; "or 0 if that is negative": 2 less 3 at place 2

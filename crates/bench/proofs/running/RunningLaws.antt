@@ -25,7 +25,7 @@ use Rattle.rules.specs.State.{State, fresh, shaped}
 use Rattle.rules.specs.Slots.{no_slot, slot_places, slot_at}
 use Rattle.rules.specs.Move.{all_finished, chosen}
 use Rattle.rules.specs.Run.{starts, enough_moves, schedule_by, schedule}
-use Rattle.rules.specs.Bound.{smaller_costs}
+use Rattle.rules.proofs.bound.TightBound.{minima}
 use Rattle.rules.proofs.invariant.RunnableLaws.{acceptable-runnable}
 use Rattle.rules.proofs.invariant.WorkedSince.{worked_since}
 use Rattle.rules.proofs.invariant.Setting.{Setting}
@@ -56,7 +56,7 @@ pub record Running (load : Load) (board : Board) (clock count : ℕ) : Type 0 wh
   pub held : HeldBench bench
   pub clock-is : bench.clock ≡ clock
   pub shows : Shows load bench board
-  pub kept : Accounted smaller_costs worked_since (view_of load) (state_of bench)
+  pub kept : Accounted minima worked_since (view_of load) (state_of bench)
   -- the moves that are left, more than the clock can go on
   pub moves : ℕ
   pub moves-most : last_moment < clock + moves
@@ -69,11 +69,11 @@ module _ (load : Load) (accepted : check_load load ≡ Good) (most : load.rows �
   abbrev L : View
   L = view_of load
 
-  full : Setting L L.cost smaller_costs worked_since
+  full : Setting L L.cost minima worked_since
   full = full_setting L (acceptable-runnable L (check-acceptable load accepted))
 
-  fresh_kept : Accounted smaller_costs worked_since L fresh
-  fresh_kept = fresh-accounted smaller_costs worked_since L full.runnable
+  fresh_kept : Accounted minima worked_since L fresh
+  fresh_kept = fresh-accounted minima worked_since L full.runnable
 
   pub fresh-shaped : shaped L (state_of (bench_of fresh)) ≡ true
   fresh-shaped = rw fresh-state (accounted-shaped L fresh full fresh_kept)
@@ -96,7 +96,7 @@ module _ (load : Load) (accepted : check_load load ≡ Good) (most : load.rows �
         held = bench_of-held fresh;
         clock-is = refl;
         shows = subst (λ (b : Bench). Shows load b board) begun shows;
-        kept = subst (Accounted smaller_costs worked_since L) (sym fresh-state) fresh_kept;
+        kept = subst (Accounted minima worked_since L) (sym fresh-state) fresh_kept;
         moves = enough_moves;
         moves-most = omega arith;
         before = [];

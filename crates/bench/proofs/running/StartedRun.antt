@@ -20,7 +20,7 @@ use Rattle.rules.specs.State.{State}
 use Rattle.rules.specs.Slots.{no_slot, slot_at}
 use Rattle.rules.specs.Move.{all_finished, chosen, next_slot, started_full}
 use Rattle.rules.specs.Run.{starts, schedule}
-use Rattle.rules.specs.Bound.{smaller_costs}
+use Rattle.rules.proofs.bound.TightBound.{minima}
 use Rattle.rules.proofs.invariant.RunnableLaws.{acceptable-runnable}
 use Rattle.rules.proofs.invariant.WorkedSince.{worked_since}
 use Rattle.rules.proofs.invariant.Setting.{Setting}
@@ -70,7 +70,7 @@ module _ (load : Load) (accepted : check_load load ≡ Good) (most : load.rows �
   abbrev s : State
   s = state_of r.bench
 
-  full : Setting L L.cost smaller_costs worked_since
+  full : Setting L L.cost minima worked_since
   full = full_setting L (acceptable-runnable L (check-acceptable load accepted))
 
   asked : finished_in board load.rows ≡ all_finished L s
@@ -180,7 +180,7 @@ module _ (load : Load) (accepted : check_load load ≡ Good) (most : load.rows �
               done.renewed)
               (omega (arith, early, r.clock-is));
           kept =
-              subst (Accounted smaller_costs worked_since L) (sym state)
+              subst (Accounted minima worked_since L) (sym state)
               (chosen-accounted L full s r.kept (sym asked ∙ nd) i chosen_is);
           moves = r.moves - 1;
           moves-most = omega (arith, r.moves-most, cost-least, done.end_is);

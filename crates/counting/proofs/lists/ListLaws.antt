@@ -97,17 +97,6 @@ module _ {A : Type 0} where
       → set l n v ≡ filled f (n + 1) last z
   filled-stored f n last z v l e q h = ap₂ (λ l v. set l n v) e q ∙ set-filled f n last z h
 
-  -- a place that holds its value already is filled without a store
-  pub filled-skipped : (f : ℕ → A) (n last : ℕ) (z : A) (l : List A) → l ≡ filled f n last z → f n ≡ z → n < last
-      → l ≡ filled f (n + 1) last z
-  filled-skipped f n last z l e q h =
-      let k : last - n ≡ suc (last - (n + 1)) = omega arith in
-      e
-      ∙ ap (λ k. list_to f n ++ replicate k z) k
-      ∙ ap (λ a. list_to f n ++ (a ∷ replicate (last - (n + 1)) z)) (sym q)
-      ∙ sym (append_assoc (list_to f n) (f n ∷ []) (replicate (last - (n + 1)) z))
-      ∙ ap (λ l. l ++ replicate (last - (n + 1)) z) (sym (list_to-next f n))
-
   -- an array that is filled to the last place
   pub filled-all : (f : ℕ → A) (n : ℕ) (z : A) → filled f n n z ≡ list_to f n
   filled-all f n z =

@@ -1,16 +1,18 @@
--- The numbers below n that have p: a sum over them is a sum over the numbers below n. And a sum of which one term is
--- not 0.
+-- The numbers below n that have p, as a list and sorted: each is there once and nothing else is, there are as many as
+-- are counted, and a sum over them is a sum over the numbers below n.
 use Prim.Native.Nat.{ℕ, zero, suc, ◌+◌, ◌<◌}
 use mathlib.Core.Bool.{Bool, true, false, cond}
 use mathlib.Core.List.{[], ◌∷◌}
-use mathlib.Core.Path.{◌≡◌, refl, ap, ◌∙◌}
+use mathlib.Core.Path.{◌≡◌, refl, sym, ap, ◌∙◌}
 use native.Mathlib.Decide.{ℕ_discrete, dec_lt}
 use native.Mathlib.Omega.{arith}
 use borrow.Author.Tests.{lt-ltb, le-ltb}
 use lib.Dec.{ltb}
-use Rattle.counting.specs.Sums.{sum_to}
+use lib.ListN.{length}
+use Rattle.counting.specs.Sums.{sum_to, bit, count_to}
 use Rattle.counting.specs.Lists.{join_to, numbers_where}
-use Rattle.counting.proofs.sorting.SortLaws.{total_in, total_in-append}
+use Rattle.counting.proofs.sums.SumLaws.{sum_to-ext}
+use Rattle.counting.proofs.sorting.SortLaws.{total_in, total_in-append, total_in-length}
 
 -- a sum over the numbers below n that have p
 pub total_in-numbers_where : (f : ℕ → ℕ) (p : ℕ → Bool) (n : ℕ)
@@ -44,3 +46,13 @@ sum_to-only f (suc n) i h = step (sum_to-only f n i (λ k l. h k (omega arith)))
                     (omega (arith, h n (omega arith) e))
               ]
         ]
+
+pub numbers_where-length : (p : ℕ → Bool) (n : ℕ) → length (numbers_where p n) ≡ count_to p n
+numbers_where-length p n =
+    sym (total_in-length (numbers_where p n))
+    ∙ total_in-numbers_where (λ k. 1) p n
+    ∙ sum_to-ext (λ k. cond (p k) 1 0) (λ k. bit (p k)) n (λ k l. one (p k))
+  where
+    one : (b : Bool) → cond b 1 0 ≡ bit b
+    one true = refl
+    one false = refl

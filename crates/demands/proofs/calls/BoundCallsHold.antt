@@ -6,9 +6,6 @@ use Rattle.bound.proofs.CallLaws.{
   BoundOf-unique,
   MarginsOf-unique,
   VerdictOf-unique,
-  BoundIn-unique,
-  MarginsIn-unique,
-  VerdictIn-unique,
   BlamesOf-unique,
   PlaceWaitsOf-unique,
   MarginBytes-unique,
@@ -27,9 +24,6 @@ bound-relations =
       bound_of = λ load. listed;
       margins-of = λ load. listed;
       verdict-of = λ load. listed;
-      bound-in = λ bs. listed;
-      margins-in = λ bs. listed;
-      verdict-in = λ bs. listed;
       blames-of = λ load. listed;
       place-waits-of = λ load. listed;
       margin-bytes = λ margins. listed;
@@ -42,9 +36,6 @@ bound-contracts =
       bound_of = refl;
       margins-of = refl;
       verdict-of = refl;
-      bound-in = refl;
-      margins-in = refl;
-      verdict-in = refl;
       blames-of = refl;
       place-waits-of = refl;
       margin-bytes = refl;
@@ -57,9 +48,6 @@ bound-same =
       bound_of = BoundOf-unique;
       margins-of = MarginsOf-unique;
       verdict-of = VerdictOf-unique;
-      bound-in = BoundIn-unique;
-      margins-in = MarginsIn-unique;
-      verdict-in = VerdictIn-unique;
       blames-of = BlamesOf-unique;
       place-waits-of = PlaceWaitsOf-unique;
       margin-bytes = MarginBytes-unique;
@@ -72,9 +60,6 @@ bound-answers =
       bound_of = λ load. is _;
       margins-of = λ load. is _;
       verdict-of = λ load. is _;
-      bound-in = λ bs. is _;
-      margins-in = λ bs. is _;
-      verdict-in = λ bs. is _;
       blames-of = λ load. is _;
       place-waits-of = λ load. is _;
       margin-bytes = λ margins. is _;

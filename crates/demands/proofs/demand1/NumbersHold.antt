@@ -1,17 +1,10 @@
 -- Every call refuses with no other numbers than those named: each relation is an equation or a finding, and those were
 -- looked through test by test.
-use Prim.Native.Nat.{ℕ}
-use mathlib.Core.Bool.{true}
-use mathlib.Core.List.{List}
-use mathlib.Core.Path.{◌≡◌}
-use Rattle.load_file.specs.Reading.{file_fault, read_load}
 use Rattle.rules.specs.Margins.{margin_bytes}
 use Rattle.schedule.specs.Calls.{first_slots}
 use Rattle.reading_bench.specs.Calls.{bound_bytes, verdict_bytes, schedule_file}
 use Rattle.lines.specs.Lines.{printed, printed_blamed}
-use Rattle.demands.specs.NumberLists.{of_file}
 use Rattle.demands.specs.Numbers.{Numbers}
-use Rattle.demands.proofs.demand1.NumberLaws.{gives}
 use Rattle.demands.proofs.demand1.CallNumbers.{
   load_gives,
   plain-gives,
@@ -35,11 +28,6 @@ use Rattle.demands.proofs.demand1.WritingCalls.{
   out-gives,
 }
 
--- what a file is refused for
-fault-gives : (bs : List ℕ) → gives of_file (file_fault bs) ≡ true
-unfolding read_load
-fault-gives bs = (file-gives bs).passes
-
 pub numbers : Numbers
 numbers =
     record {
@@ -60,9 +48,6 @@ numbers =
       margins-of = λ load r e. rw e (load_gives load).passes;
       verdict-of = λ load r e. rw e (load_gives load).passes;
       blames-of = λ load r e. rw e (load_gives load).passes;
-      bound-in = λ bs r e. rw e (fault-gives bs);
-      margins-in = λ bs r e. rw e (fault-gives bs);
-      verdict-in = λ bs r e. rw e (fault-gives bs);
       check-schedule = λ load slots r e. rw e (schedule-gives load slots).passes;
       check-array = λ load slots n r e. rw e (schedule-gives load (first_slots slots n)).passes;
       check-room = λ n room r e. rw e (room-gives n room).passes;

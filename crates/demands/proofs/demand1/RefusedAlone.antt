@@ -7,12 +7,10 @@ use mathlib.Core.Path.{◌≡◌, ap, sym, ◌∙◌}
 use lib.IntN.{pos}
 use lib.ListN.{length, replicate}
 use Rattle.refusals.specs.declared.Refusal.{Refusal}
-use Rattle.refusals.specs.declared.Checked.{Checked}
 use Rattle.refusals.specs.declared.Checked.TheVariants.{Refused}
 use Rattle.refusals.proofs.GivenLaws.{if_good-refused}
 use Rattle.load.specs.declared.Load.{Load}
 use Rattle.load.specs.Load.{most_rows, zero_load}
-use Rattle.load.specs.View.{View, view_of}
 use Rattle.load.specs.Check.{check_load}
 use Rattle.load_file.specs.declared.Reading.{Reading}
 use Rattle.load_file.specs.Places.{load_in}
@@ -28,8 +26,7 @@ use Rattle.bound.specs.declared.Margined.{Margined}
 use Rattle.bound.specs.declared.Judged.{Judged}
 use Rattle.bound.specs.declared.Blamed.{Blamed}
 use Rattle.bound.specs.declared.PlaceWaits.{PlaceWaits}
-use Rattle.bound.specs.Calls.{AnswersOf, BlamesOf, PlaceWaitsOf}
-use Rattle.bound.specs.Calls.{bound_for, margins_for, verdict_for}
+use Rattle.bound.specs.Calls.{AnswersOf, BoundOf, MarginsOf, VerdictOf, BlamesOf, PlaceWaitsOf}
 use Rattle.bench.specs.declared.Ran.{Ran}
 use Rattle.bench.specs.Calls.{Runs}
 use Rattle.bench.proofs.running.RunsLaws.{schedule_or-refused}
@@ -49,26 +46,24 @@ refused-sheet bs r refusal e h =
     ap (λ (x : Reading). x.load) e
     ∙ if_good-refused (sheet_fault bs) (load_in_sheet bs) zero_load refusal (ap (λ (x : Reading). x.answer) (sym e) ∙ h)
 
--- bound, margins and verdict, whatever was found of the load or the file
-module _ (found : Checked) (L : View) where
-  refused-bound : (r : Bounded) (refusal : Refusal) → r ≡ bound_for found L → r.answer ≡ Refused refusal → r.bound ≡ 0
+module _ (load : Load) where
+  refused-bound : (r : Bounded) (refusal : Refusal) → BoundOf load r → r.answer ≡ Refused refusal → r.bound ≡ 0
   refused-bound r refusal e h =
       ap (λ (x : Bounded). x.bound) e
-      ∙ if_good-refused found _ 0 refusal (ap (λ (x : Bounded). x.answer) (sym e) ∙ h)
+      ∙ if_good-refused (check_load load) _ 0 refusal (ap (λ (x : Bounded). x.answer) (sym e) ∙ h)
 
-  refused-margins : (r : Margined) (refusal : Refusal) → r ≡ margins_for found L → r.answer ≡ Refused refusal
+  refused-margins : (r : Margined) (refusal : Refusal) → MarginsOf load r → r.answer ≡ Refused refusal
       → r.margins ≡ replicate most_rows (pos 0)
   refused-margins r refusal e h =
       ap (λ (x : Margined). x.margins) e
-      ∙ if_good-refused found _ _ refusal (ap (λ (x : Margined). x.answer) (sym e) ∙ h)
+      ∙ if_good-refused (check_load load) _ _ refusal (ap (λ (x : Margined). x.answer) (sym e) ∙ h)
 
-  refused-verdict : (r : Judged) (refusal : Refusal) → r ≡ verdict_for found L → r.answer ≡ Refused refusal
+  refused-verdict : (r : Judged) (refusal : Refusal) → VerdictOf load r → r.answer ≡ Refused refusal
       → r.verdict ≡ false
   refused-verdict r refusal e h =
       ap (λ (x : Judged). x.verdict) e
-      ∙ if_good-refused found _ false refusal (ap (λ (x : Judged). x.answer) (sym e) ∙ h)
+      ∙ if_good-refused (check_load load) _ false refusal (ap (λ (x : Judged). x.answer) (sym e) ∙ h)
 
-module _ (load : Load) where
   refused-waits : (r : PlaceWaits) (refusal : Refusal) → PlaceWaitsOf load r → r.answer ≡ Refused refusal
       → r ≡ no_waits_but refusal
   refused-waits r refusal e h =
@@ -100,12 +95,9 @@ returned-alone =
       no-sheet-length = λ load out r after refusal p e.
           p.length-is ∙ if_good-refused r.answer (length (sheet_bytes load)) 0 refusal e;
       no-waits = refused-waits;
-      no_bound = λ load. refused-bound (check_load load) (view_of load);
-      no-margins = λ load. refused-margins (check_load load) (view_of load);
-      no-verdict = λ load. refused-verdict (check_load load) (view_of load);
-      no-bound-in = λ bs. refused-bound (file_fault bs) (view_of (load_in bs));
-      no-margins-in = λ bs. refused-margins (file_fault bs) (view_of (load_in bs));
-      no-verdict-in = λ bs. refused-verdict (file_fault bs) (view_of (load_in bs));
+      no_bound = refused-bound;
+      no-margins = refused-margins;
+      no-verdict = refused-verdict;
       no-blames = refused-blames;
       no-answers = refused-answers;
       no-slots = refused-slots;

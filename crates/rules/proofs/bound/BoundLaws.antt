@@ -21,7 +21,7 @@ use Rattle.rules.specs.Bound.{
   wait_left,
   largest_w,
   bound_by,
-  smaller_costs,
+  smallest_costs,
   bound,
 }
 
@@ -120,4 +120,4 @@ module _ (L : View) (ranged : Ranged L) where
 
 pub bound-le : (L : View) → Ranged L → bound L ≤ largest_bound
 unfolding bound
-bound-le L ranged = bound_by-le L ranged smaller_costs
+bound-le L ranged = bound_by-le L ranged smallest_costs

@@ -7,7 +7,8 @@ use native.Mathlib.Omega.{arith}
 use lib.Dec.{ltb}
 use borrow.Author.Tests.{le-ltb}
 use Rattle.counting.specs.Sums.{sum_to, max_to}
-use Rattle.counting.specs.Lists.{any_in}
+use Rattle.counting.specs.Lists.{join_to, join_in, any_in, sum_in}
+use Rattle.counting.specs.Sorting.{inserted, sorted}
 use Rattle.load.specs.Load.{most_rows, most_steps, largest_cost, largest_wait, latest_phase, last_moment, largest_limit}
 use Rattle.load.specs.View.{View, chain, embedded}
 use Rattle.load.specs.Acceptable.{Acceptable, window_of, chain_in}
@@ -17,7 +18,9 @@ use Rattle.rules.specs.Bound.{
   all_embedded_waits,
   largest_w,
   bound_by,
-  smaller_costs,
+  partners,
+  pair_costs,
+  smallest_costs,
   bound,
 }
 use Rattle.rules.proofs.bound.BoundLaws.{largest_bound}
@@ -45,11 +48,18 @@ unfolding
     largest_phase
     all_embedded_waits
     largest_w
-    smaller_costs
+    smallest_costs
+    pair_costs
+    partners
     embedded
     sum_to
     max_to
     any_in
+    join_to
+    join_in
+    sum_in
+    sorted
+    inserted
 bound-reached = refl
 
 -- its windows: one, at place 0

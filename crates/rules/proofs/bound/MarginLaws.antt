@@ -1,11 +1,10 @@
 -- Row bounds and margins stay in their ranges: the cut load is within the ranges of the load, so a row bound is at most
--- 806,400; it is at least a cost; and a margin is between -806,399 and 999,999. The smaller a bound, the larger the
--- margin.
-use Prim.Native.Nat.{ℕ, zero, suc, ◌-◌, ◌≤◌, ◌<◌, zero-le}
+-- 806,400; it is at least a cost; and a margin is between -806,399 and 999,999.
+use Prim.Native.Nat.{ℕ, zero, suc, ◌-◌, ◌≤◌, ◌<◌}
 use mathlib.Core.Bool.{Bool, true, false, cond}
-use mathlib.Core.Path.{◌≡◌, refl, ap}
+use mathlib.Core.Path.{◌≡◌, refl}
 use native.Mathlib.Omega.{arith}
-use borrow.Author.Tests.{lt-ltb, le-ltb, ltb-true, ltb-false}
+use borrow.Author.Tests.{lt-ltb}
 use lib.Dec.{ltb, le→leb}
 use lib.IntN.{ℤ, pos, negsuc, ◌-ℤ◌}
 use lib.Signed.{◌≤ℤ◌, le_z_yes}
@@ -47,33 +46,18 @@ first-cost-le L i l h =
       term-le-sum_to (L.cost i) (kept L m i) 0 (omega (arith, first_kept-le L m i)),
     )
 
--- a number less another, as one test tells it
-difference-is : (d b : ℕ) → pos d -ℤ pos b ≡ cond (ltb d b) (negsuc (b - suc d)) (pos (d - b))
-difference-is d zero = rw (le-ltb d 0 zero-le) (ap pos (omega arith))
-difference-is d (suc b) = refl
-
--- the less is taken off, the more is left
-pub difference-mono : (d b c : ℕ) → b ≤ c → (pos d -ℤ pos c) ≤ℤ (pos d -ℤ pos b)
-difference-mono d b c h = rw (difference-is d b, difference-is d c) (go (ltb d b) (ltb d c) refl refl)
-  where
-    go : (s t : Bool) → ltb d b ≡ s → ltb d c ≡ t
-        → cond t (negsuc (c - suc d)) (pos (d - c)) ≤ℤ cond s (negsuc (b - suc d)) (pos (d - b))
-    go true true p q = le_z_yes (le→leb (b - suc d) (c - suc d) (omega arith))
-    go true false p q = absurd (omega (arith, ltb-true d b p, ltb-false d c q))
-    go false true p q = le_z_yes tt
-    go false false p q = le_z_yes (le→leb (d - c) (d - b) (omega arith))
-
 -- a margin is between -806,399 and 999,999
 pub record MarginRange (margin : ℤ) : Type 0 where
   pub least : negsuc 806398 ≤ℤ margin
   pub most : margin ≤ℤ pos 999999
 
 difference-range : (d b : ℕ) → 1 ≤ d → d ≤ last_moment → 1 ≤ b → b ≤ largest_bound → MarginRange (pos d -ℤ pos b)
-difference-range d b h k l n = rw (difference-is d b) (go (ltb d b) refl)
+difference-range d zero h k l n = absurd (omega arith)
+difference-range d (suc b) h k l n = go (ltb d (suc b)) refl
   where
-    go : (t : Bool) → ltb d b ≡ t → MarginRange (cond t (negsuc (b - suc d)) (pos (d - b)))
-    go true e = record { least = le_z_yes (le→leb (b - suc d) 806398 (omega arith)); most = le_z_yes tt }
-    go false e = record { least = le_z_yes tt; most = le_z_yes (le→leb (d - b) 999999 (omega arith)) }
+    go : (t : Bool) → ltb d (suc b) ≡ t → MarginRange (cond t (negsuc (suc b - suc d)) (pos (d - suc b)))
+    go true e = record { least = le_z_yes (le→leb (suc b - suc d) 806398 (omega arith)); most = le_z_yes tt }
+    go false e = record { least = le_z_yes tt; most = le_z_yes (le→leb (d - suc b) 999999 (omega arith)) }
 
 pub margin-range : (L : View) (i : ℕ) → Ranged L → i < L.rows → 1 ≤ L.steps i → 1 ≤ L.cost i 0
     → 1 ≤ L.deadline i → L.deadline i ≤ last_moment → MarginRange (margin L i)

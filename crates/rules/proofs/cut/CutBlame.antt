@@ -8,11 +8,11 @@ use Rattle.counting.proofs.searches.LargestLaws.{first_largest-ext}
 use Rattle.load.specs.Load.{most_steps}
 use Rattle.load.specs.View.{View}
 use Rattle.rules.specs.Cut.{cut}
-use Rattle.rules.specs.Bound.{wait_left, most_places, smaller_costs}
+use Rattle.rules.specs.Bound.{wait_left, most_places, smallest_costs}
 use Rattle.rules.specs.Blame.{worst_row, largest_at, blame_among}
 use Rattle.rules.proofs.bound.BlameLaws.{blame_among-shorter}
 use Rattle.rules.proofs.cut.CutLaws.{Within}
-use Rattle.rules.proofs.cut.CutCosts.{smaller_costs-of-cut}
+use Rattle.rules.proofs.cut.CutCosts.{smallest_costs-of-cut}
 use Rattle.rules.proofs.cut.CutBound.{wait_left-of-cut, largest_w-of-cut, largest_w-past}
 
 module _
@@ -43,5 +43,5 @@ module _
         (λ j l b. largest_w-past L m within gives j (omega arith))
 
 pub blame-of-cut : (L : View) (m : ℕ) → ((i : ℕ) → i < L.rows → Within L i) → m ≤ most_steps
-    → blame_among (largest_at smaller_costs (cut L m)) most_places ≡ blame_among (largest_at smaller_costs L) (m - 1)
-blame-of-cut L m within h = blame_among-of-cut L m within smaller_costs (smaller_costs-of-cut L m within) h
+    → blame_among (largest_at smallest_costs (cut L m)) most_places ≡ blame_among (largest_at smallest_costs L) (m - 1)
+blame-of-cut L m within h = blame_among-of-cut L m within smallest_costs (smallest_costs-of-cut L m within) h

@@ -23,9 +23,10 @@ use Rattle.rules.specs.Bound.{
   wait_left,
   largest_w,
   bound_by,
-  smaller_costs,
+  smallest_costs,
   bound,
 }
+use Rattle.rules.proofs.bound.TightBound.{minima, tight_bound}
 use Rattle.rules.proofs.cut.CutLaws.{
   Within,
   first_kept-le,
@@ -34,7 +35,7 @@ use Rattle.rules.proofs.cut.CutLaws.{
   is_free-past,
   wait-of-cut,
 }
-use Rattle.rules.proofs.cut.CutCosts.{smaller_costs-of-cut}
+use Rattle.rules.proofs.cut.CutCosts.{smallest_costs-of-cut, minima-of-cut}
 
 -- all costs that are kept
 abbrev pub kept_costs : View → ℕ → ℕ
@@ -92,6 +93,11 @@ module _ (L : View) (m : ℕ) (within : (i : ℕ) → i < L.rows → Within L i)
 
   pub bound-of-cut : m ≤ most_steps
       → bound (cut L m)
-      ≡ kept_costs L m + largest_phase L + kept_waits L m + sum_to (largest_w smaller_costs L) (m - 1)
+      ≡ kept_costs L m + largest_phase L + kept_waits L m + sum_to (largest_w smallest_costs L) (m - 1)
   unfolding bound
-  bound-of-cut h = bound_by-of-cut smaller_costs (smaller_costs-of-cut L m within) h
+  bound-of-cut h = bound_by-of-cut smallest_costs (smallest_costs-of-cut L m within) h
+
+  pub tight_bound-of-cut : m ≤ most_steps
+      → tight_bound (cut L m)
+      ≡ kept_costs L m + largest_phase L + kept_waits L m + sum_to (largest_w minima L) (m - 1)
+  tight_bound-of-cut h = bound_by-of-cut minima (minima-of-cut L m within) h

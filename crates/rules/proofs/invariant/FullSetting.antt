@@ -1,7 +1,7 @@
 -- The setting of a full run: costs for lengths, and a free wait is charged with the step that each other row worked at
 -- since. A start charges the others with no more than the cost that passes, and its own row with nothing at first; and
 -- when the oldest of the rows at the lowest next step waits, every other has worked one of its two steps since.
-use Prim.Native.Nat.{ℕ, suc, ◌+◌, ◌≤◌, ◌<◌}
+use Prim.Native.Nat.{ℕ, suc, ◌+◌, ◌≤◌, ◌<◌, min}
 use mathlib.Core.Bool.{true, cond}
 use mathlib.Core.Logic.{◌≢◌}
 use mathlib.Core.Path.{◌≡◌, ap}
@@ -11,7 +11,7 @@ use Rattle.counting.proofs.sums.ChangeLaws.{sum_to-change-le, cond-le, cond-mono
 use Rattle.load.specs.View.{View, is_free}
 use Rattle.rules.specs.State.{State}
 use Rattle.rules.specs.Move.{started_full}
-use Rattle.rules.specs.Bound.{gives_to, smaller_cost, smaller_costs}
+use Rattle.rules.proofs.bound.TightBound.{minima}
 use Rattle.rules.proofs.moves.MoveLaws.{
   started-finished-same,
   started-finished-other,
@@ -22,6 +22,7 @@ use Rattle.rules.proofs.invariant.Runnable.{Runnable}
 use Rattle.rules.proofs.invariant.Setting.{Staged, Oldest, Setting}
 use Rattle.rules.proofs.invariant.WorkedSince.{
   worked,
+  is_other,
   worked_since,
   worked-next,
   worked-here,
@@ -31,7 +32,7 @@ use Rattle.rules.proofs.invariant.WorkedSince.{
   worked-ext,
   worked_since-none,
   tick-worked,
-  smaller_costs-le,
+  minima-le,
 }
 use Rattle.rules.proofs.invariant.Invariant.{is_free-lt, is_free-embedded}
 
@@ -67,15 +68,15 @@ module _ (L : View) (g : Runnable L) where
     start-worked : (p i : ℕ) → i ≢ k → worked_since L t p i ≤ worked_since L s p i + d
     unfolding worked_since
     start-worked p i ne =
-        sum_to-change-le (λ x. cond (gives_to L p i x) (worked L t p i x) 0)
-        (λ x. cond (gives_to L p i x) (worked L s p i x) 0) L.rows k d
-        (λ x l nx. cond-mono (gives_to L p i x) (worked L t p i x) (worked L s p i x)
+        sum_to-change-le (λ x. cond (is_other L p i x) (worked L t p i x) 0)
+        (λ x. cond (is_other L p i x) (worked L s p i x) 0) L.rows k d
+        (λ x l nx. cond-mono (is_other L p i x) (worked L t p i x) (worked L s p i x)
         (λ _. omega (
           arith,
           worked-ext L t s p i x (started-finished-other L s k d x nx) (started-end-other L s k d i ne)
               (started-end-other L s k d x nx),
         )))
-        (λ _. cond-le (gives_to L p i k) (worked L t p i k) (worked L s p i k) d (λ _. own p i))
+        (λ _. cond-le (is_other L p i k) (worked L t p i k) (worked L s p i k) d (λ _. own p i))
 
     start_first : k < L.rows → suc (s.finished k) < L.steps k → Staged L s
         → ((i : ℕ) → i < L.rows → s.end i ≤ s.clock) → worked_since L t (s.finished k) k ≡ 0
@@ -103,11 +104,11 @@ module _ (L : View) (g : Runnable L) where
                   ))
             ]
 
-  worked-enough : (s : State) (p i : ℕ) → Oldest L s p i → smaller_costs L p i ≤ worked_since L s p i
-  worked-enough s p i o = smaller_costs-le L s p i at
+  worked-enough : (s : State) (p i : ℕ) → Oldest L s p i → minima L p i ≤ worked_since L s p i
+  worked-enough s p i o = minima-le L s p i at
     where
       at : (k : ℕ) → k < L.rows → k ≢ i → is_free L k (suc p) ≡ true
-          → smaller_cost L p k ≤ worked L s p i k
+          → min (L.cost k p) (L.cost k (suc p)) ≤ worked L s p i k
       at k lk ne free =
           let far = is_free-lt L k (suc p) free in
           elim (ℕ_discrete (s.finished k) (suc p)) [
@@ -115,7 +116,7 @@ module _ (L : View) (g : Runnable L) where
             | no e ↦ omega (arith, worked-next L s p i k (omega (arith, o.lowest k lk)))
           ]
 
-  pub full_setting : Setting L L.cost smaller_costs worked_since
+  pub full_setting : Setting L L.cost minima worked_since
   full_setting =
       record {
         runnable = g;

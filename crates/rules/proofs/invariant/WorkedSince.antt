@@ -1,6 +1,6 @@
 -- What other rows have worked since a row ended a step: the charge of a full run. Of each other row whose next step is
 -- free it counts the step that was worked at since, so once all have worked it is at least what the bound takes off.
-use Prim.Native.Nat.{ℕ, suc, ◌≤◌, ◌<◌}
+use Prim.Native.Nat.{ℕ, suc, ◌≤◌, ◌<◌, min}
 use mathlib.Core.Bool.{Bool, true, false, cond, ◌&&◌, not}
 use mathlib.Core.Logic.{◌≢◌}
 use mathlib.Core.Path.{◌≡◌, refl}
@@ -14,7 +14,7 @@ use Rattle.counting.proofs.sums.ChangeLaws.{cond-mono}
 use Rattle.load.specs.View.{View, is_free}
 use Rattle.rules.specs.State.{State}
 use Rattle.rules.specs.Move.{ticked}
-use Rattle.rules.specs.Bound.{gives_to, smaller_cost, smaller_costs}
+use Rattle.rules.proofs.bound.TightBound.{minima}
 
 -- of two steps p and p + 1 with their costs, the one that a row with so many steps finished has worked at since an
 -- end, its own last step having ended at another
@@ -29,14 +29,18 @@ worked_by p here next finished since end =
 abbrev pub worked : View → State → ℕ → ℕ → ℕ → ℕ
 worked L s p i k = worked_by p (L.cost k p) (L.cost k (suc p)) (s.finished k) (s.end i) (s.end k)
 
+-- another row that the bound takes into account
+abbrev pub is_other : View → ℕ → ℕ → ℕ → Bool
+is_other L p i k = not (eqb k i) && is_free L k (suc p)
+
 unfoldable pub worked_since : View → State → ℕ → ℕ → ℕ
-worked_since L s p i = sum_to (λ k. cond (gives_to L p i k) (worked L s p i k) 0) L.rows
+worked_since L s p i = sum_to (λ k. cond (is_other L p i k) (worked L s p i k) 0) L.rows
 
-pub gives_to-other : (L : View) (p i k : ℕ) → gives_to L p i k ≡ true → k ≢ i
-gives_to-other L p i k h = eqb-false k i (not-true (eqb k i) (and_left (not (eqb k i)) (is_free L k (suc p)) h))
+pub is_other-other : (L : View) (p i k : ℕ) → is_other L p i k ≡ true → k ≢ i
+is_other-other L p i k h = eqb-false k i (not-true (eqb k i) (and_left (not (eqb k i)) (is_free L k (suc p)) h))
 
-pub gives_to-free : (L : View) (p i k : ℕ) → gives_to L p i k ≡ true → is_free L k (suc p) ≡ true
-gives_to-free L p i k h = and_right (not (eqb k i)) (is_free L k (suc p)) h
+pub is_other-free : (L : View) (p i k : ℕ) → is_other L p i k ≡ true → is_free L k (suc p) ≡ true
+is_other-free L p i k h = and_right (not (eqb k i)) (is_free L k (suc p)) h
 
 -- the values of `worked`
 module _ (L : View) (s : State) (p i k : ℕ) where
@@ -91,11 +95,11 @@ pub worked_since-none : (L : View) (s : State) (p i : ℕ)
     → ((k : ℕ) → k < L.rows → k ≢ i → is_free L k (suc p) ≡ true → worked L s p i k ≡ 0) → worked_since L s p i ≡ 0
 unfolding worked_since
 worked_since-none L s p i h =
-    sum_to-none (λ k. cond (gives_to L p i k) (worked L s p i k) 0) L.rows (λ k l. at k l (gives_to L p i k) refl)
+    sum_to-none (λ k. cond (is_other L p i k) (worked L s p i k) 0) L.rows (λ k l. at k l (is_other L p i k) refl)
   where
-    at : (k : ℕ) → k < L.rows → (b : Bool) → gives_to L p i k ≡ b → cond b (worked L s p i k) 0 ≡ 0
+    at : (k : ℕ) → k < L.rows → (b : Bool) → is_other L p i k ≡ b → cond b (worked L s p i k) 0 ≡ 0
     at k l false e = refl
-    at k l true e = h k l (gives_to-other L p i k e) (gives_to-free L p i k e)
+    at k l true e = h k l (is_other-other L p i k e) (is_other-free L p i k e)
 
 -- a tick leaves it
 pub tick-worked : (L : View) (s : State) (p i : ℕ) → worked_since L (ticked s) p i ≡ worked_since L s p i
@@ -103,13 +107,13 @@ unfolding worked_since ticked
 tick-worked L s p i = refl
 
 -- the charge is at least what the bound takes off, term by term
-pub smaller_costs-le : (L : View) (s : State) (p i : ℕ)
+pub minima-le : (L : View) (s : State) (p i : ℕ)
     → ((k : ℕ) → k < L.rows → k ≢ i → is_free L k (suc p) ≡ true
-    → smaller_cost L p k ≤ worked L s p i k)
-    → smaller_costs L p i ≤ worked_since L s p i
-unfolding smaller_costs worked_since
-smaller_costs-le L s p i h =
-    sum_to-mono (λ k. cond (gives_to L p i k) (smaller_cost L p k) 0)
-    (λ k. cond (gives_to L p i k) (worked L s p i k) 0) L.rows
-    (λ k l. cond-mono (gives_to L p i k) (smaller_cost L p k) (worked L s p i k)
-    (λ e. h k l (gives_to-other L p i k e) (gives_to-free L p i k e)))
+    → min (L.cost k p) (L.cost k (suc p)) ≤ worked L s p i k)
+    → minima L p i ≤ worked_since L s p i
+unfolding minima worked_since
+minima-le L s p i h =
+    sum_to-mono (λ k. cond (is_other L p i k) (min (L.cost k p) (L.cost k (suc p))) 0)
+    (λ k. cond (is_other L p i k) (worked L s p i k) 0) L.rows
+    (λ k l. cond-mono (is_other L p i k) (min (L.cost k p) (L.cost k (suc p))) (worked L s p i k)
+    (λ e. h k l (is_other-other L p i k e) (is_other-free L p i k e)))

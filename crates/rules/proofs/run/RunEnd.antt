@@ -12,7 +12,7 @@ use Rattle.rules.specs.Outcomes.{told_by}
 use Rattle.rules.specs.Move.{started_full, ticked, all_finished, next_slot, move}
 use Rattle.rules.specs.Run.{state_after_by, state_after, starts_by, starts, schedule}
 use Rattle.rules.specs.Slots.{slot_end, last_end}
-use Rattle.rules.specs.Bound.{smaller_costs, bound}
+use Rattle.rules.proofs.bound.TightBound.{minima, tight_bound}
 use Rattle.rules.proofs.invariant.Runnable.{Runnable}
 use Rattle.rules.proofs.invariant.Setting.{Setting}
 use Rattle.rules.proofs.invariant.WorkedSince.{worked_since}
@@ -41,10 +41,10 @@ abbrev EndsNow : View → State → List Slot → Type 0
 EndsNow L s slots = all_finished L s ≡ true → last_end L slots ≡ s.clock
 
 module _ (L : View) (g : Runnable L) where
-  abbrev full : Setting L L.cost smaller_costs worked_since
+  abbrev full : Setting L L.cost minima worked_since
   full = full_setting L g
 
-  move-ends : (s : State) (slots : List Slot) → Accounted smaller_costs worked_since L s → EndsNow L s slots
+  move-ends : (s : State) (slots : List Slot) → Accounted minima worked_since L s → EndsNow L s slots
       → EndsNow L (move L s).then (slots ++ (told_by (move L s).outcome).starts)
   move-ends s slots v h = go (all_finished L s) refl
     where
@@ -72,13 +72,9 @@ module _ (L : View) (g : Runnable L) where
   pub run-ends-now : (n : ℕ) → EndsNow L (state_after L n fresh) (starts L n fresh)
   run-ends-now zero = fresh-ends
   run-ends-now (suc n) =
-      rw (
-        state_after-next L.cost L n fresh,
-        starts-next L full n fresh (fresh-accounted smaller_costs worked_since L g),
-      )
+      rw (state_after-next L.cost L n fresh, starts-next L full n fresh (fresh-accounted minima worked_since L g))
       (move-ends (state_after L n fresh) (starts L n fresh) (run-accounted L full n) (run-ends-now n))
 
   -- the schedule ends when the run does
-  pub schedule-ends : (n : ℕ) → bound L ≤ n → last_end L (schedule L) ≡ (state_after L n fresh).clock
-  unfolding bound
+  pub schedule-ends : (n : ℕ) → tight_bound L ≤ n → last_end L (schedule L) ≡ (state_after L n fresh).clock
   schedule-ends n h = ap (last_end L) (schedule-whole L full n h) ∙ run-ends-now n (run-finished L full n h)

@@ -18,7 +18,7 @@ use Rattle.rules.specs.Outcomes.{told_by}
 use Rattle.rules.specs.Move.{all_finished, move}
 use Rattle.rules.specs.Run.{state_after_by, state_after, starts_by, starts, schedule}
 use Rattle.rules.specs.Slots.{slot_at, slot_end}
-use Rattle.rules.specs.Bound.{smaller_costs, bound}
+use Rattle.rules.proofs.bound.TightBound.{minima, tight_bound}
 use Rattle.rules.proofs.invariant.Runnable.{Runnable}
 use Rattle.rules.proofs.invariant.Setting.{Setting}
 use Rattle.rules.proofs.invariant.WorkedSince.{worked_since}
@@ -32,11 +32,11 @@ use Rattle.rules.proofs.run.StartMade.{start-made}
 use Rattle.rules.proofs.slots.WholeLaws.{Whole}
 
 module _ (L : View) (g : Runnable L) where
-  abbrev full : Setting L L.cost smaller_costs worked_since
+  abbrev full : Setting L L.cost minima worked_since
   full = full_setting L g
 
   -- a move adds its start
-  move-made : (s : State) (slots : List Slot) → Accounted smaller_costs worked_since L s → Made L s slots
+  move-made : (s : State) (slots : List Slot) → Accounted minima worked_since L s → Made L s slots
       → Made L (move L s).then (slots ++ (told_by (move L s).outcome).starts)
   move-made s slots v m = go (all_finished L s) refl
     where
@@ -59,16 +59,13 @@ module _ (L : View) (g : Runnable L) where
   pub run-made : (n : ℕ) → Made L (state_after L n fresh) (starts L n fresh)
   run-made zero = rw (starts_none, state-none) (fresh-made L)
   run-made (suc n) =
-      rw (
-        state_after-next L.cost L n fresh,
-        starts-next L full n fresh (fresh-accounted smaller_costs worked_since L g),
-      )
+      rw (state_after-next L.cost L n fresh, starts-next L full n fresh (fresh-accounted minima worked_since L g))
       (move-made (state_after L n fresh) (starts L n fresh) (run-accounted L full n) (run-made n))
 
   -- at the end every row has finished all its steps
-  pub finished-all : (n : ℕ) → bound L ≤ n → (i : ℕ) → i < L.rows
+  pub finished-all : (n : ℕ) → tight_bound L ≤ n → (i : ℕ) → i < L.rows
       → (state_after L n fresh).finished i ≡ L.steps i
-  unfolding all_finished bound
+  unfolding all_finished
   finished-all n h i l =
       omega (
         arith,
@@ -79,20 +76,19 @@ module _ (L : View) (g : Runnable L) where
       )
 
   abbrev last : State
-  last = state_after L (bound L) fresh
+  last = state_after L (tight_bound L) fresh
 
   schedule-made : Made L last (schedule L)
-  unfolding bound
-  schedule-made = rw (schedule-whole L full (bound L) (omega arith)) (run-made (bound L))
+  schedule-made = rw (schedule-whole L full (tight_bound L) (omega arith)) (run-made (tight_bound L))
 
   pub schedule-is-whole : Whole L (schedule L)
   schedule-is-whole =
       record {
         fits = schedule-made.fits;
-        count = λ i l. schedule-made.count i l ∙ finished-all (bound L) (omega arith) i l;
+        count = λ i l. schedule-made.count i l ∙ finished-all (tight_bound L) (omega arith) i l;
         in_all =
             schedule-made.in_all
-            ∙ sum_to-ext last.finished L.steps L.rows (finished-all (bound L) (omega arith));
+            ∙ sum_to-ext last.finished L.steps L.rows (finished-all (tight_bound L) (omega arith));
       }
 
   pub schedule-lower : (k : ℕ) → k < length (schedule L) → AfterLower L (schedule L) k (slot_at (schedule L) k)
@@ -102,4 +98,4 @@ module _ (L : View) (g : Runnable L) where
   pub last-ends : (k i : ℕ) → k < length (schedule L) → i < L.rows → (slot_at (schedule L) k).row ≡ shown i
       → (slot_at (schedule L) k).step ≡ L.steps i → slot_end L (slot_at (schedule L) k) ≡ last.end i
   last-ends k i l li row step =
-      schedule-made.last-end k i l li row (step ∙ sym (finished-all (bound L) (omega arith) i li))
+      schedule-made.last-end k i l li row (step ∙ sym (finished-all (tight_bound L) (omega arith) i li))

@@ -12,7 +12,6 @@ worked-blame =
       alike = record { at_places = refl; by_rows = refl };
       cut-decides = record { at_places = refl; by_rows = refl };
       no_place = record { at_places = refl; by_rows = refl };
-      each-gives = record { at_places = refl; by_rows = refl };
       all-filled = record { at_places = refl; by_rows = refl };
       none_free = record { at_places = refl; by_rows = refl };
       by-w = record { at_places = refl; by_rows = refl };

@@ -1,98 +1,70 @@
--- `cut_bounds` adds what comes with one step more a turn, and stores one bound: the terms of the bound of the cut load,
--- which is at most 806,400, so each sum on the way fits.
-use Prim.Native.Nat.{ℕ, ◌+◌, ◌-◌, ◌≤◌, ◌<◌}
-use mathlib.Core.List.{List}
+-- `cut_bounds` stores one bound a turn: the terms of the bound of the cut load, which is at most 806,400, so each sum
+-- on the way fits.
+use Prim.Native.Nat.{◌+◌, ◌-◌, ◌≤◌}
 use mathlib.Core.Path.{◌≡◌, sym, ◌∙◌, ap}
 use native.Mathlib.Omega.{arith}
 use borrow.Author.Rules.{rules}
 use Rattle.counting.specs.Sums.{sum_to}
-use Rattle.counting.specs.Lists.{list_to, filled, member_at}
-use Rattle.counting.proofs.sums.SumLaws.{sum_to-zero, sum_to-next}
-use Rattle.counting.proofs.lists.ListLaws.{filled_none, filled-stored, filled-all, list_to-ext}
+use Rattle.counting.specs.Lists.{filled, member_at}
+use Rattle.counting.proofs.lists.ListLaws.{filled_none, filled-stored, filled-all, get_or-list_to}
 use Rattle.load.specs.View.{view_of}
+use Rattle.rules.specs.Bound.{largest_phase, largest_w, smallest_costs}
+use Rattle.rules.specs.Blame.{place_waits}
 use Rattle.bound.specs.inner.CutTerms.{waits_below, bound_at}
-use Rattle.bound.proofs.TickLaws.{bound-terms, bound-terms-le}
+use Rattle.bound.proofs.AcceptedLaws.{cut-bound-is, cut-bound-le}
+use Rattle.bound.proofs.PlacesRead.{waits_below-is}
 use Rattle.bound.proofs.bounds.cut_bounds.Statement.{statement}
 use Rattle.bound.proofs.bounds.cut_bounds.Tie as tie
 
--- what is stored: the phase, what comes with the first k + 1 steps, and the W's between them
-abbrev stored : ℕ → List ℕ → List ℕ → ℕ → ℕ
-stored phase ticks waits k = phase + sum_to (member_at ticks) (k + 1) + member_at waits k
-
 abbrev invariant-loop : tie.invariant-loop
-invariant-loop waits ticks phase bounds₀ k₀ sum bounds k =
-    (k ≤ 8)
-    × (sum ≡ phase + sum_to (member_at ticks) k)
-    × ((i : ℕ) → i < 8 → stored phase ticks waits i ≤ 806400)
-    × (bounds ≡ filled (stored phase ticks waits) k 8 0)
+invariant-loop load waits phase bounds₀ k₀ bounds k =
+    (k ≤ 8) × (phase ≡ largest_phase (view_of load)) × (bounds ≡ filled (bound_at (view_of load)) k 8 0)
 
 abbrev decreases-loop : tie.decreases-loop
-decreases-loop waits ticks phase bounds₀ k₀ sum bounds k = 8 - k
+decreases-loop load waits phase bounds₀ k₀ bounds k = 8 - k
 
--- what is added up is the bound of the cut load
-terms : (c : tie.After-largest-phase invariant-loop decreases-loop) (k : ℕ) → k < 8
-    → let summed = c.before.before in
-    stored c.largest-phase.result c.before.all-ticks.result summed.waits-below.result k
-    ≡ bound_at (view_of summed.before.args.load) k
-terms c k l =
-    let summed = c.before.before in
-    let start = summed.before in
-    bound-terms start.args.load start.requires.0 _ _ _ c.largest-phase.ensures c.before.all-ticks.ensures
-    (summed.waits-below.ensures ∙ ap (λ places. list_to (waits_below places) 8) start.requires.1) k l
-
-loop-holds : tie.Need-loop-init invariant-loop decreases-loop
-loop-holds c =
-    let start = c.before.before.before in (
-      search rules,
-      omega (arith, sum_to-zero (member_at c.before.all-ticks.result)),
-      λ k l. omega (arith, terms c k l, bound-terms-le start.args.load start.requires.0 k),
-      sym (filled_none _ 8 0),
+-- the terms that a turn adds
+total : (c : tie.After-kept-ticks invariant-loop decreases-loop)
+    → let loop = c.before.before.loop in
+    let start = c.before.before.before.before in
+    let phase = c.before.before.before.largest-phase.result in
+    c.kept-ticks.result + phase + member_at start.args.waits.now loop.k
+    ≡ bound_at (view_of start.args.load) loop.k
+total c =
+    let start = c.before.before.before.before in
+    let L = view_of start.args.load in
+    let k = c.before.before.loop.k in
+    let e : k + 1 - 1 ≡ k = omega arith in
+    omega (
+      arith,
+      ap (λ l. member_at l k) start.requires.1
+          ∙ get_or-list_to (waits_below (place_waits L)) 8 k 0 (omega arith)
+          ∙ waits_below-is L k (omega arith),
+      ap (sum_to (largest_w smallest_costs L)) e,
+      cut-bound-is L start.requires.0 (k + 1) (omega arith),
     )
 
--- what a turn adds
-turn-adds : (c : tie.In-loop invariant-loop decreases-loop)
-    → let loop = c.before.loop in
-    let made = c.before.before in
-    let ticks = made.before.all-ticks.result in
-    stored made.largest-phase.result ticks made.before.before.waits-below.result loop.k
-    ≡ loop.sum + member_at ticks loop.k + member_at made.before.before.waits-below.result loop.k
-turn-adds c =
-    let loop = c.before.loop in
-    omega (arith, loop.invariant.1, sum_to-next (member_at c.before.before.before.all-ticks.result) loop.k)
-
--- and it fits
-turn-fits : (c : tie.In-loop invariant-loop decreases-loop)
-    → let loop = c.before.loop in
-    let made = c.before.before in
-    loop.sum
-    + member_at made.before.all-ticks.result loop.k
-    + member_at made.before.before.waits-below.result loop.k
-    ≤ 806400
-turn-fits c =
-    let loop = c.before.loop in omega (arith, turn-adds c, loop.invariant.2 loop.k c.loop-test.true)
+small : (c : tie.After-kept-ticks invariant-loop decreases-loop)
+    → bound_at (view_of c.before.before.before.before.args.load) c.before.before.loop.k ≤ 806400
+small c =
+    let start = c.before.before.before.before in
+    cut-bound-le (view_of start.args.load) start.requires.0 (c.before.before.loop.k + 1)
 
 loop-again : tie.Need-loop-preserved invariant-loop decreases-loop
 loop-again c =
-    let loop = c.before.loop in
-    let ticks = c.before.before.before.all-ticks.result in (
+    let turn = c.before.before in
+    let loop = turn.before.loop in
+    let L = view_of turn.before.before.before.args.load in (
       search rules,
-      omega (arith, loop.invariant.1, sum_to-next (member_at ticks) loop.k),
-      loop.invariant.2,
-      filled-stored _ loop.k 8 0 _ loop.bounds loop.invariant.3 (sym (turn-adds c)) (omega arith),
+      loop.invariant.1,
+      filled-stored (bound_at L) loop.k 8 0 _ loop.bounds loop.invariant.2 (total c.before) (omega arith),
     )
 
 returns : tie.Need-returns invariant-loop decreases-loop
 returns c =
-    let made = c.before.before in
-    let L = view_of made.before.before.before.args.load in
-    let f = stored made.largest-phase.result made.before.all-ticks.result
-    made.before.before.waits-below.result
-    in
+    let L = view_of c.before.before.before.args.load in
     let e : c.before.loop.k ≡ 8 = omega arith in
-    c.before.loop.invariant.3
-    ∙ ap (λ k. filled f k 8 0) e
-    ∙ filled-all f 8 0
-    ∙ list_to-ext f (bound_at L) 8 (terms made)
+    c.before.loop.invariant.2 ∙ ap (λ k. filled (bound_at L) k 8 0) e ∙ filled-all (bound_at L) 8 0
 
 pub cut-bounds-spec : {M : Type 1} → statement M
 cut-bounds-spec =
@@ -101,15 +73,13 @@ cut-bounds-spec =
     invariant-loop
     decreases-loop
     (λ c κs. search rules)
+    (λ c. (search rules, c.largest-phase.ensures, sym (filled_none _ 8 0)))
+    (λ c. search rules)
     (λ c κs. search rules)
-    (λ c κs. search rules)
-    loop-holds
+    (λ c. omega (arith, total c, small c))
     (λ c. search rules)
     (λ c. search rules)
-    (λ c. omega (arith, turn-fits c))
-    (λ c. search rules)
-    (λ c. search rules)
-    (λ c. omega (arith, turn-fits c))
+    (λ c. omega (arith, total c.before, small c.before))
     (λ c. search rules)
     (λ c. search rules)
     (λ c. search rules)

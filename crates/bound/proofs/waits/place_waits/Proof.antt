@@ -1,51 +1,88 @@
--- `place_waits` stores the largest W of one place a turn: of what is left of the waits there.
-use Prim.Native.Nat.{◌-◌, ◌≤◌}
+-- `place_waits` stores the largest W of one place a turn: it marks the rows of the place and asks for the largest of
+-- what is left there, where some wait there is free.
+use Prim.Native.Nat.{ℕ, ◌+◌, ◌-◌, ◌≤◌}
+use mathlib.Core.Bool.{Bool, false, ◌&&◌}
+use mathlib.Core.List.{List}
+use mathlib.Core.Logic.{⊎_elim}
 use mathlib.Core.Path.{◌≡◌, sym, ◌∙◌, ap}
 use native.Mathlib.Omega.{arith}
 use borrow.Author.Rules.{rules}
-use Rattle.counting.specs.Lists.{filled}
+use Rattle.counting.specs.Sums.{any_to}
+use Rattle.counting.specs.Lists.{filled, is_marked}
 use Rattle.counting.proofs.lists.ListLaws.{filled_none, filled-stored, filled-all}
+use Rattle.load.specs.declared.Load.{Load}
 use Rattle.load.specs.Load.{row_at}
-use Rattle.load.specs.View.{view_of}
-use Rattle.rules.specs.Bound.{smaller_costs}
+use Rattle.load.specs.View.{view_of, embedded}
+use Rattle.rules.specs.Bound.{smallest_costs}
 use Rattle.rules.specs.Blame.{none_left, largest_at, place_waits}
-use Rattle.bound.specs.declared.places.Place.{Place}
-use Rattle.bound.specs.inner.Places.{given_in, free_wait_in}
+use Rattle.bound.specs.inner.Marks.{free_in, frees_at}
 use Rattle.bound.proofs.AcceptedLaws.{accepted-few}
-use Rattle.bound.proofs.PlaceLaws.{largest_at-read}
+use Rattle.bound.proofs.PlaceLaws.{AtPlace, paired-cost, largest_at-read, largest_at-none}
 use Rattle.bound.proofs.waits.place_waits.Statement.{statement}
 use Rattle.bound.proofs.waits.place_waits.Tie as tie
 
 abbrev invariant-loop : tie.invariant-loop
 invariant-loop load rows places₀ j₀ places j =
-    (j ≤ 7) × (places ≡ filled (largest_at smaller_costs (view_of load)) j 7 none_left)
+    (j ≤ 7) × (places ≡ filled (largest_at smallest_costs (view_of load)) j 7 none_left)
 
 abbrev decreases-loop : tie.decreases-loop
 decreases-loop load rows places₀ j₀ places j = 7 - j
 
--- there are few rows
-few : (c : tie.In-loop invariant-loop decreases-loop) → c.before.before.args.rows ≤ 24
-few c =
-    let start = c.before.before in omega (arith, start.requires.1, accepted-few start.args.load start.requires.0)
+-- marks that are taken from a load are those of the place
+placed : (load : Load) (j : ℕ) (pairs frees : List Bool)
+    → pairs ≡ filled (λ i. free_in (row_at load i) j && free_in (row_at load i) (j + 1)) load.rows 24 false
+    → frees ≡ frees_at load (j + 1) → AtPlace (view_of load) j pairs frees
+unfolding view_of embedded
+placed load j pairs frees p f = record { pairs_is = p; frees-is = f }
 
--- what is stored is the place's
-worst : (c : tie.After-largest-left invariant-loop decreases-loop)
+-- where no row's wait is free, there is no W
+unfree : (load : Load) (rows j : ℕ) (frees : List Bool) → rows ≡ load.rows → frees ≡ frees_at load (j + 1)
+    → any_to (is_marked frees) rows ≡ false → none_left ≡ largest_at smallest_costs (view_of load) j
+unfolding view_of embedded
+unfree load rows j frees e f none =
+    largest_at-none (view_of load) j frees f (ap (any_to (is_marked frees)) (sym e) ∙ none)
+
+-- there are few rows
+few : (c : tie.In-loop invariant-loop decreases-loop) → c.before.before.args.load.rows ≤ 24
+few c = accepted-few c.before.before.args.load c.before.before.requires.0
+
+largest-left-requires : tie.Need-largest-left-requires invariant-loop decreases-loop
+unfolding view_of
+largest-left-requires c κs =
+    let made = c.before.before.before.before.before in
+    let turn = made.before in
+    let start = turn.before.before in
+    let j = turn.before.loop.j in
+    let place = placed start.args.load j _ _ c.before.pairs-at.ensures made.frees-at.ensures in
+    rw start.requires.1
+    (record {
+      few = few turn;
+      between = turn.loop-test.true;
+      small = paired-cost (view_of start.args.load) j _ _ place start.requires.0;
+    })
+
+-- what is stored is the place's, whichever way the turn went
+worst : (c : tie.Joined1 invariant-loop decreases-loop)
     → let entry = c.before.before.before.before.before in
-    c.largest-left.result ≡ largest_at smaller_costs (view_of entry.before.args.load) entry.loop.j
+    c.if1.most ≡ largest_at smallest_costs (view_of entry.before.args.load) entry.loop.j
+unfolding view_of
 worst c =
-    let made = c.before.before.before in
-    let entry = made.before.before in
-    let start = entry.before in
+    let asked = c.before in
+    let made = asked.before.before in
+    let start = made.before.before.before in
     let load = start.args.load in
-    let j = entry.loop.j in
-    let place = made.place_of.ensures in
-    c.largest-left.ensures
-    ∙ largest_at-read load j _ _
-    (ap (λ (p : Place). p.gives) place
-    ∙ ap (λ n. filled (λ i. given_in (row_at load i) j) n 24 0) start.requires.1)
-    (ap (λ (p : Place). p.waits) place
-    ∙ ap (λ n. filled (λ i. free_wait_in (row_at load i) j) n 24 0) start.requires.1)
-    start.args.rows start.requires.1
+    let j = made.before.before.loop.j in
+    ⊎_elim
+    (λ w.
+    w.4
+    ∙ w.3.ensures
+    ∙ largest_at-read (view_of load) j _ _ (placed load j _ _ w.1.ensures made.frees-at.ensures) _
+    start.requires.1)
+    (λ w.
+    w.1
+    ∙ unfree load _ j _ start.requires.1 made.frees-at.ensures
+    (sym asked.any-marked.ensures ∙ w.0.left))
+    c.if1.branch
 
 loop-again : tie.Need-loop-preserved invariant-loop decreases-loop
 loop-again c =
@@ -53,7 +90,7 @@ loop-again c =
     let loop = entry.loop in
     let L = view_of entry.before.args.load in (
       search rules,
-      filled-stored (largest_at smaller_costs L) loop.j 7 none_left _ loop.places loop.invariant.1 (worst c)
+      filled-stored (largest_at smallest_costs L) loop.j 7 none_left _ loop.places loop.invariant.1 (worst c)
           (omega arith),
     )
 
@@ -63,8 +100,8 @@ returns c =
     let L = view_of c.before.before.args.load in
     let e : c.before.loop.j ≡ 7 = omega arith in
     c.before.loop.invariant.1
-    ∙ ap (λ j. filled (largest_at smaller_costs L) j 7 none_left) e
-    ∙ filled-all (largest_at smaller_costs L) 7 none_left
+    ∙ ap (λ j. filled (largest_at smallest_costs L) j 7 none_left) e
+    ∙ filled-all (largest_at smallest_costs L) 7 none_left
 
 pub place-waits-spec : {M : Type 1} → statement M
 place-waits-spec =
@@ -73,8 +110,11 @@ place-waits-spec =
     invariant-loop
     decreases-loop
     (λ c. (search rules, sym (filled_none _ 7 none_left)))
-    (λ c κs. (few c, search rules))
-    (λ c κs. few c.before.before.before)
+    (λ c. search rules)
+    (λ c κs. few c)
+    (λ c κs. omega (arith, few c.before.before, c.before.before.before.before.requires.1))
+    (λ c κs. (few c.before.before.before.before, search rules))
+    largest-left-requires
     (λ c. search rules)
     (λ c. search rules)
     (λ c. search rules)
