@@ -2,6 +2,8 @@
 // refused by the load's own numbers, by a state that does not have the load's shape (10), and with
 // the clock full (11); a run by the load's own numbers alone, and one that is written by its file's
 // and by an output that is too short (9).
+#![tactic(auto)]
+
 mod boards;
 mod files;
 mod lamps;
@@ -20,7 +22,7 @@ pub use state::fresh;
 
 // A bench state: its clock, and per row the steps finished, the moment the last of them ended, and
 // the start of an open window's first step. Places for rows that the load does not have are 0.
-#[derive(Drop)]
+#[derive(Clone, Copy)]
 pub struct Bench {
     pub clock: u32,
     pub finished: [u8; MOST_ROWS],
@@ -29,7 +31,7 @@ pub struct Bench {
 }
 
 // What a move hands back: the next bench, the answer, the lamp word, and the count of its ones.
-#[derive(Drop)]
+#[derive(Clone, Copy)]
 pub struct Moved {
     pub bench: Bench,
     pub outcome: Outcome,
@@ -39,7 +41,7 @@ pub struct Moved {
 
 // What a run hands back: the finding on the load, how many slots there are, and the slots in order.
 // Places past the last slot are zero.
-#[derive(Drop)]
+#[derive(Clone, Copy)]
 pub struct Ran {
     pub answer: Checked,
     pub count: usize,
@@ -47,7 +49,7 @@ pub struct Ran {
 }
 
 // What a start gives: its slot, and the moment at which the step ends.
-#[derive(Drop)]
+#[derive(Clone, Copy)]
 pub(crate) struct Started {
     pub slot: Slot,
     pub end: u32,

@@ -1,6 +1,8 @@
 // The program that says whom to blame: reads a load file from standard input, and prints the lines
 // of its load with the place and row that hold each row up, or `refused` and the number. A failed
 // read counts as the input's end; a failed write is said on standard error.
+#![tactic(auto)]
+
 ghost use Rattle.std.specs.Prelude.{◌≤◌, length};
 ghost use Rattle.blame.specs.Program.{Answer};
 

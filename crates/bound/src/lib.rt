@@ -2,6 +2,8 @@
 // place. Each call takes a load in memory and checks it once; a refusal comes with bound 0, margins
 // that are all 0, the verdict no, and blames and W's that are all 0 and 0. One look at an accepted
 // load gives all of them.
+#![tactic(auto)]
+
 mod answers;
 mod blames;
 mod bounds;
@@ -23,35 +25,35 @@ use rules::{Blame, LargestW, MOST_PLACES};
 use waits::place_waits;
 
 // What the check of a load finds, and the largest W of each place; all 0 and 0 with a refusal.
-#[derive(Drop)]
+#[derive(Clone, Copy)]
 pub struct PlaceWaits {
     pub answer: Checked,
     pub places: [LargestW; MOST_PLACES],
 }
 
 // What the check of a load finds, and the load's bound; 0 with a refusal.
-#[derive(Drop)]
+#[derive(Clone, Copy)]
 pub struct Bounded {
     pub answer: Checked,
     pub bound: u32,
 }
 
 // What the check of a load finds, and the margins; all 0 with a refusal.
-#[derive(Drop)]
+#[derive(Clone, Copy)]
 pub struct Margined {
     pub answer: Checked,
     pub margins: [i32; MOST_ROWS],
 }
 
 // What the check of a load finds, and the verdict; no with a refusal.
-#[derive(Drop)]
+#[derive(Clone, Copy)]
 pub struct Judged {
     pub answer: Checked,
     pub verdict: bool,
 }
 
 // What the check of a load finds, the margins, and whom each row blames; all 0 with a refusal.
-#[derive(Drop)]
+#[derive(Clone, Copy)]
 pub struct Blamed {
     pub answer: Checked,
     pub margins: [i32; MOST_ROWS],
@@ -60,7 +62,7 @@ pub struct Blamed {
 
 // What the check of a load finds, and bound, margins, verdict and blames; 0, all 0, no and all 0
 // with a refusal.
-#[derive(Drop)]
+#[derive(Clone, Copy)]
 pub struct Answered {
     pub answer: Checked,
     pub bound: u32,

@@ -1,1 +1,2 @@
 // Mathematics only: sums, counts, sorting and searches over the numbers below n. No code.
+#![tactic(auto)]

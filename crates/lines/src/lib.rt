@@ -1,6 +1,8 @@
 // What is printed for a load file, as bytes: the program's lines, or those of the program that says
 // whom to blame, which differ in their row lines alone. What is wrong with the file is printed, so
 // the only refusal is that the lent output is too short (9).
+#![tactic(auto)]
+
 mod gather;
 mod line;
 mod word;
@@ -25,7 +27,7 @@ use words::overwrite;
 pub const TEXT_PLACES: usize = 9053;
 
 // What is printed: so many bytes, and 0 in the places past them.
-#[derive(Drop)]
+#[derive(Clone, Copy)]
 pub struct Text {
     pub length: usize,
     pub bytes: [u8; TEXT_PLACES],

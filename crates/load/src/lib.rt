@@ -1,5 +1,7 @@
 // A load held in memory, by value. Identifiers and box numbers come from separate registers, so
 // each has a type of its own, and a row cannot be built with the two exchanged.
+#![tactic(auto)]
+
 mod chains;
 mod check;
 mod faults;
@@ -22,22 +24,22 @@ pub use taken::{box_taken, identifier_taken};
 pub use windows::embedded_at;
 
 // A logger's identifier, 1 to 4,294,967,295; the last is the factory's, and no row may have it.
-#[derive(Drop)]
+#[derive(Clone, Copy)]
 pub struct Identifier(pub u32);
 
 // A box's number, 1 to 4,294,967,295.
-#[derive(Drop)]
+#[derive(Clone, Copy)]
 pub struct BoxNumber(pub u32);
 
 // A step: its cost, and the wait that follows it.
-#[derive(Drop)]
+#[derive(Clone, Copy)]
 pub struct Step {
     pub cost: u16,
     pub wait: u16,
 }
 
 // A window: its first and last step, counted from 1, and its limit.
-#[derive(Drop)]
+#[derive(Clone, Copy)]
 pub struct Window {
     pub first: u8,
     pub last: u8,
@@ -46,7 +48,7 @@ pub struct Window {
 
 // A row: `steps` of the places of `step` are used, and `windows` of those of `window`; the others
 // are zero. Higher classes go first among equals; the head is 1 for now.
-#[derive(Drop)]
+#[derive(Clone, Copy)]
 pub struct Row {
     pub identifier: Identifier,
     pub box_number: BoxNumber,
@@ -62,7 +64,7 @@ pub struct Row {
 
 // A load: `rows` of the places of `row` are used; the others are zero. The places stand first, as a
 // gap before them would have them copied once more where a file is read.
-#[derive(Drop)]
+#[derive(Clone, Copy)]
 pub struct Load {
     pub row: [Row; MOST_ROWS],
     pub rows: u8,

@@ -24,7 +24,7 @@ use refusals::{Checked, Refusal};
 
 // What reading a row gives: the refusal that comes first, or Good and the row. A refused row is the
 // row of zeros.
-#[derive(Drop)]
+#[derive(Clone, Copy)]
 pub struct RowReading {
     pub answer: Checked,
     pub row: Row,

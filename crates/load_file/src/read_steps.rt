@@ -16,7 +16,7 @@ use load_records::{STEP_MARK, STEP_SIZE};
 use refusals::Checked;
 
 // What reading a row's steps gives: the refusal that comes first, or Good and the steps.
-#[derive(Drop)]
+#[derive(Clone, Copy)]
 pub struct StepsReading {
     pub answer: Checked,
     pub step: [Step; MOST_STEPS],

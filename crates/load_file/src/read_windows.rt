@@ -16,7 +16,7 @@ use load_records::{WINDOW_MARK, WINDOW_SIZE};
 use refusals::Checked;
 
 // What reading a row's windows gives: the refusal that comes first, or Good and the windows.
-#[derive(Drop)]
+#[derive(Clone, Copy)]
 pub struct WindowsReading {
     pub answer: Checked,
     pub window: [Window; MOST_WINDOWS],

@@ -2,6 +2,8 @@
 // of its load in version 1, which carries all that a sheet does. A sheet that is too long, or
 // refused, writes nothing, and is told on standard error. A failed read counts as the input's end;
 // a failed write is said on standard error.
+#![tactic(auto)]
+
 ghost use Rattle.std.specs.Prelude.{◌≤◌, length};
 ghost use Rattle.load_records.specs.Records.{most_file_bytes};
 ghost use Rattle.sheet.specs.Inputs.{Places, IsLong};

@@ -1,6 +1,8 @@
 // The records of a load file: those of a row, and writing a load as its file, in version 1 and in
 // version 2. A load to be written is refused with its own numbers, with 22 where version 1 does not
 // carry it, or with 9.
+#![tactic(auto)]
+
 mod records;
 mod rows;
 mod writing;
@@ -13,7 +15,7 @@ pub use rows::row_records;
 pub use writing::{version_1_size, version_2_size, write_version_1, write_version_2};
 
 // The records of a row: so many bytes, and 0 in the places behind them.
-#[derive(Drop)]
+#[derive(Clone, Copy)]
 pub struct RowRecords {
     pub length: usize,
     pub bytes: [u8; MOST_ROW_BYTES],

@@ -1,5 +1,7 @@
 // What is looked up of the rows of a load, and the search for the first candidate that passes the
 // stacking plan. Nothing is refused: each call says what it makes of numbers that no load has.
+#![tactic(auto)]
+
 mod boards;
 mod choices;
 mod lookups;
@@ -25,7 +27,7 @@ pub use parts::{COUNT_PLACES, FINISHED, LENGTH_PLACES, MOMENT_PLACES, OPENED, ST
 // and the moment from which that may start; whether a window is open, what is left of it, and when
 // it is due; and, once the next step is over, the wait after it, whether a window is open then,
 // what is left of that, and its limit.
-#[derive(Drop)]
+#[derive(Clone, Copy)]
 pub struct Look {
     pub finished: u8,
     pub steps: u8,
@@ -42,14 +44,14 @@ pub struct Look {
 }
 
 // The row whose next step starts, and the moment at which it does.
-#[derive(Drop)]
+#[derive(Clone, Copy)]
 pub struct Chosen {
     pub row: usize,
     pub moment: u32,
 }
 
 // The rows with an open window, in the order of the stack: the first `count` places count.
-#[derive(Drop)]
+#[derive(Clone, Copy)]
 pub(crate) struct Order {
     pub row: [u8; MOST_ROWS],
     pub count: usize,
@@ -57,7 +59,7 @@ pub(crate) struct Order {
 
 // What a turn of the sweep has come to: the row that starts the soonest of those asked so far, the
 // moment at which it does, and the next turn.
-#[derive(Drop)]
+#[derive(Clone, Copy)]
 pub(crate) struct Swept {
     pub row: usize,
     pub moment: u32,
@@ -65,14 +67,14 @@ pub(crate) struct Swept {
 }
 
 // What the plan has come to: the moment at which the windows gone over so far are finished.
-#[derive(Drop)]
+#[derive(Clone, Copy)]
 pub(crate) struct Plan {
     pub time: u64,
 }
 
 // What a walk over the open rows has come to: the place behind those that it went over, the moment
 // at which they are finished, the sum of what was left of them, and whether one was late.
-#[derive(Drop)]
+#[derive(Clone, Copy)]
 pub(crate) struct Walked {
     pub place: usize,
     pub time: u64,

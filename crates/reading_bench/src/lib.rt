@@ -2,6 +2,8 @@
 // is wrong with the file, 1 to 8 or 21; then 9, where the output is shorter than the answer; else
 // 0. A refusal alters no byte, and bytes past the answer stay. A refused file is looked at no
 // further.
+#![tactic(auto)]
+
 ghost use Rattle.reading_bench.specs.Calls.{Numbered, BenchBound, BenchVerdict};
 ghost use Rattle.reading_bench.specs.Calls.{BenchMargins, BenchSchedule};
 

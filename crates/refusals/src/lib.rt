@@ -1,8 +1,10 @@
 // What a call gives back when it does not do what it was asked: one refusal, with its number.
+#![tactic(auto)]
+
 ghost use Rattle.refusals.specs.Calls.{NumberOf, NumberGiven};
 
 // The refusals, in the order of their numbers.
-#[derive(Drop)]
+#[derive(Clone, Copy)]
 pub enum Refusal {
     FileShort,
     MarkDiffers,
@@ -29,7 +31,7 @@ pub enum Refusal {
 }
 
 // What a check finds: nothing to refuse, or the refusal that comes first.
-#[derive(Drop)]
+#[derive(Clone, Copy)]
 pub enum Checked {
     Good,
     Refused(Refusal),
@@ -37,7 +39,7 @@ pub enum Checked {
 
 // What a call gives that writes and tells a length: Good and the length of what was written, or the
 // refusal and 0.
-#[derive(Drop)]
+#[derive(Clone, Copy)]
 pub struct Written {
     pub answer: Checked,
     pub length: usize,

@@ -1,6 +1,8 @@
 // The program: reads a load file from standard input, and prints the lines of its load, or
 // `refused` and the number. A failed read counts as the input's end; a failed write is said on
 // standard error.
+#![tactic(auto)]
+
 ghost use Rattle.std.specs.Prelude.{◌≤◌, length};
 ghost use Rattle.report.specs.Program.{Answer};
 

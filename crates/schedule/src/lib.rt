@@ -1,5 +1,7 @@
 // The check of a schedule. The slots are lent as a slice of slot records, or held in an array of
 // 256 places, of which the first so many count.
+#![tactic(auto)]
+
 mod check;
 mod found;
 mod seen;

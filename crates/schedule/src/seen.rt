@@ -11,7 +11,7 @@ use refusals::{Checked, Refusal};
 
 // What the slots so far showed: what was found, when the last of them ends, how many each row has,
 // and when the slot of each step starts, eight places a row.
-#[derive(Drop)]
+#[derive(Clone, Copy)]
 pub struct Seen {
     pub found: Checked,
     pub end: u64,

@@ -1,6 +1,8 @@
 // The schedule file: writing one, and what it is made of. The slots are lent as a slice of slot
 // records, or held in an array of 256 places, of which the first so many count; or a caller has
 // them one by one, asks for the room, and writes the head and each record itself.
+#![tactic(auto)]
+
 mod array;
 mod records;
 mod write;

@@ -21,7 +21,7 @@ const MOST_BYTES: usize = HEADER_SIZE + SLOT_SIZE * MOST_SLOTS;
 const LAST_PLACE: usize = MOST_BYTES - SLOT_SIZE;
 
 // The bytes of a file that is gathered, and how many of them there are.
-#[derive(Drop)]
+#[derive(Clone, Copy)]
 pub struct Gathered {
     pub at: usize,
     pub bytes: [u8; MOST_BYTES],

@@ -1,6 +1,8 @@
 // Route sheets: a load read from comma-separated lines, one a step, and written as them. A sheet is
 // refused with 18, 19 or 20, or with its load's own numbers; a load to be written with its own
 // numbers, 22 or 9.
+#![tactic(auto)]
+
 mod fields;
 mod line_marks;
 mod lines;

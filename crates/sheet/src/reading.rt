@@ -16,7 +16,7 @@ use load_file::Reading;
 use refusals::{Checked, Refusal};
 
 // The first rows of a sheet, at most 24, and the place behind them.
-#[derive(Drop)]
+#[derive(Clone, Copy)]
 struct Kept {
     load: Load,
     next: usize,

@@ -18,7 +18,7 @@ use load::{MOST_STEPS, MOST_WINDOWS, Step, Window};
 use sheet_line::{Line, line_at};
 
 // The windows of a row: so many, and zeros in the places behind them.
-#[derive(Drop)]
+#[derive(Clone, Copy)]
 pub struct Windows {
     pub count: u8,
     pub window: [Window; MOST_WINDOWS],

@@ -13,14 +13,14 @@ use load::{BoxNumber, Identifier, MOST_STEPS, ONLY_HEAD, Row};
 use sheet_line::line_at;
 
 // A row, and the place behind its lines.
-#[derive(Drop)]
+#[derive(Clone, Copy)]
 pub struct RowRead {
     pub row: Row,
     pub next: usize,
 }
 
 // How many lines a row has, and the place behind them.
-#[derive(Drop)]
+#[derive(Clone, Copy)]
 struct Run {
     steps: usize,
     next: usize,

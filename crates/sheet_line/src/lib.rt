@@ -1,5 +1,7 @@
 // One line of a route sheet, both ways: what a line says, and the text of a step's line. No call
 // refuses.
+#![tactic(auto)]
+
 mod reading;
 mod signs;
 mod writing;
@@ -11,7 +13,7 @@ pub use writing::line_of;
 pub const MOST_LINE_BYTES: usize = 63;
 
 // What stands in a line's last field.
-#[derive(Drop)]
+#[derive(Clone, Copy)]
 pub enum Mark {
     Nothing,
     Dash,
@@ -19,7 +21,7 @@ pub enum Mark {
 }
 
 // What a line says. Its numbers have up to ten digits, more than a load's fields hold.
-#[derive(Drop)]
+#[derive(Clone, Copy)]
 pub struct Line {
     pub identifier: u64,
     pub box_number: u64,
@@ -31,7 +33,7 @@ pub struct Line {
 }
 
 // What stands at a place: whether it is a line, what it says, and where the next line stands.
-#[derive(Drop)]
+#[derive(Clone, Copy)]
 pub struct LineRead {
     pub is_line: bool,
     pub line: Line,
@@ -39,7 +41,7 @@ pub struct LineRead {
 }
 
 // The text of a line: so many bytes, and 0 in the places behind them.
-#[derive(Drop)]
+#[derive(Clone, Copy)]
 pub struct LineText {
     pub length: usize,
     pub bytes: [u8; MOST_LINE_BYTES],

@@ -9,7 +9,7 @@ use crate::{Line, LineRead, Mark};
 
 // What stands at a place: whether it is a number with a comma behind it, the number, and the place
 // behind the comma.
-#[derive(Drop)]
+#[derive(Clone, Copy)]
 pub struct Field {
     pub is_field: bool,
     pub value: u64,
@@ -18,7 +18,7 @@ pub struct Field {
 
 // What stands from a place on: whether it is the numbers of a line, the numbers, and the place
 // behind them.
-#[derive(Drop)]
+#[derive(Clone, Copy)]
 pub struct Fields {
     pub are_fields: bool,
     pub values: [u64; NUMBERS],
@@ -26,7 +26,7 @@ pub struct Fields {
 }
 
 // The mark at a place, and the place behind it.
-#[derive(Drop)]
+#[derive(Clone, Copy)]
 pub struct MarkRead {
     pub mark: Mark,
     pub next: usize,

@@ -2,6 +2,8 @@
 // of its load. A file that is too long, or refused, or has a class that is not 0, which no sheet
 // carries, writes nothing, and is told on standard error. A failed read counts as the input's end;
 // a failed write is said on standard error.
+#![tactic(auto)]
+
 ghost use Rattle.std.specs.Prelude.{◌≤◌, length};
 ghost use Rattle.sheet.specs.Writing.{most_sheet_bytes};
 ghost use Rattle.sheet.specs.Inputs.{Places, IsLong};

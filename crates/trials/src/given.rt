@@ -9,7 +9,7 @@ use refusals::number_given;
 
 // A load and the number of what its reading found, 0 for nothing; not whole where the question is
 // cut short, or the file too long.
-#[derive(Drop)]
+#[derive(Clone, Copy)]
 pub struct Given {
     pub is_whole: bool,
     pub found: u32,

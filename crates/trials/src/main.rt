@@ -3,6 +3,8 @@
 // and its bytes, with numbers little-endian; the module of a letter says which bytes, and what is
 // answered. What is no question, or one cut short, is answered by `bad`, and ends the program; so
 // does the input's end.
+#![tactic(auto)]
+
 mod blames;
 mod given;
 mod input;

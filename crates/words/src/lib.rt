@@ -1,6 +1,8 @@
 // Bytes and numbers: reading at any place, writing from any place on, the little-endian bytes of a
 // number, its two's complement and its decimal text. No call refuses: a byte past the end reads as
 // 0, and is not written.
+#![tactic(auto)]
+
 mod decimal;
 mod plain;
 
@@ -15,7 +17,7 @@ pub use plain::decimal_at;
 pub const WORD_PLACES: usize = 11;
 
 // A number as text: so many bytes, and 0 in the places past them.
-#[derive(Drop)]
+#[derive(Clone, Copy)]
 pub struct Word {
     pub length: usize,
     pub bytes: [u8; WORD_PLACES],
@@ -23,7 +25,7 @@ pub struct Word {
 
 // A number that was read as text: how many digits it has, none where no number stands there, and
 // what they spell.
-#[derive(Drop)]
+#[derive(Clone, Copy)]
 pub struct Digits {
     pub count: usize,
     pub value: u64,
