@@ -1,20 +1,45 @@
-use Rattle.std.proofs.Common.{rules, ◌≡◌, ℕ, ◌+◌, ◌-◌, ◌*◌, ◌<◌, ◌≤◌, length, ◌/◌, ◌%◌, Bool, true, false, nat_eq, nat_lt, List, [], ◌∷◌, ◌++◌, slice_index_or, slice_set, bit_and, bit_or, Fits, w8, w32, w64, Bor, MutBor}
-use Rattle.words.specs.PlainDecimal.{is_digit, digits_at, plain_at, value_at}
-use Rattle.words.specs.Calls.{DecimalAt}
+-- `words::plain::digit_run` passes a digit a turn, and stops at the first byte that is none, or behind eleven.
+use Prim.Native.Nat.{◌+◌, ◌-◌, ◌≤◌}
+use mathlib.Core.Path.{◌≡◌, ap, sym, ◌∙◌}
+use native.Mathlib.Nat.{zero-add}
+use native.Mathlib.Omega.{arith}
+use borrow.Author.Rules.{rules}
+use borrow.Author.Tests.{not-true, not-false}
+use Rattle.words.specs.LittleEndian.{byte_at}
+use Rattle.words.specs.PlainDecimal.{is_digit}
+use Rattle.words.proofs.DigitLaws.{Run, digits_at-is, run-next}
 use Rattle.words.proofs.plain.digit_run.Goals as goal
+use Rattle.words.proofs.plain.digit_run.Goals.{After-is_digit}
 
--- src/plain.rt:32:5
 pub loop-count-init : goal.loop-count-init
-loop-count-init c = ?
+loop-count-init c = (omega arith, λ d l. absurd (omega arith))
 
--- src/plain.rt:34:13
+-- what is asked in a turn is the byte behind the digits so far
+asked : (c : After-is_digit)
+    → let turn = c.before.before.before in
+    is_digit (byte_at turn.args.bytes.now (0 + turn.loop-count.count)) ≡ c.is_digit.result
+asked c =
+    let turn = c.before.before.before in
+    let place = ap (byte_at turn.args.bytes.now) (zero-add turn.loop-count.count) in
+    ap is_digit (place ∙ sym c.byte_at.ensures) ∙ sym c.is_digit.ensures
+
 pub returns-then-not-is_digit : goal.returns-then-not-is_digit
-returns-then-not-is_digit c = ?
+returns-then-not-is_digit c =
+    let turn = c.loop-count in
+    digits_at-is c.args.bytes.now 0 turn.count turn.invariant.0
+    turn.invariant.1
+    (λ _. asked (goal.at.returns-then-not-is_digit c).After-is_digit ∙ c.if-not-is_digit.true)
 
--- src/plain.rt:32:5
 pub loop-count-preserved : goal.loop-count-preserved
-loop-count-preserved c = ?
+loop-count-preserved c =
+    let turn = c.loop-count in (
+      omega arith,
+      run-next c.args.bytes.now 0 turn.count turn.invariant.1
+          (asked (goal.at.loop-count-preserved c).After-is_digit ∙ c.if-not-is_digit.false),
+    )
 
--- src/plain.rt:28:1
 pub returns : goal.returns
-returns c = ?
+returns c =
+    let turn = c.loop-count in
+    digits_at-is c.args.bytes.now 0 turn.count turn.invariant.0 turn.invariant.1
+    (λ l. absurd (omega arith))

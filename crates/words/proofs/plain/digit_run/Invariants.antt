@@ -1,11 +1,17 @@
-use Rattle.std.proofs.Common.{◌+◌, ◌-◌, ◌≡◌, ℕ, ◌*◌, ◌<◌, ◌≤◌, length}
-use Rattle.words.specs.PlainDecimal.{is_digit, digits_at, plain_at, value_at}
-use Rattle.words.specs.Calls.{DecimalAt}
+-- `words::plain::digit_run` passes a digit a turn, and stops at the first byte that is none, or behind eleven.
+use Prim.Native.Nat.{◌+◌, ◌-◌, ◌≤◌}
+use mathlib.Core.Path.{◌≡◌, ap, sym, ◌∙◌}
+use native.Mathlib.Nat.{zero-add}
+use native.Mathlib.Omega.{arith}
+use borrow.Author.Rules.{rules}
+use borrow.Author.Tests.{not-true, not-false}
+use Rattle.words.specs.LittleEndian.{byte_at}
+use Rattle.words.specs.PlainDecimal.{is_digit}
+use Rattle.words.proofs.DigitLaws.{Run, digits_at-is, run-next}
 use Rattle.words.proofs.plain.digit_run.Given as goal
 
 abbrev pub invariant-loop-count : goal.invariant-loop-count
-invariant-loop-count l = ?
+invariant-loop-count l = (l.count ≤ 11) × Run l.bytes 0 l.count
 
--- proposed from the loop's first test
 abbrev pub decreases-loop-count : goal.decreases-loop-count
-decreases-loop-count l = 10 + 1 - l.count
+decreases-loop-count l = 11 - l.count

@@ -7,20 +7,12 @@ use Rattle.refusals.specs.declared.Refusal.{Refusal}
 use Rattle.refusals.specs.declared.Checked.{Checked}
 use Rattle.refusals.specs.declared.Checked.TheVariants.{Refused}
 use Rattle.refusals.specs.Refusals.{number_of, number_given}
-use Rattle.refusals.proofs.number_given.Statement.{statement}
-use Rattle.refusals.proofs.number_given.Tie as tie
+use Rattle.refusals.proofs.number_given.Goals as goal
 
 -- the number of a finding that is told
 told : (n : ℕ) (found : Checked) (refusal : Refusal) → found ≡ Refused refusal → n ≡ number_of refusal
     → n ≡ number_given found
 told n found refusal e h = h ∙ ap number_given (sym e)
 
-pub number-given-spec : {M : Type 1} → statement M
-number-given-spec =
-    tie.close
-    (tie.spec
-    (λ c. search rules)
-    (λ c. search rules)
-    (λ c κs. search rules)
-    (λ c. search rules)
-    (λ c. search (rules, told)))
+pub returns-in-Refused : goal.returns-in-Refused
+returns-in-Refused c = search (rules, told)
