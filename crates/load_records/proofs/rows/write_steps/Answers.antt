@@ -17,7 +17,7 @@ pub loop-j-preserved : goal.loop-j-preserved
 loop-j-preserved c =
     let row = c.args.row in (
       search rules,
-      c.overwrite.auto.0 ∙ c.loop-j.invariant.1,
+      c.overwrite.auto.out ∙ c.loop-j.invariant.1,
       sets-same-next (λ j. step_record (step_at row j)) 6 (λ j. step_record-length (step_at row j)) _ _ _ _ _
           c.loop-j.j c.loop-j.invariant.2 c.step_record-record.ensures c.overwrite.ensures,
     )

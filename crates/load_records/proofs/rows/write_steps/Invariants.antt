@@ -17,7 +17,7 @@ abbrev pub invariant-loop-j : goal.invariant-loop-j
 invariant-loop-j l =
     (l.j ≤ l.row.steps)
     × (length l.out ≡ length l.initial.out)
-    × (l.out ≡ sets l.initial.out l.at (join_to (λ l.j. step_record (step_at l.row l.j)) l.j))
+    × (l.out ≡ sets l.initial.out l.at (join_to (λ j. step_record (step_at l.row j)) l.j))
 
 abbrev pub decreases-loop-j : goal.decreases-loop-j
 decreases-loop-j l = l.row.steps - l.j

@@ -17,7 +17,7 @@ pub loop-k-preserved : goal.loop-k-preserved
 loop-k-preserved c =
     let row = c.args.row in (
       search rules,
-      c.overwrite.auto.0 ∙ c.loop-k.invariant.1,
+      c.overwrite.auto.out ∙ c.loop-k.invariant.1,
       sets-same-next (λ k. window_record (window_at row k)) 6 (λ k. window_record-length (window_at row k)) _ _ _ _ _
           c.loop-k.k c.loop-k.invariant.2 c.window_record-record.ensures c.overwrite.ensures,
     )

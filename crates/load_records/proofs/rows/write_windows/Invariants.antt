@@ -17,7 +17,7 @@ abbrev pub invariant-loop-k : goal.invariant-loop-k
 invariant-loop-k l =
     (l.k ≤ l.row.windows)
     × (length l.out ≡ length l.initial.out)
-    × (l.out ≡ sets l.initial.out l.at (join_to (λ l.k. window_record (window_at l.row l.k)) l.k))
+    × (l.out ≡ sets l.initial.out l.at (join_to (λ k. window_record (window_at l.row k)) l.k))
 
 abbrev pub decreases-loop-k : goal.decreases-loop-k
 decreases-loop-k l = l.row.windows - l.k

@@ -17,8 +17,8 @@ loop-i-init c =
 pub overflow_add-size-in-loop-i : goal.overflow_add-size-in-loop-i
 overflow_add-size-in-loop-i c =
     let start = c.args in
-    let so_far = rows_bytes-length-le start.t2 c.requires start.version c.loop-i.i (omega arith) in
-    let row = row_bytes-length-le start.t2 c.requires c.loop-i.i (omega arith) start.version in
+    let so_far = rows_bytes-length-le start.load c.requires start.version c.loop-i.i (omega arith) in
+    let row = row_bytes-length-le start.load c.requires c.loop-i.i (omega arith) start.version in
     omega arith
 
 pub loop-i-preserved : goal.loop-i-preserved

@@ -59,7 +59,7 @@ loop-i-preserved c =
       search rules,
       search rules,
       omega arith,
-      c.overwrite.auto.0 ∙ c.loop-i.invariant.3,
+      c.overwrite.auto.out ∙ c.loop-i.invariant.3,
       sets-joined-next (λ i. row_bytes v (row_at load i)) _ _ _ 4 c.loop-i.at c.loop-i.i
           c.loop-i.invariant.2 c.loop-i.invariant.4
           (c.overwrite.ensures ∙ ap (sets _ c.loop-i.at) (taken (goal.at.loop-i-preserved c).After-records_in-records)),
@@ -67,8 +67,7 @@ loop-i-preserved c =
 
 pub returns : goal.returns
 returns c =
-    let e : c.loop-i.i ≡ c.args.load.rows = omega arith in
-    (rw e at c.loop-i.invariant.2, rw e at c.loop-i.invariant.4)
+    let e : c.loop-i.i ≡ c.args.load.rows = omega arith in record { value = rw e at c.loop-i.invariant.2; out_after = rw e at c.loop-i.invariant.4 }
 
 pub slice_bounds-bytes-end : goal.slice_bounds-bytes-end
 slice_bounds-bytes-end c = there (goal.at.slice_bounds-bytes-end c).After-records_in-records
