@@ -29,7 +29,7 @@ has : (c : Then-is_within)
     → in_window (shown c.args.j)
     c.window_at-window.result
     ≡ true
-has c = sym c.is_Within.ensures ∙ c.if-is_within.true
+has c = sym c.is_within.ensures ∙ c.if-is_within.true
 
 pub with_mark_in-requires : goal.with_mark_in-requires
 with_mark_in-requires c =
@@ -61,7 +61,7 @@ loop-k-preserved c =
     let start = c.args in
     let out =
     ap (in_window (shown start.j)) (sym c.window_at-window.ensures)
-    ∙ sym c.is_Within.ensures
+    ∙ sym c.is_within.ensures
     ∙ c.if-is_within.false in
     (search rules, c.loop-k.invariant.1 ∙ among_next start.row start.j c.loop-k.k (omega arith) out)
 

@@ -1,0 +1,64 @@
+-- `cut_blames` looks at one place a turn, keeps the worst so far, and stores it for the next number of steps.
+use Prim.Native.Nat.{◌+◌, ◌-◌, ◌≤◌}
+use mathlib.Core.List.{List}
+use mathlib.Core.Path.{◌≡◌, sym, ◌∙◌, ap}
+use mathlib.Core.Logic.{⊎_elim}
+use native.Mathlib.Omega.{arith}
+use borrow.Author.Rules.{rules}
+use lib.ListN.{replicate}
+use Rattle.counting.specs.Sums.{max_to}
+use Rattle.counting.specs.Lists.{filled}
+use Rattle.counting.proofs.sums.SumLaws.{max_to-zero}
+use Rattle.counting.proofs.lists.ListLaws.{filled_none, filled-stored, filled-all}
+use Rattle.rules.specs.declared.LargestW.{LargestW}
+use Rattle.rules.specs.Blame.{nobody, blame_among}
+use Rattle.rules.proofs.bound.BlameLaws.{blame_among-zero}
+use Rattle.bound.specs.inner.CutTerms.{place_in}
+use Rattle.bound.proofs.PlacesRead.{worse-turn, other-turn}
+use Rattle.bound.proofs.blames.cut_blames.Goals as goal
+
+-- below the first place nobody is blamed
+first : (places : List LargestW) → replicate 8 nobody ≡ filled (blame_among (place_in places)) 1 8 nobody
+first places =
+    filled-stored (blame_among (place_in places)) 0 8 nobody nobody (replicate 8 nobody) (sym (filled_none _ 8 nobody))
+    (blame_among-zero (place_in places)) (omega arith)
+
+pub loop-k-init : goal.loop-k-init
+loop-k-init c =
+    let places = c.args.places in
+    (search rules, search rules, sym (max_to-zero _), blame_among-zero (place_in places), first places)
+
+pub loop-k-preserved : goal.loop-k-preserved
+loop-k-preserved c =
+    let loop = c.loop-k in
+    let places = c.args.places in
+    let e : loop.k + 1 - 1 ≡ loop.k = omega arith in
+    let now : (c.if-most-place.most ≡ max_to (λ j. (place_in places j).left) loop.k)
+    × (c.if-most-place.worst ≡ blame_among (place_in places) loop.k) =
+    ⊎_elim
+    (λ w.
+    let turn = worse-turn places loop.k loop.most loop.invariant.0 loop.invariant.2 w.0.taken in
+    (w.2 ∙ turn.0, w.1 ∙ turn.1))
+    (λ w.
+    let turn =
+    other-turn places loop.k loop.most loop.invariant.0 loop.invariant.2 loop.worst loop.invariant.3
+    w.0.left
+    in
+    (w.2 ∙ turn.0, w.1 ∙ turn.1))
+    c.if-most-place.branch
+    in (
+      search rules,
+      search rules,
+      now.0 ∙ ap (max_to (λ j. (place_in places j).left)) (sym e),
+      now.1 ∙ ap (blame_among (place_in places)) (sym e),
+      filled-stored (blame_among (place_in places)) loop.k 8 nobody _ loop.blames loop.invariant.4 now.1
+          (omega arith),
+    )
+
+pub returns : goal.returns
+returns c =
+    let places = c.args.places in
+    let e : c.loop-k.k ≡ 8 = omega arith in
+    c.loop-k.invariant.4
+    ∙ ap (λ k. filled (blame_among (place_in places)) k 8 nobody) e
+    ∙ filled-all (blame_among (place_in places)) 8 nobody

@@ -1,0 +1,20 @@
+-- `costs_to` adds one cost a turn, each below 65,536.
+use Prim.Native.Nat.{◌*◌, ◌-◌, ◌≤◌}
+use mathlib.Core.Path.{◌≡◌, sym, ◌∙◌, ap}
+use native.Mathlib.Omega.{arith}
+use borrow.Author.Rules.{rules}
+use Rattle.counting.specs.Sums.{sum_to}
+use Rattle.counting.proofs.sums.SumLaws.{sum_to-zero, sum_to-next}
+use Rattle.load.specs.Load.{step_at}
+use Rattle.bound.proofs.cut.costs_to.Goals as goal
+
+pub loop-j-preserved : goal.loop-j-preserved
+loop-j-preserved c = (search rules, rw (sum_to-next, ← c.step_at-step.ensures) (omega arith), search rules)
+
+pub returns : goal.returns
+returns c =
+    let e : c.loop-j.j ≡ c.args.n = omega arith in
+    (c.loop-j.invariant.1 ∙ ap (sum_to (λ j. (step_at c.args.row j).cost)) e, omega arith)
+
+pub loop-j-init : goal.loop-j-init
+loop-j-init c = (search rules, sym (sum_to-zero _), search rules)

@@ -1,0 +1,23 @@
+-- `largest_phase` looks at one row a turn, and keeps the larger phase.
+use Prim.Native.Nat.{ℕ, ◌-◌, ◌≤◌}
+use mathlib.Core.Path.{◌≡◌, sym, ◌∙◌, ap}
+use mathlib.Core.Logic.{⊎_elim}
+use native.Mathlib.Omega.{arith}
+use borrow.Author.Rules.{rules}
+use Rattle.counting.specs.Sums.{max_to}
+use Rattle.counting.proofs.sums.SumLaws.{max_to-zero, max_to-next}
+use Rattle.load.specs.declared.Load.{Load}
+use Rattle.load.specs.Load.{row_at}
+use Rattle.load.specs.View.{view_of}
+use Rattle.rules.specs.Bound.{largest_phase}
+use Rattle.bound.proofs.AcceptedLaws.{accepted-few}
+use Rattle.bound.proofs.cut.largest_phase.Given as goal
+
+abbrev pub phase_at : Load → ℕ → ℕ
+phase_at load i = (row_at load i).phase
+
+abbrev pub invariant-loop-i : goal.invariant-loop-i
+invariant-loop-i l = (l.i ≤ l.rows) × (l.rows ≤ 24) × (l.most ≡ max_to (phase_at l.load) l.i)
+
+abbrev pub decreases-loop-i : goal.decreases-loop-i
+decreases-loop-i l = l.rows - l.i

@@ -1,0 +1,15 @@
+-- `waits_to` adds one embedded wait a turn, each below 65,536.
+use Prim.Native.Nat.{◌*◌, ◌-◌, ◌≤◌}
+use mathlib.Core.Path.{◌≡◌, sym, ◌∙◌, ap}
+use native.Mathlib.Omega.{arith}
+use borrow.Author.Rules.{rules}
+use Rattle.counting.specs.Sums.{sum_to}
+use Rattle.counting.proofs.sums.SumLaws.{sum_to-zero, sum_to-next}
+use Rattle.bound.specs.inner.CutTerms.{wait_in}
+use Rattle.bound.proofs.cut.waits_to.Given as goal
+
+abbrev pub invariant-loop-j : goal.invariant-loop-j
+invariant-loop-j l = (l.j ≤ l.n) × (l.sum ≡ sum_to (wait_in l.row) l.j) × (l.sum ≤ 65535 * l.j)
+
+abbrev pub decreases-loop-j : goal.decreases-loop-j
+decreases-loop-j l = l.n - l.j

@@ -1,0 +1,39 @@
+-- `count_marked` counts one row a turn.
+use Prim.Native.Nat.{◌-◌, ◌≤◌}
+use mathlib.Core.Bool.{Bool}
+use mathlib.Core.Path.{◌≡◌, sym, ◌∙◌, ap}
+use native.Mathlib.Omega.{arith}
+use borrow.Author.Rules.{rules}
+use Rattle.counting.specs.Sums.{count_to}
+use Rattle.counting.specs.Lists.{is_marked}
+use Rattle.counting.proofs.sums.SumLaws.{sum_to-zero, sum_to-next}
+use Rattle.bound.proofs.FlagLaws.{bool_byte-bit, bit_le}
+use Rattle.bound.proofs.smallest.count_marked.Goals as goal
+use Rattle.bound.proofs.smallest.count_marked.Goals.{In-loop-k, After-way_told-1}
+
+-- what a turn adds
+turn : (c : In-loop-k) → Bool
+turn c = is_marked c.args.marks.now c.loop-k.k
+
+pub overflow_add-count : goal.overflow_add-count
+unfolding turn
+overflow_add-count c = omega (arith, bool_byte-bit (turn (goal.at.overflow_add-count c).After-way_told-1), bit_le (turn (goal.at.overflow_add-count c).After-way_told-1))
+
+pub loop-k-preserved : goal.loop-k-preserved
+unfolding turn
+loop-k-preserved c = (
+  search rules,
+  rw sum_to-next (omega (arith, bool_byte-bit (turn (goal.at.loop-k-preserved c).After-way_told-1))),
+  omega (arith, bool_byte-bit (turn (goal.at.loop-k-preserved c).After-way_told-1), bit_le (turn (goal.at.loop-k-preserved c).After-way_told-1)),
+)
+
+pub returns : goal.returns
+returns c =
+    let e : c.loop-k.k ≡ c.args.n = omega arith in
+    (c.loop-k.invariant.1 ∙ ap (count_to (is_marked c.args.marks.now)) e, omega arith)
+
+pub loop-k-init : goal.loop-k-init
+loop-k-init c = (search rules, sym (sum_to-zero _), search rules)
+
+pub overflow_cast-count : goal.overflow_cast-count
+overflow_cast-count c = tt

@@ -1,0 +1,77 @@
+-- `sum_by` adds one row a turn, of a marked one both costs that are below t, and counts them; then t for each that is
+-- still missing of the r.
+use Prim.Native.Nat.{ℕ, ◌+◌, ◌*◌, ◌-◌, ◌≤◌}
+use mathlib.Core.Bool.{Bool}
+use mathlib.Core.List.{List}
+use mathlib.Core.Logic.{⊎_elim}
+use mathlib.Core.Path.{◌≡◌, sym, ◌∙◌, ap}
+use native.Mathlib.Nat.{mul-le-mul}
+use native.Mathlib.Omega.{arith}
+use borrow.Author.Rules.{rules}
+use Rattle.counting.specs.Lists.{is_marked}
+use Rattle.counting.proofs.sorting.PairLaws.{pairs_sum_below, pair_total-zero, pair_total-next, pairs_smallest-threshold}
+use Rattle.load.specs.declared.Load.{Load}
+use Rattle.bound.specs.inner.Marks.{cost_at}
+use Rattle.bound.proofs.MarkLaws.{costs_below}
+use Rattle.bound.proofs.smallest.sum_by.Goals as goal
+use Rattle.bound.proofs.smallest.sum_by.Goals.{After-loop-k}
+use Rattle.bound.proofs.smallest.sum_by.Invariants.{added}
+
+pub loop-k-preserved : goal.loop-k-preserved
+loop-k-preserved c = (
+  search rules,
+  rw pair_total-next
+      (⊎_elim (λ w. rw w.0.taken (omega arith)) (λ w. rw w.0.left (omega arith)) c.if-marks-k.branch),
+  rw pair_total-next
+      (⊎_elim (λ w. rw w.0.taken (omega arith)) (λ w. rw w.0.left (omega arith)) c.if-marks-k.branch),
+  ⊎_elim (λ w. omega arith) (λ w. omega arith) c.if-marks-k.branch,
+  ⊎_elim (λ w. omega arith) (λ w. omega arith) c.if-marks-k.branch,
+)
+
+-- every row is added
+all-added : (c : After-loop-k)
+    → let loop = c.loop-k in
+    let a = c.args in
+    (loop.below ≡ costs_below a.load a.j a.marks.now a.n a.t)
+    × (loop.sum ≡ added a.load a.j a.marks.now a.n a.t)
+all-added c =
+    let loop = c.loop-k in
+    let a = c.args in
+    let e : loop.k ≡ a.n = omega arith in (
+      loop.invariant.1 ∙ ap (λ k. costs_below a.load a.j a.marks.now k a.t) e,
+      loop.invariant.2 ∙ ap (λ k. added a.load a.j a.marks.now k a.t) e,
+    )
+
+-- at most r are below t
+enough : (c : After-loop-k) → c.loop-k.below ≤ c.args.r
+enough c =
+    omega (arith, (all-added c).0, c.requires.1, c.requires.4.below)
+
+-- what the missing ones add
+missing-le : (c : After-loop-k)
+    → (c.args.r - c.loop-k.below) * c.args.t ≤ 14400
+missing-le c =
+    mul-le-mul {n₂ = 24} {m₂ = 600} (omega (arith, c.requires.2, c.requires.0.few)) c.requires.3
+
+pub returns : goal.returns
+returns c =
+    let a = c.args in
+    let d : ℕ = a.r - c.loop-k.below in
+    omega (
+      arith,
+      (all-added c).1,
+      pairs_smallest-threshold (cost_at a.load a.j) (cost_at a.load (a.j + 1)) (is_marked a.marks.now) a.n
+          a.t d (omega (arith, (all-added c).0, enough c, c.requires.1)) c.requires.4.up_to,
+    )
+
+pub loop-k-init : goal.loop-k-init
+loop-k-init c = (search rules, sym (pair_total-zero _ _ _ _), sym (pair_total-zero _ _ _ _), search rules, search rules)
+
+pub overflow_sub-result : goal.overflow_sub-result
+overflow_sub-result c = omega (arith, enough c)
+
+pub overflow_mul-result : goal.overflow_mul-result
+overflow_mul-result c = omega (arith, missing-le c)
+
+pub overflow_add-result : goal.overflow_add-result
+overflow_add-result c = omega (arith, missing-le c)

@@ -1,0 +1,6 @@
+-- `step_in` reads the two numbers of the record.
+use borrow.Author.Rules.{rules}
+use Rattle.load_file.proofs.read_parts.step_in.Goals as goal
+
+pub returns : goal.returns
+returns c = rw (c.number16_at-2.ensures, c.number16_at.ensures)

@@ -1,0 +1,19 @@
+-- `first_passing` goes from one moment at which the step may pass to the next: before each it does not.
+use Prim.Native.Nat.{ℕ, ◌+◌, ◌-◌, ◌≤◌, ◌<◌}
+use mathlib.Core.Bool.{false}
+use mathlib.Core.Path.{◌≡◌}
+use native.Mathlib.Decide.{dec_lt}
+use native.Mathlib.Omega.{arith}
+use Rattle.load.specs.Load.{last_moment}
+use Rattle.plan.specs.Boards.{board_in, look_in}
+use Rattle.plan.specs.Choices.{passes_in}
+use Rattle.plan.proofs.soonest.first_passing.Given as goal
+
+abbrev pub invariant-loop-moment : goal.invariant-loop-moment
+invariant-loop-moment l =
+    (l.from ≤ l.moment)
+    × ((t : ℕ) → l.from ≤ t → t < l.moment → t + (look_in (board_in l.counts l.lengths l.moments) l.i).cost ≤ last_moment
+    → passes_in (board_in l.counts l.lengths l.moments) t l.rows l.i ≡ false)
+
+abbrev pub decreases-loop-moment : goal.decreases-loop-moment
+decreases-loop-moment l = l.before - l.moment

@@ -1,0 +1,33 @@
+-- `sweep` goes one class further a turn, and one step number further a round: the rows gone over do not start before
+-- the soonest moment.
+use Prim.Native.Nat.{◌-◌, ◌≤◌}
+use mathlib.Core.Logic.{⊎_elim}
+use mathlib.Core.Path.{◌≡◌, subst}
+use native.Mathlib.Omega.{arith}
+use borrow.Author.Rules.{rules}
+use Rattle.load.specs.Load.{most_steps}
+use Rattle.plan.specs.Boards.{Board, board_in}
+use Rattle.plan.specs.inner.Turns.{PassedTo, SweptTo}
+use Rattle.plan.proofs.SweepLaws.{passed-begin, passed-number, passed-unmarked}
+use Rattle.plan.proofs.SweptLaws.{swept-first, swept-to}
+use Rattle.plan.proofs.sweeping.sweep.Given as goal
+
+abbrev pub invariant-loop-turn : goal.invariant-loop-turn
+invariant-loop-turn l =
+    SweptTo (board_in l.counts l.lengths l.moments) l.classes l.clock l.before l.rows
+    (PassedTo (board_in l.counts l.lengths l.moments) l.classes l.rows l.number l.turn) l.row l.soonest
+
+abbrev pub decreases-loop-turn : goal.decreases-loop-turn
+decreases-loop-turn l =
+    4 - l.turn
+
+abbrev pub invariant-loop-number : goal.invariant-loop-number
+invariant-loop-number l =
+    (l.lowest ≤ l.number)
+    × (l.number ≤ 8)
+    × SweptTo (board_in l.counts l.lengths l.moments) l.classes l.clock l.before l.rows
+    (PassedTo (board_in l.counts l.lengths l.moments) l.classes l.rows l.number 0) l.row l.soonest
+
+abbrev pub decreases-loop-number : goal.decreases-loop-number
+decreases-loop-number l =
+    8 - l.number
