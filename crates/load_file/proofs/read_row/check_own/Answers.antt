@@ -9,7 +9,7 @@ use Rattle.load_file.specs.Places.{load_in}
 use Rattle.load_file.specs.inner.ReadingSteps.{RowsBefore, fields_fault}
 use Rattle.load_file.proofs.faults.ReadingLaws.{behind-refused, behind-good, identifier_taken-before, box_taken-before}
 use Rattle.load_file.proofs.read_row.check_own.Goals as goal
-use Rattle.load_file.proofs.read_row.check_own.Goals.{In-Good, After-identifier_taken-arg-1, After-identifier_taken, Else-identifier_taken, After-box_taken}
+use Rattle.load_file.proofs.read_row.check_own.Goals.{In-Good, After-identifier_taken, After-box_taken}
 
 pub returns-in-Refused : goal.returns-in-Refused
 unfolding fields_fault
@@ -19,7 +19,7 @@ returns-in-Refused c bs before =
     c.check_fields.ensures
     c.in-Refused.is
 
--- behind its own c.before.before, 4 and 5 are left
+-- behind its own fields, 4 and 5 are left
 passed : (c : In-Good) (bs : List ℕ)
     → let start = c.args in
     first_met (taken_tests (load_in bs) start.i start.row) ≡ fields_fault bs start.i start.row
@@ -52,22 +52,22 @@ box-asked c bs before =
 pub returns-then-identifier_taken : goal.returns-then-identifier_taken
 unfolding taken_tests
 returns-then-identifier_taken c bs before =
-    simp (sym (identifier-asked (goal.at.returns-then-identifier_taken c).After-identifier_taken bs before) ∙ c.if-identifier_taken.true) at (passed (goal.at.returns-then-identifier_taken c).After-identifier_taken-arg-1 bs)
+    simp (sym (identifier-asked (goal.at.returns-then-identifier_taken c).After-identifier_taken bs before) ∙ c.if-identifier_taken.true) at (passed (goal.at.returns-then-identifier_taken c).In-Good bs)
 
 pub returns-then-box_taken : goal.returns-then-box_taken
 unfolding taken_tests
 returns-then-box_taken c bs before =
     simp (
-      sym (identifier-asked (goal.at.returns-then-box_taken c).Else-identifier_taken bs before) ∙ c.if-identifier_taken.false,
+      sym (identifier-asked (goal.at.returns-then-box_taken c).After-identifier_taken bs before) ∙ c.if-identifier_taken.false,
       sym (box-asked (goal.at.returns-then-box_taken c).After-box_taken bs before) ∙ c.if-box_taken.true,
     ) at
-    (passed (goal.at.returns-then-box_taken c).After-identifier_taken bs)
+    (passed (goal.at.returns-then-box_taken c).In-Good bs)
 
 pub returns : goal.returns
 unfolding taken_tests
 returns c bs before =
     simp (
-      sym (identifier-asked (goal.at.returns c).Else-identifier_taken bs before) ∙ c.if-identifier_taken.false,
+      sym (identifier-asked (goal.at.returns c).After-identifier_taken bs before) ∙ c.if-identifier_taken.false,
       sym (box-asked (goal.at.returns c).After-box_taken bs before) ∙ c.if-box_taken.false,
     ) at
-    (passed (goal.at.returns c).After-identifier_taken bs)
+    (passed (goal.at.returns c).In-Good bs)

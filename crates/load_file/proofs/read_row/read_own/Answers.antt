@@ -34,7 +34,7 @@ due-found c =
     let start = c.before.before.before.before in
     c.check_due.ensures
     ∙ ap (λ n. first_met (due_tests (kind_of (0x52 ∷ 0x57 ∷ []) n) start.args.bytes.now start.args.at))
-    start.requires.0.1
+    start.requires.at_bound.1
 
 pub returns-then-bytes-at : goal.returns-then-bytes-at
 returns-then-bytes-at c =

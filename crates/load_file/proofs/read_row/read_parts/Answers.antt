@@ -66,7 +66,7 @@ module _ (c : In-Good) where
 pub overflow_add-behind : goal.overflow_add-behind
 overflow_add-behind c =
     let start = begun (goal.at.overflow_add-behind c).In-Good in
-    omega (arith, few-steps start, size-le start, start.requires.0.0)
+    omega (arith, few-steps start, size-le start, start.requires.at_bound.0)
 
 pub read_windows-windows-requires : goal.read_windows-windows-requires
 read_windows-windows-requires c =
@@ -74,7 +74,7 @@ read_windows-windows-requires c =
       from_bound = (
         omega (arith, size-le start, few-steps start),
         ap₂ (λ n s. n + 6 * s) (steps-from start) (steps-said start),
-        steps-put _ start.args.at start.requires.1.0 (steps-are (goal.at.read_windows-windows-requires c).In-Good),
+        steps-put _ start.args.at start.requires.own_value.0 (steps-are (goal.at.read_windows-windows-requires c).In-Good),
       );
       count_value = (windows-said start, few-windows start);
     }
@@ -93,7 +93,7 @@ returns c =
     let h : windows_fault bs at ≡ Good = sym c.read_windows-windows.ensures.answer_value ∙ c.in-Good-found.is in
     let are = c.read_windows-windows.ensures.window_value c.in-Good-found.is
     ∙ ap₂ (windows_from bs) (ap₂ (λ n s. n + 6 * s) (steps-from start) (steps-said start)) (windows-said start) in
-    ap (λ row. record { answer = Good; row = row }) (windows-put bs at start.requires.1.0 (steps-are (goal.at.returns c).In-Good) are)
+    ap (λ row. record { answer = Good; row = row }) (windows-put bs at start.requires.own_value.0 (steps-are (goal.at.returns c).In-Good) are)
     ∙ read_parts-good bs at (rw (steps-good (goal.at.returns c).In-Good, h))
 
 pub overflow_add-from : goal.overflow_add-from

@@ -8,7 +8,7 @@ use Rattle.load_file.specs.Places.{version_said}
 use Rattle.load_file.specs.Reading.{own_fault}
 use Rattle.load_file.proofs.faults.ReadingLaws.{own-steps-le, own-windows-le, read_row-refused, read_row-parts}
 use Rattle.load_file.proofs.read_row.read_row.Goals as goal
-use Rattle.load_file.proofs.read_row.read_row.Goals.{After-row_size-size, After-read_own-own, In-Good, After-read_parts-arg-1}
+use Rattle.load_file.proofs.read_row.read_row.Goals.{After-row_size-size, In-Good}
 
 -- the own record has as many bytes as the version says
 sized : (c : After-row_size-size)
@@ -23,18 +23,18 @@ own-good c = sym c.read_own-own.ensures.answer_value ∙ c.in-Good.is
 pub read_parts-requires : goal.read_parts-requires
 read_parts-requires c =
     let bs = c.args.bytes.now in record {
-      at_bound = (c.requires.at_bound.0, sized (goal.at.read_parts-requires c).After-read_own-own);
+      at_bound = (c.requires.at_bound.0, sized (goal.at.read_parts-requires c).After-row_size-size);
       own_value = (
         c.read_own-own.ensures.row_value c.in-Good.is,
-        own-steps-le bs c.args.at c.args.i (own-good c),
-        own-windows-le bs c.args.at c.args.i (own-good c),
+        own-steps-le bs c.args.at c.args.i (own-good (goal.at.read_parts-requires c).In-Good),
+        own-windows-le bs c.args.at c.args.i (own-good (goal.at.read_parts-requires c).In-Good),
       );
     }
 
 pub returns-in-Good : goal.returns-in-Good
 returns-in-Good c =
     let start = c.args in
-    c.read_parts.ensures ∙ read_row-parts start.bytes.now start.at start.i (own-good (goal.at.returns-in-Good c).After-read_parts-arg-1)
+    c.read_parts.ensures ∙ read_row-parts start.bytes.now start.at start.i (own-good (goal.at.returns-in-Good c).In-Good)
 
 pub returns-in-Refused : goal.returns-in-Refused
 returns-in-Refused c =

@@ -33,7 +33,7 @@ found c =
     let start = c.before.before.before.before in
     c.check_step_at-answer.ensures
     ∙ step_fault-read start.args.bytes.now start.args.at start.args.from start.args.count c.loop-j.j
-    start.requires.0.1 start.requires.1.0 (omega arith)
+    start.requires.from_bound.1 start.requires.count_value.0 (omega arith)
 
 pub loop-j-preserved : goal.loop-j-preserved
 loop-j-preserved c =

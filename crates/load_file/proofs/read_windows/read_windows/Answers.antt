@@ -44,9 +44,9 @@ found c =
     first_met
     (due_tests window_kind bs (start.args.from + 6 * here)
     ++ window_numbers row (window_in bs (start.args.from + 6 * here)) c.loop-k.«before»))
-    start.requires.0.2
-    ∙ window_fault-read bs start.args.at start.args.from here c.loop-k.«before» start.requires.0.1
-    (omega (arith, start.requires.1.0))
+    start.requires.from_bound.2
+    ∙ window_fault-read bs start.args.at start.args.from here c.loop-k.«before» start.requires.from_bound.1
+    (omega (arith, start.requires.count_value.0))
     c.loop-k.invariant.4
 
 pub loop-k-preserved : goal.loop-k-preserved

@@ -34,13 +34,15 @@ returns-then-digits-eq0 c =
 module _ (c : Else-digits-eq0) where
   some : 0 < plain_at c.args.bytes.now
       c.args.place
-  some = let e = counted c.before.before in omega arith
+  some = let e : c.decimal_at-digits.result.count ≡ plain_at c.args.bytes.now c.args.place =
+      ap (λ (d : Digits). d.count) c.decimal_at-digits.ensures in omega arith
 
   inside : c.args.place + c.decimal_at-digits.result.count
       ≤ length c.args.bytes.now
   inside =
       let args = c.args in
-      let e = counted c.before.before in
+      let e : c.decimal_at-digits.result.count ≡ plain_at c.args.bytes.now c.args.place =
+      ap (λ (d : Digits). d.count) c.decimal_at-digits.ensures in
       omega (arith, plain_at-inside args.bytes.now args.place some)
 
 pub returns : goal.returns

@@ -24,7 +24,7 @@ module _ (c : Then-byte_at-eq-DASH) where
 pub overflow_add-result : goal.overflow_add-result
 overflow_add-result c =
     let args = c.args in
-    let returns-then-byte_at-eq-DASH = is c in
+    let e = is c in
     omega (arith, byte_inside args.bytes.now args.place (omega arith))
 
 pub returns-then-byte_at-eq-DASH : goal.returns-then-byte_at-eq-DASH
@@ -58,7 +58,8 @@ returns-then-digits-eq0 c =
 some : (c : Else-digits-eq0)
     → 0 < plain_at c.args.bytes.now
     c.args.place
-some c = let e = counted c.before.before in omega arith
+some c = let e : c.decimal_at-digits.result.count ≡ plain_at c.args.bytes.now c.args.place =
+    ap (λ (d : Digits). d.count) c.decimal_at-digits.ensures in omega arith
 
 pub overflow_add-result-2 : goal.overflow_add-result-2
 overflow_add-result-2 c =
