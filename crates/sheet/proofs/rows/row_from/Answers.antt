@@ -1,0 +1,53 @@
+-- `row_from` counts the row's lines, and reads the row where it has at most eight.
+use Prim.Native.Nat.{ℕ, ◌<◌, ◌≤◌}
+use mathlib.Core.List.{List}
+use mathlib.Core.Path.{◌≡◌, sym, ap, ap₂, ◌∙◌}
+use native.Mathlib.Omega.{arith}
+use borrow.Author.Rules.{rules}
+use Rattle.load.specs.Load.{most_steps}
+use Rattle.sheet.specs.Lines.{line_place, line_from}
+use Rattle.sheet.specs.SheetRows.{steps_from, row_of}
+use Rattle.sheet.specs.inner.Narrow.{narrow_row}
+use Rattle.sheet.proofs.trip.PlaceLaws.{steps_from-least}
+use Rattle.sheet.proofs.walk.RunLaws.{row-stands}
+use Rattle.sheet.proofs.walk.KeptLaws.{kept_row-short, kept_row-long}
+use Rattle.sheet.proofs.rows.row_from.Goals as goal
+use Rattle.sheet.proofs.rows.row_from.Goals.{After-run_from-run}
+
+-- the row's lines
+module _ (c : After-run_from-run) where
+  abbrev bs : List ℕ
+  bs = c.args.bytes.now
+
+  abbrev at : ℕ
+  at = c.args.at
+
+  steps-are : c.run_from-run.result.steps ≡ steps_from bs at
+  steps-are = ap (λ run. run.steps) c.run_from-run.ensures
+
+  next-is : c.run_from-run.result.next ≡ line_place bs at (steps_from bs at)
+  next-is = ap (λ run. run.next) c.run_from-run.ensures
+
+pub returns-then-steps-gt-MOST_STEPS : goal.returns-then-steps-gt-MOST_STEPS
+returns-then-steps-gt-MOST_STEPS c =
+    let l : most_steps < steps_from (bs (goal.at.returns-then-steps-gt-MOST_STEPS c).After-run_from-run) (at (goal.at.returns-then-steps-gt-MOST_STEPS c).After-run_from-run) = omega (arith, steps-are (goal.at.returns-then-steps-gt-MOST_STEPS c).After-run_from-run, c.if-steps-gt-MOST_STEPS.true) in
+    ap₂ (λ row next. record { row = row; next = next })
+    (c.zero_row-row.ensures ∙ sym (kept_row-long (line_from (bs (goal.at.returns-then-steps-gt-MOST_STEPS c).After-run_from-run) (at (goal.at.returns-then-steps-gt-MOST_STEPS c).After-run_from-run)) (steps_from (bs (goal.at.returns-then-steps-gt-MOST_STEPS c).After-run_from-run) (at (goal.at.returns-then-steps-gt-MOST_STEPS c).After-run_from-run)) l))
+    (next-is (goal.at.returns-then-steps-gt-MOST_STEPS c).After-run_from-run)
+
+pub row_of-row-requires : goal.row_of-row-requires
+row_of-row-requires c =
+    let pre = c.requires in
+    let e = steps-are (goal.at.row_of-row-requires c).After-run_from-run in (
+      (omega (arith, e, steps_from-least (bs (goal.at.row_of-row-requires c).After-run_from-run) (at (goal.at.row_of-row-requires c).After-run_from-run)), search rules),
+      (rw e (row-stands (bs (goal.at.row_of-row-requires c).After-run_from-run) (at (goal.at.row_of-row-requires c).After-run_from-run) pre), rw e pre.row-lines.marked),
+    )
+
+pub returns : goal.returns
+returns c =
+    let l : steps_from (bs (goal.at.returns c).After-run_from-run) (at (goal.at.returns c).After-run_from-run) ≤ most_steps = omega (arith, steps-are (goal.at.returns c).After-run_from-run, c.if-steps-gt-MOST_STEPS.false) in
+    ap₂ (λ row next. record { row = row; next = next })
+    (c.row_of-row.ensures
+    ∙ ap (λ steps. narrow_row (row_of (line_from (bs (goal.at.returns c).After-run_from-run) (at (goal.at.returns c).After-run_from-run)) steps)) (steps-are (goal.at.returns c).After-run_from-run)
+    ∙ sym (kept_row-short (line_from (bs (goal.at.returns c).After-run_from-run) (at (goal.at.returns c).After-run_from-run)) (steps_from (bs (goal.at.returns c).After-run_from-run) (at (goal.at.returns c).After-run_from-run)) l))
+    (next-is (goal.at.returns c).After-run_from-run)

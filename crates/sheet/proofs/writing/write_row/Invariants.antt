@@ -1,0 +1,35 @@
+-- `sheet::writing::write_row` writes line by line: after j turns the first j lines stand from the place on, and the
+-- place is the one behind them. A line has at most 63 bytes, so the place fits.
+use Prim.Native.Nat.{ℕ, ◌+◌, ◌-◌, ◌*◌, ◌≤◌}
+use mathlib.Core.List.{List}
+use mathlib.Core.Path.{◌≡◌, refl, ap, sym, ◌∙◌}
+use native.Mathlib.Omega.{arith}
+use borrow.Author.Rules.{rules}
+use lib.ListN.{length, length-append}
+use lib.Seq.{sets, length-take-le}
+use Rattle.counting.specs.Lists.{join_to}
+use Rattle.counting.proofs.lists.ListLaws.{join_to-zero, join_to-next}
+use Rattle.words.proofs.OverwriteLaws.{sets-joined-zero, sets-joined-next}
+use Rattle.load.specs.declared.Row.{Row}
+use Rattle.sheet_line.specs.LineText.{line_of, line_bytes}
+use Rattle.sheet_line.proofs.TextLaws.{text-length, text-taken, text-inside}
+use Rattle.sheet.specs.Writing.{row_lines}
+use Rattle.sheet.proofs.writing.write_row.Given as goal
+
+-- the line of step j, and the first n lines
+abbrev pub line : Row → ℕ → List ℕ
+line row j = line_bytes (line_of row j)
+
+abbrev pub lines : Row → ℕ → List ℕ
+lines row n = join_to (line row) n
+
+abbrev pub invariant-loop-j : goal.invariant-loop-j
+invariant-loop-j l =
+    (l.j ≤ l.row.steps)
+    × (l.place ≡ l.at + length (lines l.row l.j))
+    × (l.place ≤ l.at + 63 * l.j)
+    × (length l.out ≡ length l.initial.out)
+    × (l.out ≡ sets l.initial.out l.at (lines l.row l.j))
+
+abbrev pub decreases-loop-j : goal.decreases-loop-j
+decreases-loop-j l = l.row.steps - l.j
