@@ -21,7 +21,7 @@ returns-then-not-embedded_at c =
       from = loop.invariant.0;
       most = loop.invariant.1;
       before = loop.invariant.2;
-      returns-then-not-embedded_at = λ l. sym c.embedded_at.ensures ∙ c.if-not-embedded_at.true;
+      stop = λ l. sym c.embedded_at.ensures ∙ c.if-not-embedded_at.true;
     })
     ∙ ap (kept_from row) first.ensures
 
@@ -52,7 +52,7 @@ returns c =
       from = omega arith;
       most = omega arith;
       before = λ k from l. loop.invariant.2 k from (omega arith);
-      returns-then-not-embedded_at = λ l. absurd (omega arith);
+      stop = λ l. absurd (omega arith);
     })
     ∙ ap (kept_from row) first.ensures
 
