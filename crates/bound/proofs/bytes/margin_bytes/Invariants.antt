@@ -26,14 +26,6 @@ four margins i = little_endian 4 (twos_complement 32 (margin_in margins i))
 unfoldable pub blank : List ℕ
 blank = replicate 96 0
 
--- what is written is the row's four bytes
-pub written : (c : After-bytes32-four)
-    → c.bytes32-four.result ≡ four c.args.margins c.loop-i.i
-written c =
-    let fits = each_fits c.args.margins c.well_formed.0.0 c.loop-i.i c.well_formed.0.1.1 in
-    c.bytes32-four.ensures
-    ∙ ap (little_endian 4) (c.complement32.ensures ∙ ap (twos_complement 32) (to_z-of_z fits))
-
 abbrev pub invariant-loop-i : goal.invariant-loop-i
 invariant-loop-i l =
     (l.i ≤ 24) × (length l.bytes ≡ 96) × (l.bytes ≡ sets blank 0 (join_to (four l.margins) l.i))
