@@ -38,7 +38,7 @@ loop-i-init c = (search rules, refl, refl)
 -- what is written is the row's four bytes
 written : (c : After-bytes32-four) → c.bytes32-four.result ≡ four c.args.margins c.loop-i.i
 written c =
-    let fits = each_fits c.args.margins ? c.loop-i.i ? in
+    let fits = each_fits c.args.margins c.well_formed.0.0 c.loop-i.i c.well_formed.0.1.1 in
     c.bytes32-four.ensures
     ∙ ap (little_endian 4) (c.complement32.ensures ∙ ap (twos_complement 32) (to_z-of_z fits))
 
