@@ -8,7 +8,7 @@ use Rattle.counting.specs.Sums.{sum_to}
 use Rattle.counting.specs.Lists.{filled, member_at}
 use Rattle.counting.proofs.lists.ListLaws.{filled_none, filled-stored, filled-all, get_or-list_to}
 use Rattle.load.specs.View.{view_of}
-use Rattle.rules.specs.Bound.{largest_phase, largest_w, smallest_costs}
+use Rattle.rules.specs.Bound.{largest_w, smallest_costs}
 use Rattle.rules.specs.Blame.{place_waits}
 use Rattle.bound.specs.inner.CutTerms.{waits_below, bound_at}
 use Rattle.bound.proofs.AcceptedLaws.{cut-bound-is, cut-bound-le}

@@ -1,11 +1,11 @@
 -- `bound::margin_bytes` writes the four bytes of one row a turn, behind those of the rows before it.
-use Prim.Native.Nat.{ℕ, ◌+◌, ◌*◌, ◌-◌, ◌≤◌}
+use Prim.Native.Nat.{ℕ, ◌+◌, ◌*◌}
 use mathlib.Core.List.{List, [], ◌++◌, append-nil}
 use mathlib.Core.Path.{◌≡◌, refl, sym, ◌∙◌, ap}
 use native.Mathlib.Omega.{arith}
 use borrow.Author.Rules.{rules}
 use lib.IntN.{ℤ}
-use lib.ListN.{length, replicate, drop}
+use lib.ListN.{length, drop}
 use lib.Seq.{sets}
 use mir.Facts.{to_z-of_z}
 use Rattle.counting.specs.Lists.{join_to}

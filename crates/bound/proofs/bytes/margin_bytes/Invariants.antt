@@ -1,21 +1,14 @@
 -- `bound::margin_bytes` writes the four bytes of one row a turn, behind those of the rows before it.
-use Prim.Native.Nat.{ℕ, ◌+◌, ◌*◌, ◌-◌, ◌≤◌}
-use mathlib.Core.List.{List, [], ◌++◌, append-nil}
-use mathlib.Core.Path.{◌≡◌, refl, sym, ◌∙◌, ap}
-use native.Mathlib.Omega.{arith}
-use borrow.Author.Rules.{rules}
+use Prim.Native.Nat.{ℕ, ◌-◌, ◌≤◌}
+use mathlib.Core.List.{List}
+use mathlib.Core.Path.{◌≡◌}
 use lib.IntN.{ℤ}
-use lib.ListN.{length, replicate, drop}
+use lib.ListN.{length, replicate}
 use lib.Seq.{sets}
-use mir.Facts.{to_z-of_z}
 use Rattle.counting.specs.Lists.{join_to}
-use Rattle.counting.proofs.lists.ListLaws.{join_to-next, join_to-length-same}
 use Rattle.words.specs.LittleEndian.{little_endian}
 use Rattle.words.specs.TwosComplement.{twos_complement}
-use Rattle.words.proofs.LittleEndianLaws.{little_endian-length}
-use Rattle.words.proofs.OverwriteLaws.{sets_behind, sets-front}
-use Rattle.rules.specs.Margins.{margin_in, bytes_of_margins}
-use Rattle.bound.proofs.SignLaws.{each_fits}
+use Rattle.rules.specs.Margins.{margin_in}
 use Rattle.bound.proofs.bytes.margin_bytes.Given as goal
 
 -- the four bytes of row i

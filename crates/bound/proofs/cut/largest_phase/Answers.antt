@@ -1,12 +1,9 @@
 -- `largest_phase` looks at one row a turn, and keeps the larger phase.
-use Prim.Native.Nat.{ℕ, ◌-◌, ◌≤◌}
 use mathlib.Core.Path.{◌≡◌, sym, ◌∙◌, ap}
 use native.Mathlib.Omega.{arith}
 use borrow.Author.Rules.{rules}
 use Rattle.counting.specs.Sums.{max_to}
 use Rattle.counting.proofs.sums.SumLaws.{max_to-zero, max_to-next}
-use Rattle.load.specs.declared.Load.{Load}
-use Rattle.load.specs.Load.{row_at}
 use Rattle.load.specs.View.{view_of}
 use Rattle.rules.specs.Bound.{largest_phase}
 use Rattle.bound.proofs.AcceptedLaws.{accepted-few}

@@ -1,6 +1,6 @@
 -- `splitting_cost` halves the costs from low to high: at most r are below low, and at least r are at most high. Where
 -- the two meet is the cost. Between, one row a turn is counted.
-use Prim.Native.Nat.{◌+◌, ◌*◌, ◌-◌, ◌/◌, ◌≤◌}
+use Prim.Native.Nat.{◌+◌, ◌/◌}
 use mathlib.Core.Path.{◌≡◌, sym, ◌∙◌, ap}
 use native.Mathlib.Omega.{arith}
 use borrow.Author.Rules.{rules}

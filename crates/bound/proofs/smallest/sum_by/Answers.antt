@@ -1,15 +1,12 @@
 -- `sum_by` adds one row a turn, of a marked one both costs that are below t, and counts them; then t for each that is
 -- still missing of the r.
 use Prim.Native.Nat.{ℕ, ◌+◌, ◌*◌, ◌-◌, ◌≤◌}
-use mathlib.Core.Bool.{Bool}
-use mathlib.Core.List.{List}
 use mathlib.Core.Path.{◌≡◌, sym, ◌∙◌, ap}
 use native.Mathlib.Nat.{mul-le-mul}
 use native.Mathlib.Omega.{arith}
 use borrow.Author.Rules.{rules}
 use Rattle.counting.specs.Lists.{is_marked}
-use Rattle.counting.proofs.sorting.PairLaws.{pairs_sum_below, pair_total-zero, pair_total-next, pairs_smallest-threshold}
-use Rattle.load.specs.declared.Load.{Load}
+use Rattle.counting.proofs.sorting.PairLaws.{pair_total-zero, pair_total-next, pairs_smallest-threshold}
 use Rattle.bound.specs.inner.Marks.{cost_at}
 use Rattle.bound.proofs.MarkLaws.{costs_below}
 use Rattle.bound.proofs.smallest.sum_by.Goals as goal

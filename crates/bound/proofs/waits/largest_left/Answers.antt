@@ -1,13 +1,8 @@
 -- `largest_left` looks at one row a turn, and keeps the largest of what is left of the free waits.
-use Prim.Native.Nat.{ℕ, ◌+◌, ◌-◌, ◌≤◌}
-use mathlib.Core.Bool.{Bool}
-use mathlib.Core.List.{List}
 use mathlib.Core.Path.{◌≡◌, ◌∙◌, ap}
 use native.Mathlib.Omega.{arith}
 use borrow.Author.Rules.{rules}
-use Rattle.counting.proofs.sorting.PairLaws.{pairs_smallest}
-use Rattle.load.specs.declared.Load.{Load}
-use Rattle.bound.specs.inner.Marks.{cost_at, wait_at, is_other, left_in, largest_to}
+use Rattle.bound.specs.inner.Marks.{largest_to}
 use Rattle.bound.proofs.LargestLaws.{largest_to-zero, largest_to-turn, largest_to-skips}
 use Rattle.bound.proofs.waits.largest_left.Goals as goal
 use Rattle.bound.proofs.waits.largest_left.Goals.{then-frees-i, else-frees-i}

@@ -1,6 +1,6 @@
 -- `place_waits` stores the largest W of one place a turn: it marks the rows of the place and asks for the largest of
 -- what is left there, where some wait there is free.
-use Prim.Native.Nat.{ℕ, ◌+◌, ◌-◌, ◌≤◌}
+use Prim.Native.Nat.{ℕ, ◌+◌, ◌≤◌}
 use mathlib.Core.Bool.{Bool, false, ◌&&◌}
 use mathlib.Core.List.{List}
 use mathlib.Core.Path.{◌≡◌, sym, ◌∙◌, ap}
