@@ -29,6 +29,3 @@ returns c =
 
 pub loop-k-init : goal.loop-k-init
 loop-k-init c = (search rules, sym (sum_to-zero _), search rules)
-
-pub overflow_cast-count : goal.overflow_cast-count
-overflow_cast-count c = tt
