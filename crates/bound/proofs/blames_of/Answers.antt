@@ -1,5 +1,4 @@
 -- `bound::blames_of` gives what the load's answers have: the finding, and the margins and blames.
-use borrow.Author.Rules.{rules}
 use Rattle.bound.proofs.GoodLaws.{AnswersOf-blames}
 use Rattle.bound.proofs.blames_of.Goals as goal
 

@@ -1,6 +1,5 @@
 -- `bound::bound_of` checks the load; one that is not refused is acceptable, and its bound is given.
 use mathlib.Core.Path.{◌≡◌, refl, sym, ◌∙◌, ap}
-use borrow.Author.Rules.{rules}
 use Rattle.refusals.specs.declared.Checked.TheVariants.{Good}
 use Rattle.load.specs.Check.{check_load}
 use Rattle.load.proofs.AcceptableLaws.{check-acceptable}

@@ -1,6 +1,5 @@
 -- `bound::answers_of` checks the load; one that is not refused is acceptable, and what one look at it tells is given.
 use mathlib.Core.Path.{◌≡◌, refl, sym, ◌∙◌}
-use borrow.Author.Rules.{rules}
 use Rattle.refusals.specs.declared.Checked.TheVariants.{Good}
 use Rattle.load.specs.Check.{check_load}
 use Rattle.load.proofs.AcceptableLaws.{check-acceptable}

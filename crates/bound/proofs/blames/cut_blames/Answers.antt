@@ -1,8 +1,7 @@
 -- `cut_blames` looks at one place a turn, keeps the worst so far, and stores it for the next number of steps.
-use Prim.Native.Nat.{◌+◌, ◌-◌, ◌≤◌}
+use Prim.Native.Nat.{◌+◌, ◌-◌}
 use mathlib.Core.List.{List}
 use mathlib.Core.Path.{◌≡◌, sym, ◌∙◌, ap}
-use mathlib.Core.Logic.{⊎_elim}
 use native.Mathlib.Omega.{arith}
 use borrow.Author.Rules.{rules}
 use lib.ListN.{replicate}
@@ -16,6 +15,7 @@ use Rattle.rules.proofs.bound.BlameLaws.{blame_among-zero}
 use Rattle.bound.specs.inner.CutTerms.{place_in}
 use Rattle.bound.proofs.PlacesRead.{worse-turn, other-turn}
 use Rattle.bound.proofs.blames.cut_blames.Goals as goal
+use Rattle.bound.proofs.blames.cut_blames.Goals.{then-most-place, else-most-place}
 
 -- below the first place nobody is blamed
 first : (places : List LargestW) → replicate 8 nobody ≡ filled (blame_among (place_in places)) 1 8 nobody
@@ -35,17 +35,17 @@ loop-k-preserved c =
     let e : loop.k + 1 - 1 ≡ loop.k = omega arith in
     let now : (c.if-most-place.most ≡ max_to (λ j. (place_in places j).left) loop.k)
     × (c.if-most-place.worst ≡ blame_among (place_in places) loop.k) =
-    ⊎_elim
-    (λ w.
-    let turn = worse-turn places loop.k loop.most loop.invariant.0 loop.invariant.2 w.0.taken in
-    (w.2 ∙ turn.0, w.1 ∙ turn.1))
-    (λ w.
-    let turn =
-    other-turn places loop.k loop.most loop.invariant.0 loop.invariant.2 loop.worst loop.invariant.3
-    w.0.left
-    in
-    (w.2 ∙ turn.0, w.1 ∙ turn.1))
-    c.if-most-place.branch
+    elim c.if-most-place.branch [
+      | then-most-place w ↦
+          let turn = worse-turn places loop.k loop.most loop.invariant.0 loop.invariant.2 w.if-most-place.true in
+          (w.most-is ∙ turn.0, w.worst-is ∙ turn.1)
+      | else-most-place w ↦
+          let turn =
+          other-turn places loop.k loop.most loop.invariant.0 loop.invariant.2 loop.worst loop.invariant.3
+          w.if-most-place.false
+          in
+          (w.most-is ∙ turn.0, w.worst-is ∙ turn.1)
+    ]
     in (
       search rules,
       search rules,

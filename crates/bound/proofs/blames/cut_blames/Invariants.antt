@@ -1,20 +1,10 @@
 -- `cut_blames` looks at one place a turn, keeps the worst so far, and stores it for the next number of steps.
-use Prim.Native.Nat.{◌+◌, ◌-◌, ◌≤◌}
-use mathlib.Core.List.{List}
-use mathlib.Core.Path.{◌≡◌, sym, ◌∙◌, ap}
-use mathlib.Core.Logic.{⊎_elim}
-use native.Mathlib.Omega.{arith}
-use borrow.Author.Rules.{rules}
-use lib.ListN.{replicate}
+use Prim.Native.Nat.{◌-◌, ◌≤◌}
+use mathlib.Core.Path.{◌≡◌}
 use Rattle.counting.specs.Sums.{max_to}
 use Rattle.counting.specs.Lists.{filled}
-use Rattle.counting.proofs.sums.SumLaws.{max_to-zero}
-use Rattle.counting.proofs.lists.ListLaws.{filled_none, filled-stored, filled-all}
-use Rattle.rules.specs.declared.LargestW.{LargestW}
 use Rattle.rules.specs.Blame.{nobody, blame_among}
-use Rattle.rules.proofs.bound.BlameLaws.{blame_among-zero}
 use Rattle.bound.specs.inner.CutTerms.{place_in}
-use Rattle.bound.proofs.PlacesRead.{worse-turn, other-turn}
 use Rattle.bound.proofs.blames.cut_blames.Given as goal
 
 abbrev pub invariant-loop-k : goal.invariant-loop-k

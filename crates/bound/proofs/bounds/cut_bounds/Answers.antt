@@ -8,13 +8,13 @@ use Rattle.counting.specs.Sums.{sum_to}
 use Rattle.counting.specs.Lists.{filled, member_at}
 use Rattle.counting.proofs.lists.ListLaws.{filled_none, filled-stored, filled-all, get_or-list_to}
 use Rattle.load.specs.View.{view_of}
-use Rattle.rules.specs.Bound.{largest_phase, largest_w, smallest_costs}
+use Rattle.rules.specs.Bound.{largest_w, smallest_costs}
 use Rattle.rules.specs.Blame.{place_waits}
 use Rattle.bound.specs.inner.CutTerms.{waits_below, bound_at}
 use Rattle.bound.proofs.AcceptedLaws.{cut-bound-is, cut-bound-le}
 use Rattle.bound.proofs.PlacesRead.{waits_below-is}
 use Rattle.bound.proofs.bounds.cut_bounds.Goals as goal
-use Rattle.bound.proofs.bounds.cut_bounds.Goals.{After-kept_ticks, After-way_told-1}
+use Rattle.bound.proofs.bounds.cut_bounds.Goals.{After-kept_ticks}
 
 -- the terms that a turn adds
 total : (c : After-kept_ticks)
@@ -46,7 +46,7 @@ loop-k-preserved c =
     let L = view_of c.args.load in (
       search rules,
       loop.invariant.1,
-      filled-stored (bound_at L) loop.k 8 0 _ loop.bounds loop.invariant.2 (total (goal.at.loop-k-preserved c).After-way_told-1) (omega arith),
+      filled-stored (bound_at L) loop.k 8 0 _ loop.bounds loop.invariant.2 (total (goal.at.loop-k-preserved c).After-kept_ticks) (omega arith),
     )
 
 pub returns : goal.returns
@@ -62,4 +62,4 @@ pub overflow_add-bounds : goal.overflow_add-bounds
 overflow_add-bounds c = omega (arith, total c, small c)
 
 pub overflow_add-bounds-in-loop-k : goal.overflow_add-bounds-in-loop-k
-overflow_add-bounds-in-loop-k c = omega (arith, total (goal.at.overflow_add-bounds-in-loop-k c).After-way_told-1, small (goal.at.overflow_add-bounds-in-loop-k c).After-way_told-1)
+overflow_add-bounds-in-loop-k c = omega (arith, total (goal.at.overflow_add-bounds-in-loop-k c).After-kept_ticks, small (goal.at.overflow_add-bounds-in-loop-k c).After-kept_ticks)

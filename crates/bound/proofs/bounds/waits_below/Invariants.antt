@@ -1,16 +1,8 @@
 -- `waits_below` adds the largest W of one place a turn, and stores the sum at the next place.
-use Prim.Native.Nat.{◌+◌, ◌*◌, ◌-◌, ◌≤◌}
-use mathlib.Core.List.{List}
-use mathlib.Core.Path.{◌≡◌, refl, sym, ◌∙◌, ap}
-use native.Mathlib.Omega.{arith}
-use borrow.Author.Rules.{rules}
-use lib.ListN.{replicate}
-use Rattle.counting.specs.Sums.{sum_to}
-use Rattle.counting.specs.Lists.{join_to, filled}
-use Rattle.counting.proofs.sums.SumLaws.{sum_to-next}
-use Rattle.counting.proofs.lists.ListLaws.{filled-stored, filled-all}
-use Rattle.rules.specs.declared.LargestW.{LargestW}
-use Rattle.bound.specs.inner.CutTerms.{place_in, waits_below}
+use Prim.Native.Nat.{◌*◌, ◌-◌, ◌≤◌}
+use mathlib.Core.Path.{◌≡◌}
+use Rattle.counting.specs.Lists.{filled}
+use Rattle.bound.specs.inner.CutTerms.{waits_below}
 use Rattle.bound.proofs.bounds.waits_below.Given as goal
 
 abbrev pub invariant-loop-k : goal.invariant-loop-k

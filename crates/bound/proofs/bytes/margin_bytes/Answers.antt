@@ -1,11 +1,11 @@
 -- `bound::margin_bytes` writes the four bytes of one row a turn, behind those of the rows before it.
-use Prim.Native.Nat.{ℕ, ◌+◌, ◌*◌, ◌-◌, ◌≤◌}
+use Prim.Native.Nat.{ℕ, ◌+◌, ◌*◌}
 use mathlib.Core.List.{List, [], ◌++◌, append-nil}
 use mathlib.Core.Path.{◌≡◌, refl, sym, ◌∙◌, ap}
 use native.Mathlib.Omega.{arith}
 use borrow.Author.Rules.{rules}
 use lib.IntN.{ℤ}
-use lib.ListN.{length, replicate, drop}
+use lib.ListN.{length, drop}
 use lib.Seq.{sets}
 use mir.Facts.{to_z-of_z}
 use Rattle.counting.specs.Lists.{join_to}
@@ -18,7 +18,7 @@ use Rattle.rules.specs.Margins.{margin_in, bytes_of_margins}
 use Rattle.bound.proofs.SignLaws.{each_fits}
 use Rattle.bound.proofs.bytes.margin_bytes.Goals as goal
 use Rattle.bound.proofs.bytes.margin_bytes.Goals.{After-bytes32-four}
-use Rattle.bound.proofs.bytes.margin_bytes.Invariants.{blank, four, written}
+use Rattle.bound.proofs.bytes.margin_bytes.Invariants.{blank, four}
 
 four-length : (margins : List ℤ) (i : ℕ) → length (four margins i) ≡ 4
 four-length margins i = little_endian-length 4 (twos_complement 32 (margin_in margins i))
@@ -35,9 +35,15 @@ pub loop-i-init : goal.loop-i-init
 unfolding blank join_to
 loop-i-init c = (search rules, refl, refl)
 
+-- what is written is the row's four bytes
+written : (c : After-bytes32-four) → c.bytes32-four.result ≡ four c.args.margins c.loop-i.i
+written c =
+    let fits = each_fits c.args.margins c.well_formed.0.0 c.loop-i.i c.well_formed.0.1.1 in
+    c.bytes32-four.ensures
+    ∙ ap (little_endian 4) (c.complement32.ensures ∙ ap (twos_complement 32) (to_z-of_z fits))
+
 written-length : (c : After-bytes32-four) → length c.bytes32-four.result ≡ 4
-written-length c =
-    ap length (written c) ∙ four-length c.args.margins c.loop-i.i
+written-length c = ap length (written c) ∙ four-length c.args.margins c.loop-i.i
 
 -- the bytes of one row more
 more : (zs : List ℤ) (i : ℕ) (bytes : List ℕ) → bytes ≡ sets blank 0 (join_to (four zs) i)
@@ -55,7 +61,7 @@ loop-i-preserved c =
       search rules,
       c.overwrite.auto.out ∙ loop.invariant.1,
       c.overwrite.ensures
-          ∙ ap (sets loop.bytes (4 * loop.i)) (written four-made)
+          ∙ ap (sets loop.bytes (4 * loop.i)) (written (goal.at.loop-i-preserved c).After-bytes32-four)
           ∙ more zs loop.i loop.bytes loop.invariant.2,
     )
 

@@ -1,21 +1,14 @@
 -- `bound::margin_bytes` writes the four bytes of one row a turn, behind those of the rows before it.
-use Prim.Native.Nat.{ℕ, ◌+◌, ◌*◌, ◌-◌, ◌≤◌}
-use mathlib.Core.List.{List, [], ◌++◌, append-nil}
-use mathlib.Core.Path.{◌≡◌, refl, sym, ◌∙◌, ap}
-use native.Mathlib.Omega.{arith}
-use borrow.Author.Rules.{rules}
+use Prim.Native.Nat.{ℕ, ◌-◌, ◌≤◌}
+use mathlib.Core.List.{List}
+use mathlib.Core.Path.{◌≡◌}
 use lib.IntN.{ℤ}
-use lib.ListN.{length, replicate, drop}
+use lib.ListN.{length, replicate}
 use lib.Seq.{sets}
-use mir.Facts.{to_z-of_z}
 use Rattle.counting.specs.Lists.{join_to}
-use Rattle.counting.proofs.lists.ListLaws.{join_to-next, join_to-length-same}
 use Rattle.words.specs.LittleEndian.{little_endian}
 use Rattle.words.specs.TwosComplement.{twos_complement}
-use Rattle.words.proofs.LittleEndianLaws.{little_endian-length}
-use Rattle.words.proofs.OverwriteLaws.{sets_behind, sets-front}
-use Rattle.rules.specs.Margins.{margin_in, bytes_of_margins}
-use Rattle.bound.proofs.SignLaws.{each_fits}
+use Rattle.rules.specs.Margins.{margin_in}
 use Rattle.bound.proofs.bytes.margin_bytes.Given as goal
 
 -- the four bytes of row i
@@ -25,14 +18,6 @@ four margins i = little_endian 4 (twos_complement 32 (margin_in margins i))
 -- the output before it is written
 unfoldable pub blank : List ℕ
 blank = replicate 96 0
-
--- what is written is the row's four bytes
-pub written : (c : After-bytes32-four)
-    → c.bytes32-four.result ≡ four c.args.margins c.loop-i.i
-written c =
-    let fits = each_fits c.args.margins c.well_formed.0.0 c.loop-i.i c.well_formed.0.1.1 in
-    c.bytes32-four.ensures
-    ∙ ap (little_endian 4) (c.complement32.ensures ∙ ap (twos_complement 32) (to_z-of_z fits))
 
 abbrev pub invariant-loop-i : goal.invariant-loop-i
 invariant-loop-i l =

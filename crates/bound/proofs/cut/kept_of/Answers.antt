@@ -1,11 +1,8 @@
 -- `kept_of` goes on from the certain steps while they are embedded: where it stops is what the row keeps.
-use Prim.Native.Nat.{ℕ, ◌-◌, ◌≤◌, ◌<◌}
-use mathlib.Core.Bool.{true}
 use mathlib.Core.Path.{◌≡◌, sym, ◌∙◌, ap}
 use native.Mathlib.Decide.{ℕ_discrete}
 use native.Mathlib.Omega.{arith}
 use borrow.Author.Rules.{rules}
-use borrow.Author.Tests.{not-true, not-false}
 use Rattle.load.specs.View.{row_windows, embedded_among}
 use Rattle.bound.specs.inner.CutTerms.{kept_from}
 use Rattle.bound.proofs.KeptLaws.{kept_from-is}
@@ -21,7 +18,7 @@ returns-then-not-embedded_at c =
       from = loop.invariant.0;
       most = loop.invariant.1;
       before = loop.invariant.2;
-      returns-then-not-embedded_at = λ l. sym c.embedded_at.ensures ∙ c.if-not-embedded_at.true;
+      stop = λ l. sym c.embedded_at.ensures ∙ c.if-not-embedded_at.true;
     })
     ∙ ap (kept_from row) first.ensures
 
@@ -52,7 +49,7 @@ returns c =
       from = omega arith;
       most = omega arith;
       before = λ k from l. loop.invariant.2 k from (omega arith);
-      returns-then-not-embedded_at = λ l. absurd (omega arith);
+      stop = λ l. absurd (omega arith);
     })
     ∙ ap (kept_from row) first.ensures
 

@@ -1,15 +1,10 @@
 -- `kept_ticks` adds what one row keeps a turn, each at most 1,048,560.
 use Prim.Native.Nat.{ℕ, ◌*◌, ◌-◌, ◌≤◌}
-use mathlib.Core.Path.{◌≡◌, sym, ◌∙◌, ap}
-use native.Mathlib.Omega.{arith}
-use borrow.Author.Rules.{rules}
+use mathlib.Core.Path.{◌≡◌}
 use Rattle.counting.specs.Sums.{sum_to}
-use Rattle.counting.proofs.sums.SumLaws.{sum_to-zero, sum_to-next}
 use Rattle.load.specs.declared.Load.{Load}
 use Rattle.load.specs.Load.{row_at}
 use Rattle.bound.specs.inner.CutTerms.{ticks_of}
-use Rattle.bound.proofs.AcceptedLaws.{accepted-few, accepted-steps}
-use Rattle.bound.proofs.KeptLaws.{kept_ticks-is}
 use Rattle.bound.proofs.cut.kept_ticks.Given as goal
 
 -- what row i keeps

@@ -1,24 +1,21 @@
 -- `largest_phase` looks at one row a turn, and keeps the larger phase.
-use Prim.Native.Nat.{ℕ, ◌-◌, ◌≤◌}
 use mathlib.Core.Path.{◌≡◌, sym, ◌∙◌, ap}
-use mathlib.Core.Logic.{⊎_elim}
 use native.Mathlib.Omega.{arith}
 use borrow.Author.Rules.{rules}
 use Rattle.counting.specs.Sums.{max_to}
 use Rattle.counting.proofs.sums.SumLaws.{max_to-zero, max_to-next}
-use Rattle.load.specs.declared.Load.{Load}
-use Rattle.load.specs.Load.{row_at}
 use Rattle.load.specs.View.{view_of}
 use Rattle.rules.specs.Bound.{largest_phase}
 use Rattle.bound.proofs.AcceptedLaws.{accepted-few}
 use Rattle.bound.proofs.cut.largest_phase.Goals as goal
+use Rattle.bound.proofs.cut.largest_phase.Goals.{then-most-row, else-most-row}
 use Rattle.bound.proofs.cut.largest_phase.Invariants.{phase_at}
 
 pub loop-i-preserved : goal.loop-i-preserved
 loop-i-preserved c = (
   search rules,
   search rules,
-  rw max_to-next (⊎_elim (λ w. omega arith) (λ w. omega arith) c.if-most-row.branch),
+  rw max_to-next (elim c.if-most-row.branch [ then-most-row w ↦ omega arith | else-most-row w ↦ omega arith ]),
 )
 
 pub returns : goal.returns

@@ -1,16 +1,9 @@
 -- `largest_phase` looks at one row a turn, and keeps the larger phase.
 use Prim.Native.Nat.{ℕ, ◌-◌, ◌≤◌}
-use mathlib.Core.Path.{◌≡◌, sym, ◌∙◌, ap}
-use mathlib.Core.Logic.{⊎_elim}
-use native.Mathlib.Omega.{arith}
-use borrow.Author.Rules.{rules}
+use mathlib.Core.Path.{◌≡◌}
 use Rattle.counting.specs.Sums.{max_to}
-use Rattle.counting.proofs.sums.SumLaws.{max_to-zero, max_to-next}
 use Rattle.load.specs.declared.Load.{Load}
 use Rattle.load.specs.Load.{row_at}
-use Rattle.load.specs.View.{view_of}
-use Rattle.rules.specs.Bound.{largest_phase}
-use Rattle.bound.proofs.AcceptedLaws.{accepted-few}
 use Rattle.bound.proofs.cut.largest_phase.Given as goal
 
 abbrev pub phase_at : Load → ℕ → ℕ

@@ -1,10 +1,7 @@
 -- `waits_to` adds one embedded wait a turn, each below 65,536.
 use Prim.Native.Nat.{◌*◌, ◌-◌, ◌≤◌}
-use mathlib.Core.Path.{◌≡◌, sym, ◌∙◌, ap}
-use native.Mathlib.Omega.{arith}
-use borrow.Author.Rules.{rules}
+use mathlib.Core.Path.{◌≡◌}
 use Rattle.counting.specs.Sums.{sum_to}
-use Rattle.counting.proofs.sums.SumLaws.{sum_to-zero, sum_to-next}
 use Rattle.bound.specs.inner.CutTerms.{wait_in}
 use Rattle.bound.proofs.cut.waits_to.Given as goal
 

@@ -1,7 +1,6 @@
 -- `margin_of` subtracts two small numbers, so each is the same signed, and the difference fits.
 use mathlib.Core.Path.{◌≡◌}
 use native.Mathlib.Omega.{arith}
-use borrow.Author.Rules.{rules}
 use lib.IntN.{pos, ◌-ℤ◌}
 use mir.Facts.{to_z_pos, to_z-of_z}
 use mir.Syntax.{w32}

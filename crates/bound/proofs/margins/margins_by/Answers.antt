@@ -3,7 +3,7 @@ use Prim.Native.Nat.{ℕ, ◌+◌, ◌-◌, ◌≤◌}
 use mathlib.Core.Path.{◌≡◌, sym, ◌∙◌, ap}
 use native.Mathlib.Omega.{arith}
 use borrow.Author.Rules.{rules}
-use lib.IntN.{pos, ◌-ℤ◌}
+use lib.IntN.{ℤ, pos, ◌-ℤ◌}
 use mir.Facts.{to_z-of_z}
 use mir.Syntax.{w32}
 use mir.Val.{to_z, of_z}
@@ -19,7 +19,7 @@ use Rattle.bound.specs.inner.CutTerms.{bound_at}
 use Rattle.bound.proofs.AcceptedLaws.{accepted-few, accepted-steps, accepted-deadline, cut-bound-le}
 use Rattle.bound.proofs.SignLaws.{difference-fits}
 use Rattle.bound.proofs.margins.margins_by.Goals as goal
-use Rattle.bound.proofs.margins.margins_by.Goals.{In-loop-i, After-row-1, After-margin_of}
+use Rattle.bound.proofs.margins.margins_by.Goals.{In-loop-i}
 
 -- the load, and the row's place, of a turn
 abbrev load : In-loop-i → Load
@@ -53,15 +53,17 @@ unfolding row_bound
 small c = cut-bound-le (view_of (load c)) c.requires.0 ((view_of (load c)).steps (place c))
 
 -- the margin that is stored is the row's
-stored : (c : After-margin_of)
-    → to_z w32 (of_z w32 c.margin_of.result) ≡ margin (view_of (load c.before.before.before.before)) (place c.before.before.before.before)
+stored : (c : In-loop-i) (z : ℤ)
+    → z ≡ pos (row_at (load c) (place c)).deadline
+    -ℤ pos (member_at c.args.bounds.now ((row_at (load c) (place c)).steps - 1))
+    → to_z w32 (of_z w32 z) ≡ margin (view_of (load c)) (place c)
 unfolding margin view_of
-stored c =
-    let d = (row_at (load c.before.before.before.before) (place c.before.before.before.before)).deadline in
-    let e = c.margin_of.ensures ∙ ap (λ b. pos d -ℤ pos b) (read c.before.before.before.before) in
+stored c z made =
+    let d = (row_at (load c) (place c)).deadline in
+    let e = made ∙ ap (λ b. pos d -ℤ pos b) (read c) in
     ap (λ z. to_z w32 (of_z w32 z)) e
-    ∙ to_z-of_z (difference-fits d (row_bound (view_of (load c.before.before.before.before)) (place c.before.before.before.before)) (deadline c.before.before.before.before)
-    (omega (arith, small c.before.before.before.before)))
+    ∙ to_z-of_z (difference-fits d (row_bound (view_of (load c)) (place c)) (deadline c)
+    (omega (arith, small c)))
 
 pub loop-i-init : goal.loop-i-init
 loop-i-init c = (
@@ -72,15 +74,16 @@ loop-i-init c = (
 
 pub margin_of-requires : goal.margin_of-requires
 margin_of-requires c =
-    (deadline (goal.at.margin_of-requires c).After-row-1, omega (arith, read (goal.at.margin_of-requires c).After-row-1, small (goal.at.margin_of-requires c).After-row-1))
+    let turn = (goal.at.margin_of-requires c).In-loop-i in (deadline turn, omega (arith, read turn, small turn))
 
 pub loop-i-preserved : goal.loop-i-preserved
 loop-i-preserved c =
+    let turn = (goal.at.loop-i-preserved c).In-loop-i in
     let loop = c.loop-i in (
       search rules,
       search rules,
-      filled-stored (margin (view_of (load (goal.at.loop-i-preserved c).After-row-1))) loop.i 24 (pos 0) _ loop.margins loop.invariant.2 (stored c)
-          (omega arith),
+      filled-stored (margin (view_of (load turn))) loop.i 24 (pos 0) _ loop.margins loop.invariant.2
+          (stored turn _ c.margin_of.ensures) (omega arith),
     )
 
 pub returns : goal.returns
@@ -99,4 +102,4 @@ pub offset_bounds-bounds-k : goal.offset_bounds-bounds-k
 offset_bounds-bounds-k c = omega (arith, steps (goal.at.offset_bounds-bounds-k c).In-loop-i)
 
 pub bounds-bounds-k : goal.bounds-bounds-k
-bounds-bounds-k c = omega (arith, steps (goal.at.bounds-bounds-k c).After-row-1)
+bounds-bounds-k c = omega (arith, steps (goal.at.bounds-bounds-k c).In-loop-i)

@@ -2,18 +2,11 @@
 use Prim.Native.Nat.{ℕ, ◌-◌, ◌≤◌}
 use mathlib.Core.Bool.{Bool, true, not}
 use mathlib.Core.List.{List}
-use mathlib.Core.Path.{◌≡◌, sym, ◌∙◌, ap}
-use native.Mathlib.Omega.{arith}
-use borrow.Author.Rules.{rules}
+use mathlib.Core.Path.{◌≡◌}
 use lib.IntN.{ℤ}
-use mir.Facts.{to_z-of_z}
-use mir.Syntax.{w32}
-use mir.Val.{SFits}
 use Rattle.counting.specs.Sums.{all_to}
-use Rattle.counting.proofs.tests.TestLaws.{and_both, all_to-zero, all_to-next, false-all_to}
 use Rattle.rules.specs.Margins.{is_negative}
 use Rattle.rules.specs.Margins.{margin_in}
-use Rattle.bound.proofs.SignLaws.{each_fits}
 use Rattle.bound.proofs.margins.none_negative.Given as goal
 
 -- the margin at place i is not negative

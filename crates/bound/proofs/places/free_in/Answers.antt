@@ -1,7 +1,6 @@
 -- `free_in` asks whether the step is there, and then whether it is embedded.
 use mathlib.Core.Bool.{not}
 use mathlib.Core.Path.{ap}
-use borrow.Author.Rules.{rules}
 use borrow.Author.Tests.{lt-ltb, le-ltb}
 use Rattle.bound.proofs.places.free_in.Goals as goal
 

@@ -1,14 +1,10 @@
 -- `frees_at` stores the mark of one row a turn.
-use Prim.Native.Nat.{ℕ, ◌-◌, ◌≤◌}
-use mathlib.Core.Bool.{Bool, false}
+use mathlib.Core.Bool.{false}
 use mathlib.Core.Path.{◌≡◌, sym, ◌∙◌, ap}
 use native.Mathlib.Omega.{arith}
 use borrow.Author.Rules.{rules}
 use Rattle.counting.specs.Lists.{filled}
 use Rattle.counting.proofs.lists.ListLaws.{filled_none, filled-stored}
-use Rattle.load.specs.declared.Load.{Load}
-use Rattle.load.specs.Load.{row_at}
-use Rattle.bound.specs.inner.Marks.{free_in}
 use Rattle.bound.proofs.places.frees_at.Goals as goal
 use Rattle.bound.proofs.places.frees_at.Invariants.{stored}
 

@@ -1,6 +1,5 @@
 -- `paired_in` asks first of the step, and then of the one after it.
 use mathlib.Core.Path.{sym, ◌∙◌}
-use borrow.Author.Rules.{rules}
 use Rattle.bound.proofs.places.paired_in.Goals as goal
 
 pub returns-then-free_in : goal.returns-then-free_in

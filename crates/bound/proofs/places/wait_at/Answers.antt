@@ -1,6 +1,5 @@
 -- `wait_at` gives the wait of the step that stands there.
 use mathlib.Core.Path.{ap}
-use borrow.Author.Rules.{rules}
 use Rattle.bound.proofs.places.wait_at.Goals as goal
 
 pub returns : goal.returns

@@ -1,5 +1,4 @@
 -- `count_marked` counts one row a turn.
-use Prim.Native.Nat.{◌-◌, ◌≤◌}
 use mathlib.Core.Bool.{Bool}
 use mathlib.Core.Path.{◌≡◌, sym, ◌∙◌, ap}
 use native.Mathlib.Omega.{arith}
@@ -9,23 +8,19 @@ use Rattle.counting.specs.Lists.{is_marked}
 use Rattle.counting.proofs.sums.SumLaws.{sum_to-zero, sum_to-next}
 use Rattle.bound.proofs.FlagLaws.{bool_byte-bit, bit_le}
 use Rattle.bound.proofs.smallest.count_marked.Goals as goal
-use Rattle.bound.proofs.smallest.count_marked.Goals.{In-loop-k, After-way_told-1}
-
--- what a turn adds
-turn : (c : In-loop-k) → Bool
-turn c = is_marked c.args.marks.now c.loop-k.k
 
 pub overflow_add-count : goal.overflow_add-count
-unfolding turn
-overflow_add-count c = omega (arith, bool_byte-bit (turn (goal.at.overflow_add-count c).After-way_told-1), bit_le (turn (goal.at.overflow_add-count c).After-way_told-1))
+overflow_add-count c =
+    let turn : Bool = is_marked c.args.marks.now c.loop-k.k in
+    omega (arith, bool_byte-bit turn, bit_le turn)
 
 pub loop-k-preserved : goal.loop-k-preserved
-unfolding turn
-loop-k-preserved c = (
-  search rules,
-  rw sum_to-next (omega (arith, bool_byte-bit (turn (goal.at.loop-k-preserved c).After-way_told-1))),
-  omega (arith, bool_byte-bit (turn (goal.at.loop-k-preserved c).After-way_told-1), bit_le (turn (goal.at.loop-k-preserved c).After-way_told-1)),
-)
+loop-k-preserved c =
+    let turn : Bool = is_marked c.args.marks.now c.loop-k.k in (
+      search rules,
+      rw sum_to-next (omega (arith, bool_byte-bit turn)),
+      omega (arith, bool_byte-bit turn, bit_le turn),
+    )
 
 pub returns : goal.returns
 returns c =
@@ -34,6 +29,3 @@ returns c =
 
 pub loop-k-init : goal.loop-k-init
 loop-k-init c = (search rules, sym (sum_to-zero _), search rules)
-
-pub overflow_cast-count : goal.overflow_cast-count
-overflow_cast-count c = tt

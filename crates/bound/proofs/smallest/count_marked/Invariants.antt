@@ -1,13 +1,8 @@
 -- `count_marked` counts one row a turn.
 use Prim.Native.Nat.{◌-◌, ◌≤◌}
-use mathlib.Core.Bool.{Bool}
-use mathlib.Core.Path.{◌≡◌, sym, ◌∙◌, ap}
-use native.Mathlib.Omega.{arith}
-use borrow.Author.Rules.{rules}
+use mathlib.Core.Path.{◌≡◌}
 use Rattle.counting.specs.Sums.{count_to}
 use Rattle.counting.specs.Lists.{is_marked}
-use Rattle.counting.proofs.sums.SumLaws.{sum_to-zero, sum_to-next}
-use Rattle.bound.proofs.FlagLaws.{bool_byte-bit, bit_le}
 use Rattle.bound.proofs.smallest.count_marked.Given as goal
 
 abbrev pub invariant-loop-k : goal.invariant-loop-k

@@ -1,7 +1,6 @@
 -- `splitting_cost` halves the costs from low to high: at most r are below low, and at least r are at most high. Where
 -- the two meet is the cost. Between, one row a turn is counted.
-use Prim.Native.Nat.{◌+◌, ◌*◌, ◌-◌, ◌/◌, ◌≤◌}
-use mathlib.Core.Logic.{⊎_elim}
+use Prim.Native.Nat.{◌+◌, ◌/◌}
 use mathlib.Core.Path.{◌≡◌, sym, ◌∙◌, ap}
 use native.Mathlib.Omega.{arith}
 use borrow.Author.Rules.{rules}
@@ -10,7 +9,7 @@ use Rattle.counting.proofs.sorting.PairLaws.{pair_total-zero, pair_total-next, p
 use Rattle.bound.specs.inner.Marks.{cost_at}
 use Rattle.bound.proofs.MarkLaws.{costs_below}
 use Rattle.bound.proofs.smallest.splitting_cost.Goals as goal
-use Rattle.bound.proofs.smallest.splitting_cost.Goals.{After-loop-k}
+use Rattle.bound.proofs.smallest.splitting_cost.Goals.{After-loop-k, then-marks-k, else-marks-k}
 
 pub loop-low-init : goal.loop-low-init
 loop-low-init c = (
@@ -24,8 +23,8 @@ pub loop-k-preserved : goal.loop-k-preserved
 loop-k-preserved c = (
   search rules,
   rw pair_total-next
-      (⊎_elim (λ w. rw w.0.taken (omega arith)) (λ w. rw w.0.left (omega arith)) c.if-marks-k.branch),
-  ⊎_elim (λ w. omega arith) (λ w. omega arith) c.if-marks-k.branch,
+      (elim c.if-marks-k.branch [ then-marks-k w ↦ rw w.if-marks-k.true (omega arith) | else-marks-k w ↦ rw w.if-marks-k.false (omega arith) ]),
+  elim c.if-marks-k.branch [ then-marks-k w ↦ omega arith | else-marks-k w ↦ omega arith ],
 )
 
 -- all rows are counted

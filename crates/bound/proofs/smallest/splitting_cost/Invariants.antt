@@ -1,13 +1,7 @@
 -- `splitting_cost` halves the costs from low to high: at most r are below low, and at least r are at most high. Where
 -- the two meet is the cost. Between, one row a turn is counted.
-use Prim.Native.Nat.{◌+◌, ◌*◌, ◌-◌, ◌/◌, ◌≤◌}
-use mathlib.Core.Logic.{⊎_elim}
-use mathlib.Core.Path.{◌≡◌, sym, ◌∙◌, ap}
-use native.Mathlib.Omega.{arith}
-use borrow.Author.Rules.{rules}
-use Rattle.counting.specs.Lists.{is_marked}
-use Rattle.counting.proofs.sorting.PairLaws.{pair_total-zero, pair_total-next, pairs_below-none, pairs_below-next, count_to-pairs_up_to-le}
-use Rattle.bound.specs.inner.Marks.{cost_at}
+use Prim.Native.Nat.{◌+◌, ◌*◌, ◌-◌, ◌≤◌}
+use mathlib.Core.Path.{◌≡◌}
 use Rattle.bound.proofs.MarkLaws.{costs_below}
 use Rattle.bound.proofs.smallest.splitting_cost.Given as goal
 

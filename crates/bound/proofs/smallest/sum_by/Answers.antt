@@ -1,31 +1,27 @@
 -- `sum_by` adds one row a turn, of a marked one both costs that are below t, and counts them; then t for each that is
 -- still missing of the r.
 use Prim.Native.Nat.{ℕ, ◌+◌, ◌*◌, ◌-◌, ◌≤◌}
-use mathlib.Core.Bool.{Bool}
-use mathlib.Core.List.{List}
-use mathlib.Core.Logic.{⊎_elim}
 use mathlib.Core.Path.{◌≡◌, sym, ◌∙◌, ap}
 use native.Mathlib.Nat.{mul-le-mul}
 use native.Mathlib.Omega.{arith}
 use borrow.Author.Rules.{rules}
 use Rattle.counting.specs.Lists.{is_marked}
-use Rattle.counting.proofs.sorting.PairLaws.{pairs_sum_below, pair_total-zero, pair_total-next, pairs_smallest-threshold}
-use Rattle.load.specs.declared.Load.{Load}
+use Rattle.counting.proofs.sorting.PairLaws.{pair_total-zero, pair_total-next, pairs_smallest-threshold}
 use Rattle.bound.specs.inner.Marks.{cost_at}
 use Rattle.bound.proofs.MarkLaws.{costs_below}
 use Rattle.bound.proofs.smallest.sum_by.Goals as goal
-use Rattle.bound.proofs.smallest.sum_by.Goals.{After-loop-k}
+use Rattle.bound.proofs.smallest.sum_by.Goals.{After-loop-k, then-marks-k, else-marks-k}
 use Rattle.bound.proofs.smallest.sum_by.Invariants.{added}
 
 pub loop-k-preserved : goal.loop-k-preserved
 loop-k-preserved c = (
   search rules,
   rw pair_total-next
-      (⊎_elim (λ w. rw w.0.taken (omega arith)) (λ w. rw w.0.left (omega arith)) c.if-marks-k.branch),
+      (elim c.if-marks-k.branch [ then-marks-k w ↦ rw w.if-marks-k.true (omega arith) | else-marks-k w ↦ rw w.if-marks-k.false (omega arith) ]),
   rw pair_total-next
-      (⊎_elim (λ w. rw w.0.taken (omega arith)) (λ w. rw w.0.left (omega arith)) c.if-marks-k.branch),
-  ⊎_elim (λ w. omega arith) (λ w. omega arith) c.if-marks-k.branch,
-  ⊎_elim (λ w. omega arith) (λ w. omega arith) c.if-marks-k.branch,
+      (elim c.if-marks-k.branch [ then-marks-k w ↦ rw w.if-marks-k.true (omega arith) | else-marks-k w ↦ rw w.if-marks-k.false (omega arith) ]),
+  elim c.if-marks-k.branch [ then-marks-k w ↦ omega arith | else-marks-k w ↦ omega arith ],
+  elim c.if-marks-k.branch [ then-marks-k w ↦ omega arith | else-marks-k w ↦ omega arith ],
 )
 
 -- every row is added

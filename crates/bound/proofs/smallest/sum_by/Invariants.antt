@@ -3,13 +3,9 @@
 use Prim.Native.Nat.{ℕ, ◌+◌, ◌*◌, ◌-◌, ◌≤◌}
 use mathlib.Core.Bool.{Bool}
 use mathlib.Core.List.{List}
-use mathlib.Core.Logic.{⊎_elim}
-use mathlib.Core.Path.{◌≡◌, sym, ◌∙◌, ap}
-use native.Mathlib.Nat.{mul-le-mul}
-use native.Mathlib.Omega.{arith}
-use borrow.Author.Rules.{rules}
+use mathlib.Core.Path.{◌≡◌}
 use Rattle.counting.specs.Lists.{is_marked}
-use Rattle.counting.proofs.sorting.PairLaws.{pairs_sum_below, pair_total-zero, pair_total-next, pairs_smallest-threshold}
+use Rattle.counting.proofs.sorting.PairLaws.{pairs_sum_below}
 use Rattle.load.specs.declared.Load.{Load}
 use Rattle.bound.specs.inner.Marks.{cost_at}
 use Rattle.bound.proofs.MarkLaws.{costs_below}

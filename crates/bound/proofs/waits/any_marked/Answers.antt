@@ -1,6 +1,4 @@
 -- `any_marked` looks at one row a turn: none of the first i is marked, and the first that is ends the search.
-use Prim.Native.Nat.{◌-◌, ◌≤◌}
-use mathlib.Core.Bool.{false}
 use mathlib.Core.Path.{◌≡◌, sym, ◌∙◌, ap}
 use native.Mathlib.Omega.{arith}
 use borrow.Author.Rules.{rules}

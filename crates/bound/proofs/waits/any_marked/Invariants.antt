@@ -1,12 +1,9 @@
 -- `any_marked` looks at one row a turn: none of the first i is marked, and the first that is ends the search.
 use Prim.Native.Nat.{◌-◌, ◌≤◌}
 use mathlib.Core.Bool.{false}
-use mathlib.Core.Path.{◌≡◌, sym, ◌∙◌, ap}
-use native.Mathlib.Omega.{arith}
-use borrow.Author.Rules.{rules}
+use mathlib.Core.Path.{◌≡◌}
 use Rattle.counting.specs.Sums.{any_to}
 use Rattle.counting.specs.Lists.{is_marked}
-use Rattle.counting.proofs.tests.TestLaws.{or-neither, any_to-zero, any_to-next, true-any_to}
 use Rattle.bound.proofs.waits.any_marked.Given as goal
 
 abbrev pub invariant-loop-i : goal.invariant-loop-i

@@ -1,29 +1,25 @@
 -- `largest_left` looks at one row a turn, and keeps the largest of what is left of the free waits.
-use Prim.Native.Nat.{ℕ, ◌+◌, ◌-◌, ◌≤◌}
-use mathlib.Core.Bool.{Bool}
-use mathlib.Core.List.{List}
 use mathlib.Core.Path.{◌≡◌, ◌∙◌, ap}
-use mathlib.Core.Logic.{⊎_elim}
 use native.Mathlib.Omega.{arith}
 use borrow.Author.Rules.{rules}
-use Rattle.counting.proofs.sorting.PairLaws.{pairs_smallest}
-use Rattle.load.specs.declared.Load.{Load}
-use Rattle.bound.specs.inner.Marks.{cost_at, wait_at, is_other, left_in, largest_to}
+use Rattle.bound.specs.inner.Marks.{largest_to}
 use Rattle.bound.proofs.LargestLaws.{largest_to-zero, largest_to-turn, largest_to-skips}
 use Rattle.bound.proofs.waits.largest_left.Goals as goal
+use Rattle.bound.proofs.waits.largest_left.Goals.{then-frees-i, else-frees-i}
 use Rattle.bound.proofs.waits.largest_left.Invariants.{left}
 
 pub loop-i-preserved : goal.loop-i-preserved
 loop-i-preserved c =
     let loop = c.loop-i in (
       search rules,
-      ⊎_elim
-          (λ w.
-          w.3
-          ∙ largest_to-turn _ loop.i loop.most loop.invariant.1 _ _ (rw w.0.taken w.1.ensures)
-          w.2.ensures)
-          (λ w. w.1 ∙ largest_to-skips _ loop.i loop.most loop.invariant.1 (rw w.0.left))
-          c.if-frees-i.branch,
+      elim c.if-frees-i.branch [
+        | then-frees-i w ↦
+            w.most-is
+            ∙ largest_to-turn _ loop.i loop.most loop.invariant.1 _ _ (rw w.if-frees-i.true w.wait_left-left.ensures)
+            w.larger-most.ensures
+        | else-frees-i w ↦
+            w.most-is ∙ largest_to-skips _ loop.i loop.most loop.invariant.1 (rw w.if-frees-i.false)
+      ],
     )
 
 pub returns : goal.returns

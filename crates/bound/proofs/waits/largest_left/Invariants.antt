@@ -2,14 +2,10 @@
 use Prim.Native.Nat.{ℕ, ◌+◌, ◌-◌, ◌≤◌}
 use mathlib.Core.Bool.{Bool}
 use mathlib.Core.List.{List}
-use mathlib.Core.Path.{◌≡◌, ◌∙◌, ap}
-use mathlib.Core.Logic.{⊎_elim}
-use native.Mathlib.Omega.{arith}
-use borrow.Author.Rules.{rules}
+use mathlib.Core.Path.{◌≡◌}
 use Rattle.counting.proofs.sorting.PairLaws.{pairs_smallest}
 use Rattle.load.specs.declared.Load.{Load}
 use Rattle.bound.specs.inner.Marks.{cost_at, wait_at, is_other, left_in, largest_to}
-use Rattle.bound.proofs.LargestLaws.{largest_to-zero, largest_to-turn, largest_to-skips}
 use Rattle.bound.proofs.waits.largest_left.Given as goal
 
 -- what is left of the wait of row i

@@ -1,9 +1,8 @@
 -- `place_waits` stores the largest W of one place a turn: it marks the rows of the place and asks for the largest of
 -- what is left there, where some wait there is free.
-use Prim.Native.Nat.{ℕ, ◌+◌, ◌-◌, ◌≤◌}
+use Prim.Native.Nat.{ℕ, ◌+◌, ◌≤◌}
 use mathlib.Core.Bool.{Bool, false, ◌&&◌}
 use mathlib.Core.List.{List}
-use mathlib.Core.Logic.{⊎_elim}
 use mathlib.Core.Path.{◌≡◌, sym, ◌∙◌, ap}
 use native.Mathlib.Omega.{arith}
 use borrow.Author.Rules.{rules}
@@ -19,7 +18,7 @@ use Rattle.bound.specs.inner.Marks.{free_in, frees_at}
 use Rattle.bound.proofs.AcceptedLaws.{accepted-few}
 use Rattle.bound.proofs.PlaceLaws.{AtPlace, paired-cost, largest_at-read, largest_at-none}
 use Rattle.bound.proofs.waits.place_waits.Goals as goal
-use Rattle.bound.proofs.waits.place_waits.Goals.{In-loop-j, Joined-any_marked}
+use Rattle.bound.proofs.waits.place_waits.Goals.{In-loop-j, Joined-any_marked, then-any_marked, else-any_marked}
 
 -- marks that are taken from a load are those of the place
 placed : (load : Load) (j : ℕ) (pairs frees : List Bool)
@@ -58,17 +57,17 @@ unfolding view_of
 worst c =
     let load = c.args.load in
     let j = c.loop-j.j in
-    ⊎_elim
-    (λ w.
-    w.4
-    ∙ w.3.ensures
-    ∙ largest_at-read (view_of load) j _ _ (placed load j _ _ w.1.ensures c.frees_at-frees.ensures) _
-    c.requires.1)
-    (λ w.
-    w.1
-    ∙ unfree load _ j _ c.requires.1 c.frees_at-frees.ensures
-    (sym c.any_marked.ensures ∙ w.0.left))
-    c.if-any_marked.branch
+    elim c.if-any_marked.branch [
+      | then-any_marked w ↦
+          w.most-is
+          ∙ w.largest_left-most.ensures
+          ∙ largest_at-read (view_of load) j _ _ (placed load j _ _ w.pairs_at-pairs.ensures c.frees_at-frees.ensures) _
+          c.requires.1
+      | else-any_marked w ↦
+          w.most-is
+          ∙ unfree load _ j _ c.requires.1 c.frees_at-frees.ensures
+          (sym c.any_marked.ensures ∙ w.if-any_marked.false)
+    ]
 
 pub loop-j-preserved : goal.loop-j-preserved
 loop-j-preserved c =
