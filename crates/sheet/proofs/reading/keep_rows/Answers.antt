@@ -9,6 +9,7 @@ use Rattle.load.specs.Load.{most_rows}
 use Rattle.sheet.specs.inner.Walk.{rows_kept}
 use Rattle.sheet.proofs.walk.SheetWalk.{RowsKept, rows_none, row-stands-next, rows_next, kept-load, kept_next, rows-full, rows-ended}
 use Rattle.sheet.proofs.reading.keep_rows.Goals as goal
+use Rattle.sheet.proofs.reading.keep_rows.Goals.{else-loop-rows-test, then-loop-rows-test+then-bytes-next}
 
 pub loop-rows-init : goal.loop-rows-init
 loop-rows-init c = (search rules, rows_none c.args.bytes.now _ c.zero_row-row.ensures)
@@ -31,7 +32,9 @@ returns c =
     let bs = c.args.bytes.now in
     let inv = c.loop-rows.invariant in
     let all : c.loop-rows.rows ≡ rows_kept bs =
-    ⊎_elim (λ w. rows-full inv.1 w.left inv.0) (λ w. rows-ended inv.1 w.1.taken inv.0)
-    c.loop-rows-test.branch in
+    elim c.loop-rows-test.branch [
+      | else-loop-rows-test w ↦ rows-full inv.1 w.loop-rows-test.false inv.0
+      | then-loop-rows-test+then-bytes-next w ↦ rows-ended inv.1 w.if-bytes-next.true inv.0
+    ] in
     ap₂ (λ load next. record { load = load; next = next }) (kept-load inv.1 (rows_kept bs) all)
     (kept_next inv.1 (rows_kept bs) all)

@@ -12,7 +12,7 @@ use Rattle.sheet.proofs.trip.PlaceLaws.{line_place-zero}
 use Rattle.sheet.proofs.walk.ReadLaws.{line-says, line-next}
 use Rattle.sheet.proofs.walk.WindowWalk.{dashes-are}
 use Rattle.sheet.proofs.row_parts.dashes_from.Goals as goal
-use Rattle.sheet.proofs.row_parts.dashes_from.Goals.{At-loop-k, After-is_dash}
+use Rattle.sheet.proofs.row_parts.dashes_from.Goals.{After-is_dash}
 
 pub loop-k-init : goal.loop-k-init
 loop-k-init c =
@@ -21,32 +21,25 @@ loop-k-init c =
 
 -- the line of the turn
 module _ (c : After-is_dash) where
-  abbrev at : At-loop-k
-  at = c.before.before.before.before
-
   asked : c.is_dash.result
-      ≡ is_dash (line_from at.before.before.args.bytes.now at.before.before.args.from at.loop.k).mark
+      ≡ is_dash (line_from c.args.bytes.now c.args.from c.loop-k.k).mark
   asked =
-      let start = at.before.before in
       c.is_dash.ensures
       ∙ ap (λ line. is_dash line.mark)
-      (line-says start.requires (omega arith) at.loop.inv.1 c.line_at-read.ensures)
+      (line-says c.requires (omega arith) c.loop-k.invariant.1 c.line_at-read.ensures)
 
 pub returns-then-not-is_dash : goal.returns-then-not-is_dash
 returns-then-not-is_dash c =
-    let loop = at (goal.at.returns-then-not-is_dash c).After-is_dash in
-    let start = loop.before.before.args in
-    dashes-are start.bytes.now start.from start.left loop.loop.k loop.loop.inv.0 loop.loop.inv.2
+    let start = c.args in
+    dashes-are start.bytes.now start.from start.left c.loop-k.k c.loop-k.invariant.0 c.loop-k.invariant.2
     (λ l. sym (asked (goal.at.returns-then-not-is_dash c).After-is_dash) ∙ c.if-not-is_dash.true)
 
 pub loop-k-preserved : goal.loop-k-preserved
-loop-k-preserved c =
-    let loop = at (goal.at.loop-k-preserved c).After-is_dash in
-    let start = loop.before.before in (
-      omega arith,
-      line-next start.requires (omega arith) loop.loop.inv.1 c.line_at-read.ensures,
-      below_more _ loop.loop.k loop.loop.inv.2 (sym (asked (goal.at.loop-k-preserved c).After-is_dash) ∙ c.if-not-is_dash.false),
-    )
+loop-k-preserved c = (
+  omega arith,
+  line-next c.requires (omega arith) c.loop-k.invariant.1 c.line_at-read.ensures,
+  below_more _ c.loop-k.k c.loop-k.invariant.2 (sym (asked (goal.at.loop-k-preserved c).After-is_dash) ∙ c.if-not-is_dash.false),
+)
 
 pub returns : goal.returns
 returns c =

@@ -18,7 +18,7 @@ use Rattle.sheet.proofs.trip.PlaceLaws.{line_place-zero}
 use Rattle.sheet.proofs.walk.ReadLaws.{line-says, line-next}
 use Rattle.sheet.proofs.walk.WindowWalk.{dashes_from-le, lines-behind, windows_to, windows_to-zero, windows_to-all, windows_to-none, windows_to-le, windows_to-lt, window_from, stored}
 use Rattle.sheet.proofs.row_parts.windows_from.Goals as goal
-use Rattle.sheet.proofs.row_parts.windows_from.Goals.{Start, At-loop-j, After-is_limit}
+use Rattle.sheet.proofs.row_parts.windows_from.Goals.{After-is_limit, then-is_limit, else-is_limit}
 
 pub loop-j-init : goal.loop-j-init
 loop-j-init c =
@@ -28,69 +28,66 @@ loop-j-init c =
 
 -- the line of the turn
 module _ (c : After-is_limit) where
-  abbrev at : At-loop-j
-  at = c.before.before.before.before
-
-  abbrev start : Start
-  start = at.before.before
-
   abbrev bs : List ℕ
-  bs = start.args.bytes.now
+  bs = c.args.bytes.now
 
   abbrev from : ℕ
-  from = start.args.from
+  from = c.args.from
 
   abbrev count : ℕ
-  count = start.args.count
+  count = c.args.count
 
   abbrev j : ℕ
-  j = at.loop.j
+  j = c.loop-j.j
 
   says : c.line_at-read.result.line ≡ line_from bs from j
-  says = line-says start.requires.1.0 (omega arith) at.loop.inv.1 c.line_at-read.ensures
+  says = line-says c.requires.lines_stand (omega arith) c.loop-j.invariant.1 c.line_at-read.ensures
 
   next : c.line_at-read.result.next ≡ line_place bs from (j + 1)
-  next = line-next start.requires.1.0 (omega arith) at.loop.inv.1 c.line_at-read.ensures
+  next = line-next c.requires.lines_stand (omega arith) c.loop-j.invariant.1 c.line_at-read.ensures
 
   asked : c.is_limit.result ≡ is_limit (line_from bs from j).mark
   asked = c.is_limit.ensures ∙ ap (λ line. is_limit line.mark) says
 
   -- where it has a limit, there is a place for its window
   room : c.is_limit.result ≡ true → length (windows_to bs from count j) < most_windows
-  room h = windows_to-lt bs from count start.requires.1.1 start.requires.0 j (omega arith) (sym asked ∙ h)
+  room h = windows_to-lt bs from count c.requires.marked c.requires.count_le_most_steps j (omega arith) (sym asked ∙ h)
 
 pub dashes_from-behind-requires : goal.dashes_from-behind-requires
 dashes_from-behind-requires c =
-    lines-behind (bs (goal.at.dashes_from-behind-requires c).After-is_limit) (from (goal.at.dashes_from-behind-requires c).After-is_limit) (count (goal.at.dashes_from-behind-requires c).After-is_limit) (j (goal.at.dashes_from-behind-requires c).After-is_limit + 1) _ (start (goal.at.dashes_from-behind-requires c).After-is_limit).requires.1.0 (next (goal.at.dashes_from-behind-requires c).After-is_limit)
+    lines-behind (bs (goal.at.dashes_from-behind-requires c).After-is_limit) (from (goal.at.dashes_from-behind-requires c).After-is_limit) (count (goal.at.dashes_from-behind-requires c).After-is_limit) (j (goal.at.dashes_from-behind-requires c).After-is_limit + 1) _ c.requires.lines_stand (next (goal.at.dashes_from-behind-requires c).After-is_limit)
 
 pub window_of-requires : goal.window_of-requires
 window_of-requires c =
     let most = dashes_from-le (bs (goal.at.window_of-requires c).After-is_limit) c.line_at-read.result.next (count (goal.at.window_of-requires c).After-is_limit - (j (goal.at.window_of-requires c).After-is_limit + 1)) in
-    omega (arith, c.dashes_from-behind.ensures, (start (goal.at.window_of-requires c).After-is_limit).requires.0)
+    omega (arith, c.dashes_from-behind.ensures, c.requires.count_le_most_steps)
 
 pub loop-j-preserved : goal.loop-j-preserved
 loop-j-preserved c =
-    let inv = (at (goal.at.loop-j-preserved c).After-is_limit).loop.invariant in
-    ⊎_elim
-    (λ w.
-    let h = sym (asked (goal.at.loop-j-preserved c).After-is_limit) ∙ w.0.taken in
-    let is-window : w.3.result ≡ window_from (bs (goal.at.loop-j-preserved c).After-is_limit) (from (goal.at.loop-j-preserved c).After-is_limit) (count (goal.at.loop-j-preserved c).After-is_limit) (j (goal.at.loop-j-preserved c).After-is_limit) =
-    w.3.ensures
-    ∙ ap₂ (λ behind n. narrow_window (record { first = shown (j (goal.at.loop-j-preserved c).After-is_limit); last = shown (j (goal.at.loop-j-preserved c).After-is_limit) + behind; limit = n }))
-    (w.1.ensures ∙ ap (λ at. dashes_from (bs (goal.at.loop-j-preserved c).After-is_limit) at (count (goal.at.loop-j-preserved c).After-is_limit - (j (goal.at.loop-j-preserved c).After-is_limit + 1))) (next (goal.at.loop-j-preserved c).After-is_limit))
-    (w.2.ensures ∙ ap (λ line. limit_of line.mark) (says (goal.at.loop-j-preserved c).After-is_limit)) in
-    let more = stored (bs (goal.at.loop-j-preserved c).After-is_limit) (from (goal.at.loop-j-preserved c).After-is_limit) (count (goal.at.loop-j-preserved c).After-is_limit) (j (goal.at.loop-j-preserved c).After-is_limit) (room (goal.at.loop-j-preserved c).After-is_limit w.0.taken) h inv.2 inv.3 is-window in
-    (omega arith, next (goal.at.loop-j-preserved c).After-is_limit, w.5 ∙ more.0, w.4 ∙ more.1))
-    (λ w.
-    let same = sym (windows_to-none (bs (goal.at.loop-j-preserved c).After-is_limit) (from (goal.at.loop-j-preserved c).After-is_limit) (count (goal.at.loop-j-preserved c).After-is_limit) (j (goal.at.loop-j-preserved c).After-is_limit) (sym (asked (goal.at.loop-j-preserved c).After-is_limit) ∙ w.0.left)) in
-    (omega arith, next (goal.at.loop-j-preserved c).After-is_limit, w.2 ∙ inv.2 ∙ ap length same, w.1 ∙ inv.3 ∙ ap window_places same))
-    c.if-is_limit.branch
+    let met = (goal.at.loop-j-preserved c).After-is_limit in
+    let inv = c.loop-j.invariant in
+    elim c.if-is_limit.branch [
+      | then-is_limit w ↦
+          let h = sym (asked met) ∙ w.if-is_limit.true in
+          let is-window : w.window_of.result ≡ window_from (bs met) (from met) (count met) (j met) =
+          w.window_of.ensures
+          ∙ ap₂ (λ behind n. narrow_window (record { first = shown (j met); last = shown (j met) + behind; limit = n }))
+          (w.dashes_from-behind.ensures ∙ ap (λ at. dashes_from (bs met) at (count met - (j met + 1))) (next met))
+          (w.limit_of.ensures ∙ ap (λ line. limit_of line.mark) (says met)) in
+          let more =
+          stored (bs met) (from met) (count met) (j met) (room met w.if-is_limit.true) h inv.2 inv.3 is-window in
+          (omega arith, next met, w.stored-is ∙ more.0, w.window-is ∙ more.1)
+      | else-is_limit w ↦
+          let same =
+          sym (windows_to-none (bs met) (from met) (count met) (j met) (sym (asked met) ∙ w.if-is_limit.false)) in
+          (omega arith, next met, w.stored-is ∙ inv.2 ∙ ap length same, w.window-is ∙ inv.3 ∙ ap window_places same)
+    ]
 
 pub overflow_cast-result : goal.overflow_cast-result
 overflow_cast-result c =
     let pre = c.requires in
     let args = c.args in
-    let most = windows_to-le args.bytes.now args.from args.count pre.1.1 pre.0 c.loop-j.j in
+    let most = windows_to-le args.bytes.now args.from args.count pre.marked pre.count_le_most_steps c.loop-j.j in
     omega (arith, most c.loop-j.invariant.0, c.loop-j.invariant.2)
 
 pub returns : goal.returns

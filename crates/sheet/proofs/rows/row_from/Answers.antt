@@ -38,10 +38,13 @@ returns-then-steps-gt-MOST_STEPS c =
 pub row_of-row-requires : goal.row_of-row-requires
 row_of-row-requires c =
     let pre = c.requires in
-    let e = steps-are (goal.at.row_of-row-requires c).After-run_from-run in (
-      (omega (arith, e, steps_from-least (bs (goal.at.row_of-row-requires c).After-run_from-run) (at (goal.at.row_of-row-requires c).After-run_from-run)), search rules),
-      (rw e (row-stands (bs (goal.at.row_of-row-requires c).After-run_from-run) (at (goal.at.row_of-row-requires c).After-run_from-run) pre), rw e pre.row-lines.marked),
-    )
+    let run = (goal.at.row_of-row-requires c).After-run_from-run in
+    let e = steps-are run in
+    record {
+      steps_nonzero = (omega (arith, e, steps_from-least (bs run) (at run)), search rules);
+      lines_stand = rw e (row-stands (bs run) (at run) pre);
+      marked = rw e pre.row-lines.marked;
+    }
 
 pub returns : goal.returns
 returns c =

@@ -42,10 +42,10 @@ loop-i-preserved c =
     let made = c.write_row-at.ensures in (
       search rules,
       search rules,
-      omega (arith, made.0.0),
-      omega (arith, made.0.1),
+      omega (arith, made.value.0),
+      omega (arith, made.value.1),
       c.write_row-at.auto.out ∙ c.loop-i.invariant.4,
-      sets-joined-next (row load) _ _ _ 0 c.loop-i.at i (omega arith) c.loop-i.invariant.5 made.1,
+      sets-joined-next (row load) _ _ _ 0 c.loop-i.at i (omega arith) c.loop-i.invariant.5 made.out_after,
     )
 
 pub returns : goal.returns
