@@ -36,8 +36,11 @@ returns-in-Refused c = rw (sym c.check_steps-steps.ensures ∙ c.in-Refused.is)
 pub returns-then-not-zero_steps_from : goal.returns-then-not-zero_steps_from
 unfolding check_parts
 returns-then-not-zero_steps_from c =
-    rw
-    (steps-good (goal.at.returns-then-not-zero_steps_from c).In-Good, sym c.zero_steps_from.ensures ∙ c.if-not-zero_steps_from.true)
+    rw (
+      steps-good (goal.at.returns-then-not-zero_steps_from c).In-Good,
+      sym c.zero_steps_from.ensures ∙
+          c.if-not-zero_steps_from.true,
+    )
 
 pub returns-in-Refused-windows : goal.returns-in-Refused-windows
 unfolding check_parts

@@ -18,15 +18,29 @@ returns-in-Refused c load i p q = rw (sym c.check_fields-fields.ensures ∙ c.in
 
 pub returns-then-identifier_is_taken : goal.returns-then-identifier_is_taken
 unfolding row_fault taken_tests
-returns-then-identifier_is_taken c load i p q = rw (fields-good (goal.at.returns-then-identifier_is_taken c).In-Good, sym p ∙ c.if-identifier_is_taken.true)
+returns-then-identifier_is_taken c load i p q = rw (
+  fields-good (goal.at.returns-then-identifier_is_taken
+      c).In-Good,
+  sym p ∙ c.if-identifier_is_taken.true,
+)
 
 pub returns-then-box_is_taken : goal.returns-then-box_is_taken
 unfolding row_fault taken_tests
 returns-then-box_is_taken c load i p q =
-    rw (fields-good (goal.at.returns-then-box_is_taken c).In-Good, sym p ∙ c.if-identifier_is_taken.false, sym q ∙ c.if-box_is_taken.true)
+    rw (
+      fields-good (goal.at.returns-then-box_is_taken c).In-Good,
+      sym p ∙ c.if-identifier_is_taken.false,
+      sym q
+          ∙ c.if-box_is_taken.true,
+    )
 
 pub returns : goal.returns
 unfolding row_fault taken_tests
 returns c load i p q =
-    rw (fields-good (goal.at.returns c).In-Good, sym p ∙ c.if-identifier_is_taken.false, sym q ∙ c.if-box_is_taken.false)
+    rw (
+      fields-good (goal.at.returns c).In-Good,
+      sym p ∙ c.if-identifier_is_taken.false,
+      sym q ∙
+          c.if-box_is_taken.false,
+    )
     (c.check_parts.ensures ∙ sym (and_then-last _))

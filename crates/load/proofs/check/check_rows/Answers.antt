@@ -57,7 +57,8 @@ loop-i-preserved c =
       rw c.loop-i.invariant.1 (set-filled (identifier_at load) i 24 _ l),
       rw c.loop-i.invariant.2 (set-filled (box_at load) i 24 _ l),
       first_fault_to-next (fault_at load) i
-          ∙ and_then-both _ _ c.loop-i.invariant.3 (sym (found-is (goal.at.loop-i-preserved c).After-check_row-found) ∙ c.in-Good.is),
+          ∙ and_then-both _ _ c.loop-i.invariant.3
+          (sym (found-is (goal.at.loop-i-preserved c).After-check_row-found) ∙ c.in-Good.is),
     )
 
 pub returns : goal.returns

@@ -77,36 +77,46 @@ returns-then-is_outside c = simp (sym c.is_outside.ensures ∙ c.if-is_outside.t
 
 pub returns-then-is_outside-2 : goal.returns-then-is_outside-2
 unfolding row_tests
-returns-then-is_outside-2 c = sym (passed1 (goal.at.returns-then-is_outside-2 c).Else-is_outside ∙ simp (sym c.is_outside-2.ensures ∙ c.if-is_outside-2.true))
+returns-then-is_outside-2 c = sym (passed1 (goal.at.returns-then-is_outside-2 c).Else-is_outside ∙ simp (sym
+    c.is_outside-2.ensures ∙ c.if-is_outside-2.true))
 
 pub returns-then-row-gt-LATEST_PHASE : goal.returns-then-row-gt-LATEST_PHASE
 unfolding row_tests
-returns-then-row-gt-LATEST_PHASE c = sym (passed2 (goal.at.returns-then-row-gt-LATEST_PHASE c).Else-is_outside-2 ∙ simp (lt-ltb _ _ c.if-row-gt-LATEST_PHASE.true))
+returns-then-row-gt-LATEST_PHASE c = sym (passed2 (goal.at.returns-then-row-gt-LATEST_PHASE c).Else-is_outside-2
+    ∙ simp (lt-ltb _ _ c.if-row-gt-LATEST_PHASE.true))
 
 pub returns-then-is_outside-3 : goal.returns-then-is_outside-3
 unfolding row_tests
-returns-then-is_outside-3 c = sym (passed3 (goal.at.returns-then-is_outside-3 c).Else-row-gt-LATEST_PHASE ∙ simp (sym c.is_outside-3.ensures ∙ c.if-is_outside-3.true))
+returns-then-is_outside-3 c = sym (passed3 (goal.at.returns-then-is_outside-3 c).Else-row-gt-LATEST_PHASE ∙ simp
+    (sym c.is_outside-3.ensures ∙ c.if-is_outside-3.true))
 
 pub returns-then-is_outside-4 : goal.returns-then-is_outside-4
 unfolding row_tests
-returns-then-is_outside-4 c = sym (passed4 (goal.at.returns-then-is_outside-4 c).Else-is_outside-3 ∙ simp (sym c.is_outside-4.ensures ∙ c.if-is_outside-4.true))
+returns-then-is_outside-4 c = sym (passed4 (goal.at.returns-then-is_outside-4 c).Else-is_outside-3 ∙ simp (sym
+    c.is_outside-4.ensures ∙ c.if-is_outside-4.true))
 
 pub returns-then-row-gt-MOST_WINDOWS : goal.returns-then-row-gt-MOST_WINDOWS
 unfolding row_tests
-returns-then-row-gt-MOST_WINDOWS c = sym (passed5 (goal.at.returns-then-row-gt-MOST_WINDOWS c).Else-is_outside-4 ∙ simp (lt-ltb _ _ c.if-row-gt-MOST_WINDOWS.true))
+returns-then-row-gt-MOST_WINDOWS c = sym (passed5 (goal.at.returns-then-row-gt-MOST_WINDOWS c).Else-is_outside-4
+    ∙ simp (lt-ltb _ _ c.if-row-gt-MOST_WINDOWS.true))
 
 pub returns-then-row-gt-MOST_CLASS : goal.returns-then-row-gt-MOST_CLASS
 unfolding row_tests
-returns-then-row-gt-MOST_CLASS c = sym (passed6 (goal.at.returns-then-row-gt-MOST_CLASS c).Else-row-gt-MOST_WINDOWS ∙ simp (lt-ltb _ _ c.if-row-gt-MOST_CLASS.true))
+returns-then-row-gt-MOST_CLASS
+    c = sym (passed6 (goal.at.returns-then-row-gt-MOST_CLASS c).Else-row-gt-MOST_WINDOWS ∙ simp (lt-ltb _ _
+    c.if-row-gt-MOST_CLASS.true))
 
 pub returns-then-row-ne-ONLY_HEAD : goal.returns-then-row-ne-ONLY_HEAD
 unfolding row_tests
-returns-then-row-ne-ONLY_HEAD c = sym (passed7 (goal.at.returns-then-row-ne-ONLY_HEAD c).Else-row-gt-MOST_CLASS ∙ simp (ne_eqb _ _ c.if-row-ne-ONLY_HEAD.true))
+returns-then-row-ne-ONLY_HEAD c = sym (passed7 (goal.at.returns-then-row-ne-ONLY_HEAD c).Else-row-gt-MOST_CLASS
+    ∙ simp (ne_eqb _ _ c.if-row-ne-ONLY_HEAD.true))
 
 pub returns-then-row-eq-FACTORY_IDENTIFIER : goal.returns-then-row-eq-FACTORY_IDENTIFIER
 unfolding row_tests
-returns-then-row-eq-FACTORY_IDENTIFIER c = sym (passed8 (goal.at.returns-then-row-eq-FACTORY_IDENTIFIER c).Else-row-ne-ONLY_HEAD ∙ simp (eq-eqb _ _ c.if-row-eq-FACTORY_IDENTIFIER.true))
+returns-then-row-eq-FACTORY_IDENTIFIER c = sym (passed8 (goal.at.returns-then-row-eq-FACTORY_IDENTIFIER
+    c).Else-row-ne-ONLY_HEAD ∙ simp (eq-eqb _ _ c.if-row-eq-FACTORY_IDENTIFIER.true))
 
 pub returns : goal.returns
 unfolding row_tests
-returns c = sym (passed8 (goal.at.returns c).Else-row-ne-ONLY_HEAD ∙ simp (ne_eqb _ _ c.if-row-eq-FACTORY_IDENTIFIER.false))
+returns c = sym
+    (passed8 (goal.at.returns c).Else-row-ne-ONLY_HEAD ∙ simp (ne_eqb _ _ c.if-row-eq-FACTORY_IDENTIFIER.false))

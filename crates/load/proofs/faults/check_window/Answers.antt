@@ -57,24 +57,37 @@ pub returns-then-window-eq0 : goal.returns-then-window-eq0
 returns-then-window-eq0 c = simp (eq-eqb _ _ c.if-window-eq0.true)
 
 pub returns-then-window-eq0-2 : goal.returns-then-window-eq0-2
-returns-then-window-eq0-2 c = sym (passed1 (goal.at.returns-then-window-eq0-2 c).Else-window-eq0 ∙ simp (eq-eqb _ _ c.if-window-eq0-2.true))
+returns-then-window-eq0-2 c = sym (passed1 (goal.at.returns-then-window-eq0-2 c).Else-window-eq0 ∙ simp (eq-eqb
+    _ _ c.if-window-eq0-2.true))
 
 pub returns-then-is_outside : goal.returns-then-is_outside
-returns-then-is_outside c = sym (passed2 (goal.at.returns-then-is_outside c).Else-window-eq0-2 ∙ simp (sym c.is_outside.ensures ∙ c.if-is_outside.true))
+returns-then-is_outside c = sym (passed2 (goal.at.returns-then-is_outside c).Else-window-eq0-2 ∙ simp (sym
+    c.is_outside.ensures ∙ c.if-is_outside.true))
 
 pub returns-then-window : goal.returns-then-window
-returns-then-window c = sym (passed3 (goal.at.returns-then-window c).Else-is_outside ∙ simp (le-leb _ _ c.if-window.true))
+returns-then-window c = sym (passed3 (goal.at.returns-then-window c).Else-is_outside ∙ simp (le-leb _ _
+    c.if-window.true))
 
 pub returns-then-row-window : goal.returns-then-row-window
-returns-then-row-window c = sym (passed4 (goal.at.returns-then-row-window c).Else-window ∙ simp (lt-ltb _ _ c.if-row-window.true))
+returns-then-row-window c = sym (passed4 (goal.at.returns-then-row-window c).Else-window ∙ simp (lt-ltb _ _
+    c.if-row-window.true))
 
 pub returns-then-window-before : goal.returns-then-window-before
-returns-then-window-before c = sym (passed5 (goal.at.returns-then-window-before c).Else-row-window ∙ simp (le-leb _ _ c.if-window-before.true))
+returns-then-window-before c = sym (passed5 (goal.at.returns-then-window-before c).Else-row-window ∙ simp
+    (le-leb _ _ c.if-window-before.true))
 
 pub returns-then-window-chain_between : goal.returns-then-window-chain_between
 returns-then-window-chain_between c =
-    sym (passed6 (goal.at.returns-then-window-chain_between c).Else-window-before ∙ simp (← c.chain_between.ensures, lt-ltb _ _ c.if-window-chain_between.true))
+    sym (passed6 (goal.at.returns-then-window-chain_between c).Else-window-before ∙ simp (
+      ←
+          c.chain_between.ensures,
+      lt-ltb _ _ c.if-window-chain_between.true,
+    ))
 
 pub returns : goal.returns
 returns c =
-    sym (passed6 (goal.at.returns c).Else-window-before ∙ simp (← c.chain_between.ensures, le-ltb _ _ c.if-window-chain_between.false))
+    sym (passed6 (goal.at.returns c).Else-window-before ∙ simp (
+      ← c.chain_between.ensures,
+      le-ltb _ _
+          c.if-window-chain_between.false,
+    ))

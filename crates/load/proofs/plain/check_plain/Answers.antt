@@ -21,7 +21,11 @@ any_not_plain-requires c = (check_load-good c.args.load (load-good c)).few-rows
 
 pub returns-then-any_not_plain : goal.returns-then-any_not_plain
 unfolding check_plain
-returns-then-any_not_plain c = rw (load-good (goal.at.returns-then-any_not_plain c).In-Good, sym c.any_not_plain.ensures ∙ c.if-any_not_plain.true)
+returns-then-any_not_plain c = rw (
+  load-good (goal.at.returns-then-any_not_plain c).In-Good,
+  sym
+      c.any_not_plain.ensures ∙ c.if-any_not_plain.true,
+)
 
 pub returns : goal.returns
 unfolding check_plain

@@ -48,7 +48,8 @@ passed c =
 
 pub returns-then-count-steps : goal.returns-then-count-steps
 returns-then-count-steps c =
-    simp (← c.number16_at-count.ensures, ← c.requires.steps_value, ne_eqb _ _ c.if-count-steps.true) at (passed (goal.at.returns-then-count-steps c).In-Good)
+    simp (← c.number16_at-count.ensures, ← c.requires.steps_value, ne_eqb _ _ c.if-count-steps.true) at (passed
+    (goal.at.returns-then-count-steps c).In-Good)
 
 pub returns-then-at-bytes : goal.returns-then-at-bytes
 returns-then-at-bytes c =

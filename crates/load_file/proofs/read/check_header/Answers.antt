@@ -42,14 +42,25 @@ named c = sym (c.is_version.ensures ∙ ap is_version c.byte_at.ensures)
 
 pub returns-then-not-is_version : goal.returns-then-not-is_version
 returns-then-not-is_version c =
-    rw (named (goal.at.returns-then-not-is_version c).After-is_version ∙ c.if-not-is_version.true) at (passed (goal.at.returns-then-not-is_version c).In-Good)
+    rw (named (goal.at.returns-then-not-is_version c).After-is_version ∙ c.if-not-is_version.true) at (passed
+    (goal.at.returns-then-not-is_version c).In-Good)
 
 pub returns-then-byte_at-gt-MOST_ROWS : goal.returns-then-byte_at-gt-MOST_ROWS
 returns-then-byte_at-gt-MOST_ROWS c =
-    rw (named (goal.at.returns-then-byte_at-gt-MOST_ROWS c).After-is_version ∙ c.if-not-is_version.false, ← c.byte_at-2.ensures, lt-ltb _ _ c.if-byte_at-gt-MOST_ROWS.true)
+    rw (
+      named (goal.at.returns-then-byte_at-gt-MOST_ROWS c).After-is_version ∙ c.if-not-is_version.false,
+      ←
+          c.byte_at-2.ensures,
+      lt-ltb _ _ c.if-byte_at-gt-MOST_ROWS.true,
+    )
     at (passed (goal.at.returns-then-byte_at-gt-MOST_ROWS c).In-Good)
 
 pub returns : goal.returns
 returns c =
-    rw (named (goal.at.returns c).After-is_version ∙ c.if-not-is_version.false, ← c.byte_at-2.ensures, le-ltb _ _ c.if-byte_at-gt-MOST_ROWS.false)
+    rw (
+      named (goal.at.returns c).After-is_version ∙ c.if-not-is_version.false,
+      ← c.byte_at-2.ensures,
+      le-ltb _
+          _ c.if-byte_at-gt-MOST_ROWS.false,
+    )
     at (passed (goal.at.returns c).In-Good)

@@ -18,7 +18,11 @@ pub loop-i-init : goal.loop-i-init
 loop-i-init c = (search rules, rows_none c.args.bytes.now _ c.zero_row-kept.ensures, refl)
 
 pub read_row-reading-requires : goal.read_row-reading-requires
-read_row-reading-requires c = record { at_bound = (omega arith, c.requires.0); rows_before = c.loop-i.invariant.1.before }
+read_row-reading-requires c = record {
+  at_bound = (omega arith, c.requires.0);
+  rows_before =
+      c.loop-i.invariant.1.before;
+}
 
 pub overflow_add-steps : goal.overflow_add-steps
 overflow_add-steps c =

@@ -52,13 +52,15 @@ box-asked c bs before =
 pub returns-then-identifier_taken : goal.returns-then-identifier_taken
 unfolding taken_tests
 returns-then-identifier_taken c bs before =
-    simp (sym (identifier-asked (goal.at.returns-then-identifier_taken c).After-identifier_taken bs before) ∙ c.if-identifier_taken.true) at (passed (goal.at.returns-then-identifier_taken c).In-Good bs)
+    simp (sym (identifier-asked (goal.at.returns-then-identifier_taken c).After-identifier_taken bs before) ∙
+    c.if-identifier_taken.true) at (passed (goal.at.returns-then-identifier_taken c).In-Good bs)
 
 pub returns-then-box_taken : goal.returns-then-box_taken
 unfolding taken_tests
 returns-then-box_taken c bs before =
     simp (
-      sym (identifier-asked (goal.at.returns-then-box_taken c).After-identifier_taken bs before) ∙ c.if-identifier_taken.false,
+      sym (identifier-asked (goal.at.returns-then-box_taken c).After-identifier_taken bs before) ∙
+          c.if-identifier_taken.false,
       sym (box-asked (goal.at.returns-then-box_taken c).After-box_taken bs before) ∙ c.if-box_taken.true,
     ) at
     (passed (goal.at.returns-then-box_taken c).In-Good bs)

@@ -44,13 +44,22 @@ returns-then-bytes-at c =
     let met : first_met (due_tests (row_kind (version_said bs)) bs start.at) ≡ Refused FileShort =
     rw (lt-ltb (length bs) (start.at + (row_kind (version_said bs)).size)
     (omega (arith, least, c.if-bytes-at.true, c.row_size.ensures))) in
-    let answer = ap (λ (r : RowReading). r.answer) c.no_row.ensures in record { answer_value = answer ∙ sym (own_fault-refused bs start.at start.i refl met); row_value = λ good. absurd (good-refused _ _ good answer) }
+    let answer = ap (λ (r : RowReading). r.answer) c.no_row.ensures in record {
+      answer_value = answer ∙ sym
+          (own_fault-refused bs start.at start.i refl met);
+      row_value = λ good. absurd (good-refused _ _ good answer);
+    }
 
 pub returns-in-Refused : goal.returns-in-Refused
 returns-in-Refused c =
     let start = c.args in
     let h = c.in-Refused.is in
-    let answer = ap (λ (r : RowReading). r.answer) c.no_row-in-Refused.ensures in record { answer_value = answer ∙ sym (own_fault-refused start.bytes.now start.at start.i (due-found (goal.at.returns-in-Refused c).After-check_due) h); row_value = λ good. absurd (good-refused _ _ good answer) }
+    let answer = ap (λ (r : RowReading). r.answer) c.no_row-in-Refused.ensures in record {
+      answer_value = answer
+          ∙ sym (own_fault-refused start.bytes.now start.at start.i (due-found (goal.at.returns-in-Refused
+          c).After-check_due) h);
+      row_value = λ good. absurd (good-refused _ _ good answer);
+    }
 
 -- what is found in the row's fields is what is found of its own record
 pub returns : goal.returns

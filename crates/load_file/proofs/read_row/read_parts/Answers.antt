@@ -39,7 +39,15 @@ module _ (c : Start) where
   steps-from = ap (c.args.at +◌) c.requires.at_bound.1
 
 pub read_steps-steps-requires : goal.read_steps-steps-requires
-read_steps-steps-requires c = record { from_bound = (omega (arith, size-le (goal.at.read_steps-steps-requires c).Start), steps-from (goal.at.read_steps-steps-requires c).Start); count_value = (steps-said (goal.at.read_steps-steps-requires c).Start, few-steps (goal.at.read_steps-steps-requires c).Start) }
+read_steps-steps-requires c =
+    let here = (goal.at.read_steps-steps-requires c).Start in
+    record {
+      from_bound = (omega (arith, size-le here), steps-from here);
+      count_value = (
+        steps-said here,
+        few-steps here,
+      );
+    }
 
 pub returns-in-Refused : goal.returns-in-Refused
 returns-in-Refused c =
@@ -70,31 +78,35 @@ overflow_add-behind c =
 
 pub read_windows-windows-requires : goal.read_windows-windows-requires
 read_windows-windows-requires c =
-    let start = begun (goal.at.read_windows-windows-requires c).In-Good in record {
+    let here = (goal.at.read_windows-windows-requires c).In-Good in
+    let start = begun here in record {
       from_bound = (
         omega (arith, size-le start, few-steps start),
         ap₂ (λ n s. n + 6 * s) (steps-from start) (steps-said start),
-        steps-put _ start.args.at start.requires.own_value.0 (steps-are (goal.at.read_windows-windows-requires c).In-Good),
+        steps-put _ start.args.at start.requires.own_value.0 (steps-are here),
       );
       count_value = (windows-said start, few-windows start);
     }
 
 pub returns-in-Refused-found : goal.returns-in-Refused-found
 returns-in-Refused-found c =
-    let start = (begun (goal.at.returns-in-Refused-found c).In-Good).args in
+    let here = (goal.at.returns-in-Refused-found c).In-Good in
+    let start = (begun here).args in
     let h = sym c.read_windows-windows.ensures.answer_value ∙ c.in-Refused-found.is in
-    c.no_row-in-Refused-found.ensures ∙ read_parts-refused start.bytes.now start.at _ (rw (steps-good (goal.at.returns-in-Refused-found c).In-Good, h))
+    c.no_row-in-Refused-found.ensures ∙ read_parts-refused start.bytes.now start.at _ (rw (steps-good here, h))
 
 pub returns : goal.returns
 returns c =
-    let start = begun (goal.at.returns c).In-Good in
+    let here = (goal.at.returns c).In-Good in
+    let start = begun here in
     let bs = start.args.bytes.now in
     let at = start.args.at in
     let h : windows_fault bs at ≡ Good = sym c.read_windows-windows.ensures.answer_value ∙ c.in-Good-found.is in
     let are = c.read_windows-windows.ensures.window_value c.in-Good-found.is
     ∙ ap₂ (windows_from bs) (ap₂ (λ n s. n + 6 * s) (steps-from start) (steps-said start)) (windows-said start) in
-    ap (λ row. record { answer = Good; row = row }) (windows-put bs at start.requires.own_value.0 (steps-are (goal.at.returns c).In-Good) are)
-    ∙ read_parts-good bs at (rw (steps-good (goal.at.returns c).In-Good, h))
+    ap (λ row. record { answer = Good; row = row }) (windows-put bs at start.requires.own_value.0 (steps-are
+    here) are)
+    ∙ read_parts-good bs at (rw (steps-good here, h))
 
 pub overflow_add-from : goal.overflow_add-from
 overflow_add-from c = let small = size-le (goal.at.overflow_add-from c).Start in search rules

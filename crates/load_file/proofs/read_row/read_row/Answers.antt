@@ -22,19 +22,21 @@ own-good c = sym c.read_own-own.ensures.answer_value ∙ c.in-Good.is
 
 pub read_parts-requires : goal.read_parts-requires
 read_parts-requires c =
+    let here = (goal.at.read_parts-requires c).In-Good in
     let bs = c.args.bytes.now in record {
       at_bound = (c.requires.at_bound.0, sized (goal.at.read_parts-requires c).After-row_size-size);
       own_value = (
         c.read_own-own.ensures.row_value c.in-Good.is,
-        own-steps-le bs c.args.at c.args.i (own-good (goal.at.read_parts-requires c).In-Good),
-        own-windows-le bs c.args.at c.args.i (own-good (goal.at.read_parts-requires c).In-Good),
+        own-steps-le bs c.args.at c.args.i (own-good here),
+        own-windows-le bs c.args.at c.args.i (own-good here),
       );
     }
 
 pub returns-in-Good : goal.returns-in-Good
 returns-in-Good c =
     let start = c.args in
-    c.read_parts.ensures ∙ read_row-parts start.bytes.now start.at start.i (own-good (goal.at.returns-in-Good c).In-Good)
+    c.read_parts.ensures ∙ read_row-parts start.bytes.now start.at start.i (own-good (goal.at.returns-in-Good
+    c).In-Good)
 
 pub returns-in-Refused : goal.returns-in-Refused
 returns-in-Refused c =

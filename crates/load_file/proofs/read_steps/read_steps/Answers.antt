@@ -54,7 +54,12 @@ pub returns-after-loop-j : goal.returns-after-loop-j
 returns-after-loop-j c =
     let bs = c.args.bytes.now in
     let e : c.loop-j.j ≡ c.args.count = omega arith in
-    let n : c.loop-j.j ≡ steps_said bs c.args.at = e ∙ c.requires.count_value.0 in record { answer_value = c.loop-j.invariant.3 ∙ sym (ap (first_fault_to (step_fault_in bs c.args.at)) (sym n) ∙ c.loop-j.invariant.1); step_value = λ good. c.loop-j.invariant.2 ∙ ap (steps_from bs c.args.from) e }
+    let n : c.loop-j.j ≡ steps_said bs c.args.at = e ∙ c.requires.count_value.0 in record {
+      answer_value =
+          c.loop-j.invariant.3 ∙ sym (ap (first_fault_to (step_fault_in bs c.args.at)) (sym n) ∙
+          c.loop-j.invariant.1);
+      step_value = λ good. c.loop-j.invariant.2 ∙ ap (steps_from bs c.args.from) e;
+    }
 
 pub returns-in-Refused : goal.returns-in-Refused
 returns-in-Refused c =

@@ -70,7 +70,12 @@ pub returns-after-loop-k : goal.returns-after-loop-k
 returns-after-loop-k c =
     let bs = c.args.bytes.now in
     let e : c.loop-k.k ≡ c.args.count = omega arith in
-    let n : c.loop-k.k ≡ windows_said bs c.args.at = e ∙ c.requires.count_value.0 in record { answer_value = c.loop-k.invariant.3 ∙ sym (ap (first_fault_to (window_fault_in bs c.args.at)) (sym n) ∙ c.loop-k.invariant.1); window_value = λ good. c.loop-k.invariant.2 ∙ ap (windows_from bs c.args.from) e }
+    let n : c.loop-k.k ≡ windows_said bs c.args.at = e ∙ c.requires.count_value.0 in record {
+      answer_value =
+          c.loop-k.invariant.3 ∙ sym (ap (first_fault_to (window_fault_in bs c.args.at)) (sym n) ∙
+          c.loop-k.invariant.1);
+      window_value = λ good. c.loop-k.invariant.2 ∙ ap (windows_from bs c.args.from) e;
+    }
 
 pub returns-in-Refused : goal.returns-in-Refused
 returns-in-Refused c =

@@ -25,8 +25,11 @@ few_bytes : (c : After-row_size-size) → c.row_size-size.result ≤ (row_kind n
 few_bytes c = rw c.row_size-size.ensures (row_kind-most c.args.version)
 
 pub write_steps-requires : goal.write_steps-requires
-write_steps-requires c =
-    (omega (arith, few_bytes (goal.at.write_steps-requires c).After-row_size-size), few-steps (goal.at.write_steps-requires c).After-counted_row-counted)
+write_steps-requires c = (
+  omega (arith, few_bytes (goal.at.write_steps-requires c).After-row_size-size),
+  few-steps
+      (goal.at.write_steps-requires c).After-counted_row-counted,
+)
 
 -- the place behind the steps
 pub overflow_add-size : goal.overflow_add-size
@@ -37,7 +40,10 @@ overflow_add-size c =
 
 pub write_windows-requires : goal.write_windows-requires
 write_windows-requires c =
-    (omega (arith, few_bytes (goal.at.write_windows-requires c).After-row_size-size, few-steps (goal.at.write_windows-requires c).After-counted_row-counted), few-windows (goal.at.write_windows-requires c).After-counted_row-counted)
+    let here = (goal.at.write_windows-requires c).After-counted_row-counted in (
+      omega (arith, few_bytes (goal.at.write_windows-requires c).After-row_size-size, few-steps here),
+      few-windows here,
+    )
 
 pub returns : goal.returns
 returns c =

@@ -41,7 +41,8 @@ returns c =
     let start = c.args in
     let file = load_bytes start.version start.load in
     let room : length file ≤ length start.out.now = omega arith in
-    written-given (write_fault start.version start.load) file start.out.now _ (to-be-written (goal.at.returns c).In_default) room
+    written-given (write_fault start.version start.load) file start.out.now _ (to-be-written (goal.at.returns
+    c).In_default) room
     (c.write_file.ensures ∙ sets-front start.out.now file room)
 
 pub whole_size-requires : goal.whole_size-requires

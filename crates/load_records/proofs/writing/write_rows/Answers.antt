@@ -52,28 +52,33 @@ overflow_add-at c =
 
 pub loop-i-preserved : goal.loop-i-preserved
 loop-i-preserved c =
+    let here = (goal.at.loop-i-preserved c).After-records_in-records in
     let load = c.args.load in
     let v = c.args.version in
     let e = rows_bytes-length-next v load c.loop-i.i in
-    let long = size (goal.at.loop-i-preserved c).After-records_in-records in (
+    let long = size here in (
       search rules,
       search rules,
       omega arith,
       c.overwrite.auto.out ∙ c.loop-i.invariant.3,
       sets-joined-next (λ i. row_bytes v (row_at load i)) _ _ _ 4 c.loop-i.at c.loop-i.i
           c.loop-i.invariant.2 c.loop-i.invariant.4
-          (c.overwrite.ensures ∙ ap (sets _ c.loop-i.at) (taken (goal.at.loop-i-preserved c).After-records_in-records)),
+          (c.overwrite.ensures ∙ ap (sets _ c.loop-i.at) (taken here)),
     )
 
 pub returns : goal.returns
 returns c =
-    let e : c.loop-i.i ≡ c.args.load.rows = omega arith in record { value = rw e at c.loop-i.invariant.2; out_after = rw e at c.loop-i.invariant.4 }
+    let e : c.loop-i.i ≡ c.args.load.rows = omega arith in record {
+      value = rw e at c.loop-i.invariant.2;
+      out_after = rw e at c.loop-i.invariant.4;
+    }
 
 pub slice_bounds-bytes-end : goal.slice_bounds-bytes-end
 slice_bounds-bytes-end c = there (goal.at.slice_bounds-bytes-end c).After-records_in-records
 
 pub slice_bounds-overwrite-end : goal.slice_bounds-overwrite-end
-slice_bounds-overwrite-end c = sym (length-take-le _ _ (there (goal.at.slice_bounds-overwrite-end c).After-records_in-records))
+slice_bounds-overwrite-end
+    c = sym (length-take-le _ _ (there (goal.at.slice_bounds-overwrite-end c).After-records_in-records))
 
 pub shape_of-out : goal.shape_of-out
 shape_of-out c = c.loop-i.invariant.3

@@ -30,12 +30,14 @@ returns-then-not-is_line c = simp (c.if-not-is_line.true)
 
 pub returns-then-row_differs : goal.returns-then-row_differs
 unfolding line_tests
-returns-then-row_differs c = sym (passed1 (goal.at.returns-then-row_differs c).Else-not-is_line ∙ simp (sym c.row_differs.ensures ∙ c.if-row_differs.true))
+returns-then-row_differs c = sym (passed1 (goal.at.returns-then-row_differs c).Else-not-is_line ∙ simp (sym
+    c.row_differs.ensures ∙ c.if-row_differs.true))
 
 pub returns-then-dash_alone : goal.returns-then-dash_alone
 unfolding line_tests
 returns-then-dash_alone c =
-    sym (passed2 (goal.at.returns-then-dash_alone c).Else-row_differs ∙ simp (sym c.dash_alone.ensures ∙ c.if-dash_alone.true))
+    sym (passed2 (goal.at.returns-then-dash_alone c).Else-row_differs ∙ simp (sym c.dash_alone.ensures ∙
+    c.if-dash_alone.true))
 
 passed3 : (c : Else-dash_alone) → Passed c.before.before.before.before.before 3
 unfolding line_tests
@@ -44,8 +46,10 @@ passed3 c =
 
 pub returns-then-limit_alone : goal.returns-then-limit_alone
 unfolding line_tests
-returns-then-limit_alone c = sym (passed3 (goal.at.returns-then-limit_alone c).Else-dash_alone ∙ simp (sym c.limit_alone.ensures ∙ c.if-limit_alone.true))
+returns-then-limit_alone c = sym (passed3 (goal.at.returns-then-limit_alone c).Else-dash_alone ∙ simp (sym
+    c.limit_alone.ensures ∙ c.if-limit_alone.true))
 
 pub returns : goal.returns
 unfolding line_tests
-returns c = sym (passed3 (goal.at.returns c).Else-dash_alone ∙ simp (sym c.limit_alone.ensures ∙ c.if-limit_alone.false))
+returns c = sym (passed3 (goal.at.returns c).Else-dash_alone ∙ simp (sym c.limit_alone.ensures ∙
+    c.if-limit_alone.false))

@@ -32,19 +32,22 @@ module _ (c : After-check_line) where
 pub returns-in-Refused : goal.returns-in-Refused
 returns-in-Refused c =
     let inside = c.loop-at-test.true in
-    line-decides c.loop-at.invariant inside _ c.line_at-read.ensures _ (found (goal.at.returns-in-Refused c).After-check_line) _ c.in-Refused.is
+    line-decides c.loop-at.invariant inside _ c.line_at-read.ensures _ (found (goal.at.returns-in-Refused
+    c).After-check_line) _ c.in-Refused.is
 
 pub loop-at-smaller : goal.loop-at-smaller
 loop-at-smaller c =
     let inside = c.loop-at-test.true in
     let behind =
-    next-behind c.loop-at.invariant inside _ c.line_at-read.ensures _ (found (goal.at.loop-at-smaller c).After-check_line) c.in-Good.is in
+    next-behind c.loop-at.invariant inside _ c.line_at-read.ensures _ (found (goal.at.loop-at-smaller
+    c).After-check_line) c.in-Good.is in
     omega arith
 
 pub loop-at-preserved : goal.loop-at-preserved
 loop-at-preserved c =
     let inside = c.loop-at-test.true in
-    walked_next c.loop-at.invariant inside _ c.line_at-read.ensures _ (found (goal.at.loop-at-preserved c).After-check_line) c.in-Good.is
+    walked_next c.loop-at.invariant inside _ c.line_at-read.ensures _ (found (goal.at.loop-at-preserved
+    c).After-check_line) c.in-Good.is
 
 pub returns : goal.returns
 returns c = end-decides c.loop-at.invariant c.loop-at-test.false _ c.check_end.ensures

@@ -38,7 +38,8 @@ pub loop-k-preserved : goal.loop-k-preserved
 loop-k-preserved c = (
   omega arith,
   line-next c.requires (omega arith) c.loop-k.invariant.1 c.line_at-read.ensures,
-  below_more _ c.loop-k.k c.loop-k.invariant.2 (sym (asked (goal.at.loop-k-preserved c).After-is_dash) ∙ c.if-not-is_dash.false),
+  below_more _ c.loop-k.k c.loop-k.invariant.2 (sym (asked (goal.at.loop-k-preserved c).After-is_dash) ∙
+      c.if-not-is_dash.false),
 )
 
 pub returns : goal.returns

@@ -51,15 +51,18 @@ module _ (c : After-is_limit) where
 
   -- where it has a limit, there is a place for its window
   room : c.is_limit.result ≡ true → length (windows_to bs from count j) < most_windows
-  room h = windows_to-lt bs from count c.requires.marked c.requires.count_le_most_steps j (omega arith) (sym asked ∙ h)
+  room h = windows_to-lt bs from count c.requires.marked c.requires.count_le_most_steps j (omega arith) (sym
+      asked ∙ h)
 
 pub dashes_from-behind-requires : goal.dashes_from-behind-requires
 dashes_from-behind-requires c =
-    lines-behind (bs (goal.at.dashes_from-behind-requires c).After-is_limit) (from (goal.at.dashes_from-behind-requires c).After-is_limit) (count (goal.at.dashes_from-behind-requires c).After-is_limit) (j (goal.at.dashes_from-behind-requires c).After-is_limit + 1) _ c.requires.lines_stand (next (goal.at.dashes_from-behind-requires c).After-is_limit)
+    let here = (goal.at.dashes_from-behind-requires c).After-is_limit in
+    lines-behind (bs here) (from here) (count here) (j here + 1) _ c.requires.lines_stand (next here)
 
 pub window_of-requires : goal.window_of-requires
 window_of-requires c =
-    let most = dashes_from-le (bs (goal.at.window_of-requires c).After-is_limit) c.line_at-read.result.next (count (goal.at.window_of-requires c).After-is_limit - (j (goal.at.window_of-requires c).After-is_limit + 1)) in
+    let here = (goal.at.window_of-requires c).After-is_limit in
+    let most = dashes_from-le (bs here) c.line_at-read.result.next (count here - (j here + 1)) in
     omega (arith, c.dashes_from-behind.ensures, c.requires.count_le_most_steps)
 
 pub loop-j-preserved : goal.loop-j-preserved
@@ -71,7 +74,11 @@ loop-j-preserved c =
           let h = sym (asked met) ∙ w.if-is_limit.true in
           let is-window : w.window_of.result ≡ window_from (bs met) (from met) (count met) (j met) =
           w.window_of.ensures
-          ∙ ap₂ (λ behind n. narrow_window (record { first = shown (j met); last = shown (j met) + behind; limit = n }))
+          ∙ ap₂ (λ behind n. narrow_window (record {
+            first = shown (j met);
+            last = shown (j met) + behind;
+            limit = n;
+          }))
           (w.dashes_from-behind.ensures ∙ ap (λ at. dashes_from (bs met) at (count met - (j met + 1))) (next met))
           (w.limit_of.ensures ∙ ap (λ line. limit_of line.mark) (says met)) in
           let more =
@@ -98,7 +105,11 @@ returns c =
     (c.loop-j.invariant.3 ∙ ap window_places all)
 
 pub offset_bounds-window-stored : goal.offset_bounds-window-stored
-offset_bounds-window-stored c = omega (arith, room (goal.at.offset_bounds-window-stored c).After-is_limit c.if-is_limit.true)
+offset_bounds-window-stored c = omega (
+  arith,
+  room (goal.at.offset_bounds-window-stored c).After-is_limit
+      c.if-is_limit.true,
+)
 
 pub bounds-window-stored : goal.bounds-window-stored
 bounds-window-stored c = omega (arith, room (goal.at.bounds-window-stored c).After-is_limit c.if-is_limit.true)

@@ -30,10 +30,12 @@ module _ (c : After-run_from-run) where
 
 pub returns-then-steps-gt-MOST_STEPS : goal.returns-then-steps-gt-MOST_STEPS
 returns-then-steps-gt-MOST_STEPS c =
-    let l : most_steps < steps_from (bs (goal.at.returns-then-steps-gt-MOST_STEPS c).After-run_from-run) (at (goal.at.returns-then-steps-gt-MOST_STEPS c).After-run_from-run) = omega (arith, steps-are (goal.at.returns-then-steps-gt-MOST_STEPS c).After-run_from-run, c.if-steps-gt-MOST_STEPS.true) in
+    let here = (goal.at.returns-then-steps-gt-MOST_STEPS c).After-run_from-run in
+    let l : most_steps < steps_from (bs here) (at here) = omega
+    (arith, steps-are here, c.if-steps-gt-MOST_STEPS.true) in
     ap₂ (λ row next. record { row = row; next = next })
-    (c.zero_row-row.ensures ∙ sym (kept_row-long (line_from (bs (goal.at.returns-then-steps-gt-MOST_STEPS c).After-run_from-run) (at (goal.at.returns-then-steps-gt-MOST_STEPS c).After-run_from-run)) (steps_from (bs (goal.at.returns-then-steps-gt-MOST_STEPS c).After-run_from-run) (at (goal.at.returns-then-steps-gt-MOST_STEPS c).After-run_from-run)) l))
-    (next-is (goal.at.returns-then-steps-gt-MOST_STEPS c).After-run_from-run)
+    (c.zero_row-row.ensures ∙ sym (kept_row-long (line_from (bs here) (at here)) (steps_from (bs here) (at here)) l))
+    (next-is here)
 
 pub row_of-row-requires : goal.row_of-row-requires
 row_of-row-requires c =
@@ -48,9 +50,11 @@ row_of-row-requires c =
 
 pub returns : goal.returns
 returns c =
-    let l : steps_from (bs (goal.at.returns c).After-run_from-run) (at (goal.at.returns c).After-run_from-run) ≤ most_steps = omega (arith, steps-are (goal.at.returns c).After-run_from-run, c.if-steps-gt-MOST_STEPS.false) in
+    let here = (goal.at.returns c).After-run_from-run in
+    let l : steps_from (bs here) (at here) ≤ most_steps = omega
+    (arith, steps-are here, c.if-steps-gt-MOST_STEPS.false) in
     ap₂ (λ row next. record { row = row; next = next })
     (c.row_of-row.ensures
-    ∙ ap (λ steps. narrow_row (row_of (line_from (bs (goal.at.returns c).After-run_from-run) (at (goal.at.returns c).After-run_from-run)) steps)) (steps-are (goal.at.returns c).After-run_from-run)
-    ∙ sym (kept_row-short (line_from (bs (goal.at.returns c).After-run_from-run) (at (goal.at.returns c).After-run_from-run)) (steps_from (bs (goal.at.returns c).After-run_from-run) (at (goal.at.returns c).After-run_from-run)) l))
-    (next-is (goal.at.returns c).After-run_from-run)
+    ∙ ap (λ steps. narrow_row (row_of (line_from (bs here) (at here)) steps)) (steps-are here)
+    ∙ sym (kept_row-short (line_from (bs here) (at here)) (steps_from (bs here) (at here)) l))
+    (next-is here)

@@ -14,7 +14,8 @@ returns c =
     let bs = c.args.bytes.now in
     let at = c.args.at in
     let says : c.line_at-read.result.line ≡ line_from bs at 0 =
-    line-says c.requires.lines_stand c.requires.steps_nonzero.0 (sym (line_place-zero bs at)) c.line_at-read.ensures in
+    line-says c.requires.lines_stand c.requires.steps_nonzero.0 (sym (line_place-zero bs at))
+    c.line_at-read.ensures in
     rw (
       c.or_zero_32-3.ensures,
       c.at_most_32.ensures,

@@ -53,10 +53,18 @@ loop-j-preserved c =
 pub returns : goal.returns
 unfolding row_lines
 returns c =
-    let e : c.loop-j.j ≡ c.args.row.steps = omega arith in record { value = (rw e at c.loop-j.invariant.1, omega arith); out_after = rw e at c.loop-j.invariant.4 }
+    let e : c.loop-j.j ≡ c.args.row.steps = omega arith in record {
+      value = (
+        rw e at c.loop-j.invariant.1,
+        omega
+            arith,
+      );
+      out_after = rw e at c.loop-j.invariant.4;
+    }
 
 pub slice_bounds-bytes-end : goal.slice_bounds-bytes-end
 slice_bounds-bytes-end c = there (goal.at.slice_bounds-bytes-end c).After-line_of-line
 
 pub slice_bounds-overwrite-end : goal.slice_bounds-overwrite-end
-slice_bounds-overwrite-end c = sym (length-take-le _ _ (there (goal.at.slice_bounds-overwrite-end c).After-line_of-line))
+slice_bounds-overwrite-end
+    c = sym (length-take-le _ _ (there (goal.at.slice_bounds-overwrite-end c).After-line_of-line))

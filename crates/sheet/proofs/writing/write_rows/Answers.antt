@@ -51,7 +51,10 @@ loop-i-preserved c =
 pub returns : goal.returns
 unfolding sheet_bytes
 returns c =
-    let e : c.loop-i.i ≡ c.args.load.rows = omega arith in record { value = rw e at c.loop-i.invariant.2; out_after = rw e at c.loop-i.invariant.5 }
+    let e : c.loop-i.i ≡ c.args.load.rows = omega arith in record {
+      value = rw e at c.loop-i.invariant.2;
+      out_after = rw e at c.loop-i.invariant.5;
+    }
 
 pub shape_of-out : goal.shape_of-out
 shape_of-out c = c.loop-i.invariant.4

@@ -38,7 +38,8 @@ returns-then-out-size c =
     let start = c.args in
     record {
       given =
-          short-given (check_plain start.load) (sheet_bytes start.load) start.out.now (is_plain (goal.at.returns-then-out-size c).In_default)
+          short-given (check_plain start.load) (sheet_bytes start.load) start.out.now (is_plain
+          (goal.at.returns-then-out-size c).In_default)
           (omega (arith, c.write_rows-size.ensures.value));
       length-is = refl;
     }

@@ -47,14 +47,15 @@ module _ (c : Else-digits-eq0) where
 
 pub returns : goal.returns
 returns c =
+    let here = (goal.at.returns c).After-decimal_at-digits in
     let args = c.args in
     record {
       says =
           rw (lt-ltb 0 (plain_at args.bytes.now args.place) (some (goal.at.returns c).Else-digits-eq0))
           (ap (λ b. eqb b comma)
-          (c.byte_at-is_field.ensures ∙ ap (λ n. byte_at args.bytes.now (args.place + n)) (counted (goal.at.returns c).After-decimal_at-digits)));
+          (c.byte_at-is_field.ensures ∙ ap (λ n. byte_at args.bytes.now (args.place + n)) (counted here)));
       value = λ _. ap (λ (d : Digits). d.value) c.decimal_at-digits.ensures;
-      next = λ _. ap (λ n. args.place + n + 1) (counted (goal.at.returns c).After-decimal_at-digits);
+      next = λ _. ap (λ n. args.place + n + 1) (counted here);
     }
 
 pub overflow_add-behind : goal.overflow_add-behind

@@ -32,7 +32,8 @@ marked c =
 pub returns-then-not-ends_at : goal.returns-then-not-ends_at
 returns-then-not-ends_at c =
     let args = c.args in
-    end-lacks args.bytes.now args.at c.mark_at-marked.result (marked (goal.at.returns-then-not-ends_at c).After-mark_at-marked) c.no_line-then-not-ends_at.result
+    end-lacks args.bytes.now args.at c.mark_at-marked.result (marked (goal.at.returns-then-not-ends_at
+    c).After-mark_at-marked) c.no_line-then-not-ends_at.result
     (sym c.ends_at.ensures ∙ c.if-not-ends_at.true) c.no_line-then-not-ends_at.ensures
 
 ended : (c : Else-not-ends_at)
@@ -44,12 +45,17 @@ ended c = sym c.ends_at.ensures ∙ c.if-not-ends_at.false
 pub overflow_add-result : goal.overflow_add-result
 overflow_add-result c =
     let args = c.args in
-    omega (arith, ends-inside args.bytes.now c.mark_at-marked.result.next (ended (goal.at.overflow_add-result c).Else-not-ends_at))
+    omega (
+      arith,
+      ends-inside args.bytes.now c.mark_at-marked.result.next (ended (goal.at.overflow_add-result
+          c).Else-not-ends_at),
+    )
 
 pub returns : goal.returns
 returns c =
     let args = c.args in
-    line_read args.bytes.now args.at c.mark_at-marked.result (marked (goal.at.returns c).After-mark_at-marked) c.fields_at-fields.result.values
+    line_read args.bytes.now args.at c.mark_at-marked.result (marked (goal.at.returns c).After-mark_at-marked)
+    c.fields_at-fields.result.values
     (sym c.fields_at-fields.ensures.says ∙ not-false _ c.if-not-fields.false)
     (c.fields_at-fields.ensures.are (not-false _ c.if-not-fields.false))
     (ended (goal.at.returns c).Else-not-ends_at)

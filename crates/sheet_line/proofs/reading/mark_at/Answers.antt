@@ -47,10 +47,11 @@ module _ (c : After-decimal_at-digits) where
 pub returns-then-digits-eq0 : goal.returns-then-digits-eq0
 unfolding mark_at behind_mark
 returns-then-digits-eq0 c =
+    let here = (goal.at.returns-then-digits-eq0 c).After-decimal_at-digits in
     let args = c.args in
-    let e = counted (goal.at.returns-then-digits-eq0 c).After-decimal_at-digits in
+    let e = counted here in
     rw (
-      ne_eqb (byte_at args.bytes.now args.place) dash (other (goal.at.returns-then-digits-eq0 c).After-decimal_at-digits),
+      ne_eqb (byte_at args.bytes.now args.place) dash (other here),
       le-ltb 0 (plain_at args.bytes.now args.place) (omega arith),
     )
     (ap (λ n. record { mark = Nothing; next = n }) (omega arith))

@@ -44,10 +44,11 @@ with_bytes-requires c =
 
 pub returns : goal.returns
 returns c =
+    let here = (goal.at.returns c).After-step_at-step in
     let row = c.args.row in
     let j = c.args.j in
     line-put row j c.step_at-step.result c.with_fields.result c.with_mark.result
     c.with_bytes.result
     c.step_at-step.ensures c.with_fields.ensures c.with_mark.ensures.is
     c.with_bytes.ensures
-    (line_bytes-length-le row j (costs (goal.at.returns c).After-step_at-step) (waits (goal.at.returns c).After-step_at-step) c.with_mark.ensures.few)
+    (line_bytes-length-le row j (costs here) (waits here) c.with_mark.ensures.few)

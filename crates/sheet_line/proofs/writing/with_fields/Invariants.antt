@@ -13,7 +13,8 @@ use Rattle.sheet_line.proofs.writing.with_fields.Given as goal
 
 abbrev pub invariant-loop-k : goal.invariant-loop-k
 invariant-loop-k l =
-    (l.k ≤ 6) × (l.held.length ≤ l.initial.held.length + 11 * l.k) × (l.held ≡ behind l.initial.held (fields_text l.numbers l.k))
+    (l.k ≤ 6) × (l.held.length ≤ l.initial.held.length + 11 * l.k) × (l.held ≡ behind l.initial.held
+    (fields_text l.numbers l.k))
 
 abbrev pub decreases-loop-k : goal.decreases-loop-k
 decreases-loop-k l = 6 - l.k

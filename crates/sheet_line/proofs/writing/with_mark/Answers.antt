@@ -53,7 +53,8 @@ returns-then-is_within c =
     ∙ ap (mark_in start.j) (sym read) in
     record {
       is = c.with_mark_in.ensures ∙ ap (λ m. behind start.text (mark_bytes m)) (sym e);
-      few = rw e (mark_in-length-le start.j window (limit-fits (goal.at.returns-then-is_within c).After-window_at-window));
+      few = rw e (mark_in-length-le start.j window (limit-fits (goal.at.returns-then-is_within
+          c).After-window_at-window));
     }
 
 pub loop-k-preserved : goal.loop-k-preserved

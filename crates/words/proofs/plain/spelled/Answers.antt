@@ -39,7 +39,9 @@ pub overflow_cast-value : goal.overflow_cast-value
 overflow_cast-value c = omega (arith, (sign (goal.at.overflow_cast-value c).In-loop-i).most)
 
 pub overflow_add-value : goal.overflow_add-value
-overflow_add-value c = omega (arith, so_far (goal.at.overflow_add-value c).In-loop-i, (sign (goal.at.overflow_add-value c).In-loop-i).most)
+overflow_add-value c =
+    let here = (goal.at.overflow_add-value c).In-loop-i in
+    omega (arith, so_far here, (sign here).most)
 
 pub loop-i-preserved : goal.loop-i-preserved
 unfolding value_at
