@@ -15,10 +15,10 @@ use Rattle.plan.proofs.BoardLaws.{numbers_from-length, marks_from-length}
 use Rattle.plan.proofs.refused.PassingLaws.{PlaceIn, stack_rows, closed-given}
 use Rattle.plan.proofs.refused.StayingFrom.{staying-read}
 use Rattle.plan.proofs.passing.passing_moment.Goals as goal
-use Rattle.plan.proofs.passing.passing_moment.Goals.{After-placed}
+use Rattle.plan.proofs.passing.passing_moment.Goals.{Start}
 
 -- what is asked of the arrays
-module _ (c : After-placed) where
+module _ (c : Start) where
   abbrev board : Board
   board = board_in c.args.counts.now c.args.lengths.now c.args.moments.now
 
@@ -59,17 +59,17 @@ module _ (c : After-placed) where
 
 pub returns-then-are_in_time : goal.returns-then-are_in_time
 returns-then-are_in_time c =
-    closed (goal.at.returns-then-are_in_time c).After-placed c.length_at-cost.result c.is_marked.result true c.are_in_time.result
+    closed (goal.at.returns-then-are_in_time c).Start c.length_at-cost.result c.is_marked.result true c.are_in_time.result
     c.length_at-cost.ensures c.is_marked.ensures c.if-not-is_marked.true c.are_in_time.ensures c.if-are_in_time.true
 
 pub returns-then-not-is_marked : goal.returns-then-not-is_marked
 returns-then-not-is_marked c =
-    closed (goal.at.returns-then-not-is_marked c).After-placed c.length_at-cost.result c.is_marked.result false c.are_in_time.result
+    closed (goal.at.returns-then-not-is_marked c).Start c.length_at-cost.result c.is_marked.result false c.are_in_time.result
     c.length_at-cost.ensures c.is_marked.ensures c.if-not-is_marked.true c.are_in_time.ensures c.if-are_in_time.false
 
 pub returns : goal.returns
 returns c =
-    let at = (goal.at.returns c).After-placed in
+    let at = (goal.at.returns c).Start in
     staying-read (board at) c.args.rows c.args.i c.requires.rows_le_most_rows.1 (placed at) c.args.clock (most at)
     (sym c.is_marked.ensures ∙ c.if-not-is_marked.false)
     c.args.order.now c.args.count c.due_after-own.result c.staying_moment.result _ _ _ _ _ _
@@ -78,10 +78,10 @@ returns c =
     c.staying_moment.ensures
 
 pub are_in_time-requires : goal.are_in_time-requires
-are_in_time-requires c = (long (goal.at.are_in_time-requires c).After-placed, search rules)
+are_in_time-requires c = (long (goal.at.are_in_time-requires c).Start, search rules)
 
 pub due_after-own-requires : goal.due_after-own-requires
-due_after-own-requires c = most (goal.at.due_after-own-requires c).After-placed
+due_after-own-requires c = most (goal.at.due_after-own-requires c).Start
 
 pub staying_moment-requires : goal.staying_moment-requires
-staying_moment-requires c = (long (goal.at.staying_moment-requires c).After-placed, search rules)
+staying_moment-requires c = (long (goal.at.staying_moment-requires c).Start, search rules)
