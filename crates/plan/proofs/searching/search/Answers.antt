@@ -1,6 +1,6 @@
 -- `search` passes over one row after the other, and goes one class further a turn and one step number further a round,
 -- until a candidate passes.
-use Prim.Native.Nat.{ℕ, min, ◌+◌, ◌≤◌, ◌<◌}
+use Prim.Native.Nat.{ℕ, min, ◌≤◌, ◌<◌}
 use mathlib.Core.Bool.{Bool, true, false, cond, ◌&&◌}
 use mathlib.Core.Logic.{◌≢◌}
 use mathlib.Core.Path.{◌≡◌, refl, ap, sym, ◌∙◌, subst}
@@ -88,15 +88,15 @@ loop-i-preserved c =
                 inv.3),
           )
       | else-is_ready w ↦ (
-            inv.0,
-            rw w.next-is inv.1,
-            rw w.until-is inv.2,
-            rw w.next-is
-                (pass
-                (not-ready board c.args.rows c.args.lowest fits.lowest-is c.search.number c.search.invariant.1 c.search-test.true i
-                c.args.clock c.is_ready.result c.is_ready.ensures w.if-is_ready.false)
-                inv.3),
-          )
+        inv.0,
+        rw w.next-is inv.1,
+        rw w.until-is inv.2,
+        rw w.next-is
+            (pass
+            (not-ready board c.args.rows c.args.lowest fits.lowest-is c.search.number c.search.invariant.1 c.search-test.true i
+            c.args.clock c.is_ready.result c.is_ready.ensures w.if-is_ready.false)
+            inv.3),
+      )
     ]
 
 pub loop-turn-preserved : goal.loop-turn-preserved
@@ -110,18 +110,18 @@ search-preserved c =
     let board = board_in c.args.counts.now c.args.lengths.now c.args.moments.now in
     elim c.if-numbers-number.branch [
       | then-numbers-number+else-loop-turn-test w ↦ (
-            w.row-is ∙ w.loop-turn.invariant.0,
-            omega (arith, round.invariant.1),
-            rw w.until-is w.loop-turn.invariant.1,
-            passed-number board _ _ round.number _ _ (omega (arith, w.loop-turn-test.false)) w.loop-turn.invariant.2,
-          )
+        w.row-is ∙ w.loop-turn.invariant.0,
+        omega (arith, round.invariant.1),
+        rw w.until-is w.loop-turn.invariant.1,
+        passed-number board _ _ round.number _ _ (omega (arith, w.loop-turn-test.false)) w.loop-turn.invariant.2,
+      )
       | else-numbers-number w ↦ (
-            w.row-is ∙ round.invariant.0,
-            omega (arith, round.invariant.1),
-            rw w.until-is round.invariant.2,
-            passed-unmarked board _ _ c.requires.search_fits.lowest-is _ _ _ c.requires.numbers_in round.number
-                w.if-numbers-number.false round.invariant.3,
-          )
+        w.row-is ∙ round.invariant.0,
+        omega (arith, round.invariant.1),
+        rw w.until-is round.invariant.2,
+        passed-unmarked board _ _ c.requires.search_fits.lowest-is _ _ _ c.requires.numbers_in round.number
+            w.if-numbers-number.false round.invariant.3,
+      )
     ]
 
 pub returns-after-search : goal.returns-after-search

@@ -1,6 +1,5 @@
 -- `sweep` goes one class further a turn, and one step number further a round: the rows gone over do not start before
 -- the soonest moment.
-use Prim.Native.Nat.{◌-◌, ◌≤◌}
 use mathlib.Core.Path.{◌≡◌, subst}
 use native.Mathlib.Omega.{arith}
 use Rattle.load.specs.Load.{most_steps}

@@ -70,38 +70,38 @@ loop-i-preserved c =
                 (passing.passes sooner)),
           )
       | then-is_tried+then-from-soonest+else-here-turn+else-moment-soonest w ↦ (
-            rw w.next-is inv.0,
-            rw w.soonest-is inv.1,
-            λ last s. rw (w.row-is, w.soonest-is, w.next-is)
-                (swept-to board _ _ _ _ _ _ _ _
-                (λ t a b. passed_on board _ _ number t turn next i
-                (λ same. first-quiet board _ _ _ fits.known i l _ w.row_from-from.ensures _ _ w.first_passing-moment.ensures t a
-                (omega (arith, w.if-moment-soonest.false))))
-                (inv.2 last s)),
-          )
+        rw w.next-is inv.0,
+        rw w.soonest-is inv.1,
+        λ last s. rw (w.row-is, w.soonest-is, w.next-is)
+            (swept-to board _ _ _ _ _ _ _ _
+            (λ t a b. passed_on board _ _ number t turn next i
+            (λ same. first-quiet board _ _ _ fits.known i l _ w.row_from-from.ensures _ _ w.first_passing-moment.ensures t a
+            (omega (arith, w.if-moment-soonest.false))))
+            (inv.2 last s)),
+      )
       | then-is_tried+else-from-soonest w ↦ (
-            rw w.next-is inv.0,
-            rw w.soonest-is inv.1,
-            λ last s. rw (w.row-is, w.soonest-is, w.next-is)
-                (swept-to board _ _ _ _ _ _ _ _
-                (λ t a b. passed_on board _ _ number t turn next i
-                (λ same. from-quiet board _ _ _ fits.known i l _ w.row_from-from.ensures t a (omega (arith, w.if-from-soonest.false))))
-                (inv.2 last s)),
-          )
+        rw w.next-is inv.0,
+        rw w.soonest-is inv.1,
+        λ last s. rw (w.row-is, w.soonest-is, w.next-is)
+            (swept-to board _ _ _ _ _ _ _ _
+            (λ t a b. passed_on board _ _ number t turn next i
+            (λ same. from-quiet board _ _ _ fits.known i l _ w.row_from-from.ensures t a (omega (arith, w.if-from-soonest.false))))
+            (inv.2 last s)),
+      )
       | else-is_tried w ↦ (
-            rw w.next-is inv.0,
-            rw w.soonest-is inv.1,
-            λ last s. rw (w.row-is, w.soonest-is, w.next-is)
-                (swept-to board _ _ _ _ _ _ _ _
-                (λ t a b. passed_on board _ _ number t turn next i
-                (λ same candidate.
-                absurd
-                (true-false c.is_tried.result
-                (c.is_tried.ensures
-                ∙ candidate-tried board _ _ fits.lowest-is number asks.0 asks.1 i t same candidate)
-                w.if-is_tried.false)))
-                (inv.2 last s)),
-          )
+        rw w.next-is inv.0,
+        rw w.soonest-is inv.1,
+        λ last s. rw (w.row-is, w.soonest-is, w.next-is)
+            (swept-to board _ _ _ _ _ _ _ _
+            (λ t a b. passed_on board _ _ number t turn next i
+            (λ same candidate.
+            absurd
+            (true-false c.is_tried.result
+            (c.is_tried.ensures
+            ∙ candidate-tried board _ _ fits.lowest-is number asks.0 asks.1 i t same candidate)
+            w.if-is_tried.false)))
+            (inv.2 last s)),
+      )
     ]
 
 pub returns : goal.returns
