@@ -55,8 +55,8 @@ abbrev pub others_of : Board → ℕ → ℕ → List ℕ
 others_of board rows i = others_in i (stack_of board rows)
 
 -- when row i's window is due that is open after a step started at t
-abbrev pub field_own : Board → ℕ → ℕ → ℕ
-field_own board i t = opening_in board t i + (look_in board i).limit
+abbrev pub own_at : Board → ℕ → ℕ → ℕ
+own_at board i t = opening_in board t i + (look_in board i).limit
 
 -- the places of an array that hold the stack hold rows
 pub stack_rows : (opened : List Bool) (due : List ℕ) (rows : ℕ) (order : List ℕ) (count : ℕ) → rows ≤ most_rows
@@ -81,14 +81,14 @@ module _ (board : Board) (rows i : ℕ) (below : i < rows) (long : PlaceIn board
   pub asked-same : (t k : ℕ) → k ≢ i → SameJob (jobs_after board t i) (asked_in board) k
   asked-same t k ne =
       record {
-        key-same = get_or-set_other board.due i k (field_own board i t) 0 ne;
+        key-same = get_or-set_other board.due i k (own_at board i t) 0 ne;
         release-same = get_or-set_other board.release i k (t + (look_in board i).cost + (look_in board i).wait) 0 ne;
         left-same = get_or-set_other board.left i k (look_in board i).rest 0 ne;
-        due-same = get_or-set_other board.due i k (field_own board i t) 0 ne;
+        due-same = get_or-set_other board.due i k (own_at board i t) 0 ne;
       }
 
   others_same : (t : ℕ) (k : ℕ) → k < rows → k ≢ i → (jobs_after board t i).key k ≡ member_at board.due k
-  others_same t k l ne = get_or-set_other board.due i k (field_own board i t) 0 ne
+  others_same t k l ne = get_or-set_other board.due i k (own_at board i t) 0 ne
 
   marks-same : (k : ℕ) → k < rows → k ≢ i → is_marked (open_after board i) k ≡ is_marked board.opened k
   marks-same k l ne = get_or-set_other board.opened i k (look_in board i).stays false ne
@@ -103,8 +103,8 @@ module _ (board : Board) (rows i : ℕ) (below : i < rows) (long : PlaceIn board
   pub own-left : (t : ℕ) → (jobs_after board t i).left i ≡ (look_in board i).rest
   own-left t = get_or-set_same board.left i (look_in board i).rest 0 long.in_left
 
-  pub own-due : (t : ℕ) → (jobs_after board t i).due i ≡ field_own board i t
-  own-due t = get_or-set_same board.due i (field_own board i t) 0 long.in-due
+  pub own-due : (t : ℕ) → (jobs_after board t i).due i ≡ own_at board i t
+  own-due t = get_or-set_same board.due i (own_at board i t) 0 long.in-due
 
   -- after a step that leaves its row with no open window, the plan is that of the others
   passes-closed : (t : ℕ) → (look_in board i).stays ≡ false
@@ -161,7 +161,7 @@ module _ (board : Board) (rows i : ℕ) (below : i < rows) (long : PlaceIn board
         (e ∙ ap (λ l. in_time_by (asked_in board) (clock + (look_in board i).cost) (others_in i l)) stack)
 
     -- a step whose window is open already is due when it was
-    own_same : (t : ℕ) → (look_in board i).opened ≡ true → field_own board i t ≡ field_own board i clock
+    own_same : (t : ℕ) → (look_in board i).opened ≡ true → own_at board i t ≡ own_at board i clock
     own_same t held = rw held
 
     easier : (t : ℕ) → clock ≤ t → (look_in board i).opened ≡ true → (k : ℕ)
@@ -208,7 +208,7 @@ module _ (board : Board) (rows i : ℕ) (below : i < rows) (long : PlaceIn board
       → Opens (asked_in board) (jobs_after board t i) i t (look_in board i).cost (look_in board i).wait
       (look_in board i).rest (look_in board i).limit (look_in board i).limit
   opens_at t stays shut =
-      let own : field_own board i t ≡ t + (look_in board i).limit = rw (stays, shut) in
+      let own : own_at board i t ≡ t + (look_in board i).limit = rw (stays, shut) in
       record {
         others = asked-same t;
         key-is = own-due t ∙ own;
@@ -220,12 +220,12 @@ module _ (board : Board) (rows i : ℕ) (below : i < rows) (long : PlaceIn board
   -- a step after which it is open, as if the plan began with it at 0
   pub opens-from : (t : ℕ)
       → Opens (asked_in board) (jobs_after board t i) i 0 (t + (look_in board i).cost) (look_in board i).wait
-      (look_in board i).rest (field_own board i t) (field_own board i t)
+      (look_in board i).rest (own_at board i t) (own_at board i t)
   opens-from t =
       record {
         others = asked-same t;
-        key-is = own-due t ∙ sym (zero-add (field_own board i t));
+        key-is = own-due t ∙ sym (zero-add (own_at board i t));
         release-is = own-release t ∙ ap (λ n. n + (look_in board i).wait) (sym (zero-add (t + (look_in board i).cost)));
         left_is = own-left t;
-        due-is = own-due t ∙ sym (zero-add (field_own board i t));
+        due-is = own-due t ∙ sym (zero-add (own_at board i t));
       }

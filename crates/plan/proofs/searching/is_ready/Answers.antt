@@ -1,8 +1,6 @@
 -- `is_ready` asks whether the row is tried, and then for its release.
 use mathlib.Core.Bool.{Bool, true, false, ◌&&◌}
 use mathlib.Core.Path.{◌≡◌, ap, sym, ◌∙◌}
-use borrow.Author.Rules.{rules}
-use borrow.Author.Tests.{not-true, not-false}
 use lib.Dec.{leb}
 use Rattle.plan.proofs.searching.is_ready.Goals as goal
 

@@ -1,6 +1,5 @@
 -- `behind_moment` asks whether the window is open already, and which of two rows that are due together is first.
 use borrow.Author.Tests.{lt-ltb, le-ltb}
-use borrow.Author.Rules.{rules}
 use Rattle.plan.proofs.staying.behind_moment.Goals as goal
 
 pub returns-then-opened : goal.returns-then-opened

@@ -1,6 +1,5 @@
 -- `own_moment` asks whether the window is open already, and whether its limit has room.
 use borrow.Author.Tests.{lt-ltb, le-ltb}
-use borrow.Author.Rules.{rules}
 use Rattle.plan.proofs.staying.own_moment.Goals as goal
 
 pub returns-then-opened : goal.returns-then-opened

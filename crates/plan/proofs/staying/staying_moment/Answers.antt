@@ -9,33 +9,24 @@ use lib.Dec.{ltb}
 use lib.Seq.{get_or-take}
 use Rattle.counting.specs.Lists.{member_at}
 use Rattle.counting.proofs.tests.TestLaws.{true-false}
-use Rattle.rules.specs.Plan.{Jobs}
 use Rattle.plan.specs.inner.Walks.{rows_from}
 use Rattle.plan.specs.inner.Passing.{never, jobs_of}
-use Rattle.plan.specs.inner.Staying.{moment_before, Stay, stay_of, behind_until}
+use Rattle.plan.specs.inner.Staying.{moment_before, stay_of, behind_until}
 use Rattle.plan.proofs.refused.WalkLaws.{in_time_from-none}
 use Rattle.plan.proofs.refused.StayingLaws.{stays_until-late, stays_until-own, stays_until-passes, stays_until-behind}
 use Rattle.plan.proofs.staying.staying_moment.Goals as goal
-use Rattle.plan.proofs.staying.staying_moment.Goals.{Start, After-rows_before-walked, Else-are_in_time, After-way_told-1}
-
--- what the plan asks of the rows
-abbrev asked : Start → Jobs
-asked c = jobs_of c.args.moments.now
-
--- the step
-abbrev stay : Start → Stay
-stay c =
-    stay_of c.args.opened c.args.clock c.args.cost c.args.wait c.args.rest c.args.limit
-    c.args.own
+use Rattle.plan.proofs.staying.staying_moment.Goals.{Else-are_in_time}
 
 pub returns-then-walked : goal.returns-then-walked
 returns-then-walked c =
+    let stay = stay_of c.args.opened c.args.clock c.args.cost c.args.wait c.args.rest c.args.limit c.args.own in
     sym
-    (stays_until-late (asked (goal.at.returns-then-walked c).Start) (rows_from c.args.order.now c.args.count 0) c.args.i
-    (stay (goal.at.returns-then-walked c).Start) c.rows_before-walked.result c.rows_before-walked.ensures.value c.if-walked.true)
+    (stays_until-late (jobs_of c.args.moments.now) (rows_from c.args.order.now c.args.count 0) c.args.i
+    stay c.rows_before-walked.result c.rows_before-walked.ensures.value c.if-walked.true)
 
 pub returns-then-own-end : goal.returns-then-own-end
 returns-then-own-end c =
+    let stay = stay_of c.args.opened c.args.clock c.args.cost c.args.wait c.args.rest c.args.limit c.args.own in
     let work = c.args.cost + c.args.rest + c.rows_before-walked.result.work in
     c.own_moment.ensures
     ∙ ap
@@ -43,16 +34,17 @@ returns-then-own-end c =
     cond (c.args.opened || ltb c.args.limit work) never (moment_before end c.args.limit))
     c.finish-end.ensures.0
     ∙ sym
-    (stays_until-own (asked (goal.at.returns-then-own-end c).Start) (rows_from c.args.order.now c.args.count 0) c.args.i
-    (stay (goal.at.returns-then-own-end c).Start) c.rows_before-walked.result c.rows_before-walked.ensures.value c.if-walked.false
+    (stays_until-own (jobs_of c.args.moments.now) (rows_from c.args.order.now c.args.count 0) c.args.i
+    stay c.rows_before-walked.result c.rows_before-walked.ensures.value c.if-walked.false
     c.finish-end.result.time c.finish-end.ensures.0 c.if-own-end.true)
 
 pub returns-then-are_in_time : goal.returns-then-are_in_time
 returns-then-are_in_time c =
+    let stay = stay_of c.args.opened c.args.clock c.args.cost c.args.wait c.args.rest c.args.limit c.args.own in
     sym
-    (stays_until-passes (asked (goal.at.returns-then-are_in_time c).Start) (rows_from c.args.order.now c.args.count 0) c.args.i
-    (stay (goal.at.returns-then-are_in_time c).Start) c.rows_before-walked.result c.rows_before-walked.ensures.value c.if-walked.false
-    c.finish-end.result.time c.finish-end.ensures.0 in-time.if2.false
+    (stays_until-passes (jobs_of c.args.moments.now) (rows_from c.args.order.now c.args.count 0) c.args.i
+    stay c.rows_before-walked.result c.rows_before-walked.ensures.value c.if-walked.false
+    c.finish-end.result.time c.finish-end.ensures.0 c.if-own-end.false
     (sym c.are_in_time.ensures ∙ c.if-are_in_time.true))
 
 -- a row stands behind: else none would be late
@@ -67,7 +59,7 @@ placed c =
           absurd
           (true-false c.are_in_time.result
           (c.are_in_time.ensures
-          ∙ in_time_from-none (asked c.before.before.before.before.before.before) c.args.order.now c.args.count c.args.i
+          ∙ in_time_from-none (jobs_of c.args.moments.now) c.args.order.now c.args.count c.args.i
           c.requires.0.long place c.finish-end.result.time (omega arith))
           c.if-are_in_time.false)
     ]
@@ -81,17 +73,18 @@ below c = c.requires.0.below _ (placed c)
 
 pub returns : goal.returns
 returns c =
+    let stay = stay_of c.args.opened c.args.clock c.args.cost c.args.wait c.args.rest c.args.limit c.args.own in
     let there =
-    get_or-take c.args.count c.args.order.now c.rows_before-walked.result.place 0 (placed (goal.at.returns c).After-way_told-1) in
+    get_or-take c.args.count c.args.order.now c.rows_before-walked.result.place 0 (placed (goal.at.returns c).Else-are_in_time) in
     c.behind_moment.ensures
-    ∙ ap (behind_until c.args.i (stay (goal.at.returns c).After-rows_before-walked) _) c.moment_at.ensures
+    ∙ ap (behind_until c.args.i stay _) c.moment_at.ensures
     ∙ sym
-    (stays_until-behind (asked (goal.at.returns c).After-rows_before-walked) (rows_from c.args.order.now c.args.count 0) c.args.i
-    (stay (goal.at.returns c).After-rows_before-walked) c.rows_before-walked.result c.rows_before-walked.ensures.value c.if-walked.false
-    c.finish-end.result.time c.finish-end.ensures.0 in-time.if2.false
+    (stays_until-behind (jobs_of c.args.moments.now) (rows_from c.args.order.now c.args.count 0) c.args.i
+    stay c.rows_before-walked.result c.rows_before-walked.ensures.value c.if-walked.false
+    c.finish-end.result.time c.finish-end.ensures.0 c.if-own-end.false
     (sym c.are_in_time.ensures ∙ c.if-are_in_time.false)
     ∙ ap
-    (λ b. behind_until c.args.i (stay (goal.at.returns c).After-rows_before-walked) b ((asked (goal.at.returns c).After-rows_before-walked).due b)) there)
+    (λ b. behind_until c.args.i stay b ((jobs_of c.args.moments.now).due b)) there)
 
 pub rows_before-walked-requires : goal.rows_before-walked-requires
 rows_before-walked-requires c = c.requires.0
@@ -109,10 +102,10 @@ are_in_time-requires c = (
 )
 
 pub bounds-order-place : goal.bounds-order-place
-bounds-order-place c = omega (arith, placed c, c.requires.0.most)
+bounds-order-place c = omega (arith, placed (goal.at.bounds-order-place c).Else-are_in_time, c.requires.0.most)
 
 pub overflow_cast-behind : goal.overflow_cast-behind
-overflow_cast-behind c = let b = below (goal.at.overflow_cast-behind c).After-way_told-1 in search rules
+overflow_cast-behind c = let b = below (goal.at.overflow_cast-behind c).Else-are_in_time in search rules
 
 pub moment_at-requires : goal.moment_at-requires
-moment_at-requires c = (search rules, below (goal.at.moment_at-requires c).After-way_told-1)
+moment_at-requires c = (search rules, below (goal.at.moment_at-requires c).Else-are_in_time)

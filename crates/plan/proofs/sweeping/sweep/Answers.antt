@@ -1,17 +1,14 @@
 -- `sweep` goes one class further a turn, and one step number further a round: the rows gone over do not start before
 -- the soonest moment.
-use Prim.Native.Nat.{◌-◌, ◌≤◌}
-use mathlib.Core.Logic.{⊎_elim}
 use mathlib.Core.Path.{◌≡◌, subst}
 use native.Mathlib.Omega.{arith}
-use borrow.Author.Rules.{rules}
 use Rattle.load.specs.Load.{most_steps}
 use Rattle.plan.specs.Boards.{Board, board_in}
 use Rattle.plan.specs.inner.Turns.{PassedTo, SweptTo}
 use Rattle.plan.proofs.SweepLaws.{passed-begin, passed-number, passed-unmarked}
 use Rattle.plan.proofs.SweptLaws.{swept-first, swept-to}
 use Rattle.plan.proofs.sweeping.sweep.Goals as goal
-use Rattle.plan.proofs.sweeping.sweep.Goals.{Start, At-loop-number}
+use Rattle.plan.proofs.sweeping.sweep.Goals.{Start, then-numbers-number+else-loop-turn-test, else-numbers-number}
 
 abbrev board : Start → Board
 board c = board_in c.args.counts.now c.args.lengths.now c.args.moments.now
@@ -22,8 +19,9 @@ loop-number-init c =
 
 pub loop-turn-init : goal.loop-turn-init
 loop-turn-init c =
-    swept-to (board (goal.at.loop-turn-init c).At-loop-number) _ _ _ _ _ _ _ _
-    (λ t a b. passed-begin (board (goal.at.loop-turn-init c).At-loop-number) _ _ _ t _ c.requires.numbers_in.1.0 c.requires.search_fits.rows-most)
+    let at = (goal.at.loop-turn-init c).Start in
+    swept-to (board at) _ _ _ _ _ _ _ _
+    (λ t a b. passed-begin (board at) _ _ _ t _ c.requires.first_turn c.requires.search_fits.rows-most)
     c.loop-number.invariant.2
 
 pub sweep_turn-swept-requires : goal.sweep_turn-swept-requires
@@ -33,28 +31,29 @@ sweep_turn-swept-requires c = record {
     c.loop-number.invariant.0,
     c.loop-number-test.true,
     omega (arith, c.loop-turn-test.true),
-    omega (arith, c.loop-turn.invariant.most, c.requires.numbers_in.1.1),
+    omega (arith, c.loop-turn.invariant.most, c.requires.before_bound),
   );
 }
 
 pub loop-number-preserved : goal.loop-number-preserved
 loop-number-preserved c =
-    let loop = c.loop-number in (
+    let loop = c.loop-number in
+    let board = board_in c.args.counts.now c.args.lengths.now c.args.moments.now in (
       omega (arith, loop.invariant.0),
-      search rules,
-      ⊎_elim
-          (λ w.
-          rw (w.3, w.4)
-          (swept-to (board (goal.at.loop-number-preserved c).At-loop-number) _ _ _ _ _ _ _ _
-          (λ t a b. passed-number (board (goal.at.loop-number-preserved c).At-loop-number) _ _ loop.number t _ (omega (arith, w.2.left))) w.1.inv))
-          (λ w.
-          rw (w.1, w.2)
-          (swept-to (board (goal.at.loop-number-preserved c).At-loop-number) _ _ _ _ _ _ _ _
-          (λ t a b.
-          passed-unmarked (board (goal.at.loop-number-preserved c).At-loop-number) _ _ c.requires.search_fits.lowest-is _ t _ c.requires.numbers_in.0 loop.number
-          w.0.left)
-          loop.invariant.2))
-          c.if-numbers-number.branch,
+      omega (arith, c.loop-number-test.true),
+      elim c.if-numbers-number.branch [
+        | then-numbers-number+else-loop-turn-test w ↦
+            rw (w.row-is, w.soonest-is)
+            (swept-to board _ _ _ _ _ _ _ _
+            (λ t a b. passed-number board _ _ loop.number t _ (omega (arith, w.loop-turn-test.false))) w.loop-turn.invariant)
+        | else-numbers-number w ↦
+            rw (w.row-is, w.soonest-is)
+            (swept-to board _ _ _ _ _ _ _ _
+            (λ t a b.
+            passed-unmarked board _ _ c.requires.search_fits.lowest-is _ t _ c.requires.numbers_in loop.number
+            w.if-numbers-number.false)
+            loop.invariant.2)
+      ],
     )
 
 pub returns : goal.returns

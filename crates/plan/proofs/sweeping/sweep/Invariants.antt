@@ -1,15 +1,8 @@
 -- `sweep` goes one class further a turn, and one step number further a round: the rows gone over do not start before
 -- the soonest moment.
 use Prim.Native.Nat.{◌-◌, ◌≤◌}
-use mathlib.Core.Logic.{⊎_elim}
-use mathlib.Core.Path.{◌≡◌, subst}
-use native.Mathlib.Omega.{arith}
-use borrow.Author.Rules.{rules}
-use Rattle.load.specs.Load.{most_steps}
-use Rattle.plan.specs.Boards.{Board, board_in}
+use Rattle.plan.specs.Boards.{board_in}
 use Rattle.plan.specs.inner.Turns.{PassedTo, SweptTo}
-use Rattle.plan.proofs.SweepLaws.{passed-begin, passed-number, passed-unmarked}
-use Rattle.plan.proofs.SweptLaws.{swept-first, swept-to}
 use Rattle.plan.proofs.sweeping.sweep.Given as goal
 
 abbrev pub invariant-loop-turn : goal.invariant-loop-turn

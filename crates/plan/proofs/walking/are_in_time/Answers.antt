@@ -1,19 +1,13 @@
 -- `are_in_time` finishes one row a turn: what is to be found is what the rows from the next place on show.
-use Prim.Native.Nat.{◌+◌, ◌-◌, ◌≤◌, ◌<◌}
-use mathlib.Core.Logic.{⊎_elim}
+use Prim.Native.Nat.{◌+◌, ◌≤◌, ◌<◌}
 use mathlib.Core.Path.{◌≡◌, refl, ap, sym, ◌∙◌, subst}
 use native.Mathlib.Omega.{arith}
 use borrow.Author.Rules.{rules}
 use borrow.Author.Tests.{ltb-true, ltb-false}
-use Rattle.counting.specs.Lists.{member_at}
 use Rattle.plan.specs.inner.Passing.{jobs_of}
 use Rattle.plan.proofs.refused.WalkLaws.{finished, in_time_from, in_time_from-none, in_time_from-own, in_time_from-next, in_time_from-late}
 use Rattle.plan.proofs.walking.are_in_time.Goals as goal
-use Rattle.plan.proofs.walking.are_in_time.Goals.{In-loop-place, After-way_told-1}
-
--- what stands at the place is a row
-below : (c : In-loop-place) → member_at c.args.order.now c.loop-place.place < 24
-below c = c.requires.0.below c.loop-place.place c.loop-place-test.true
+use Rattle.plan.proofs.walking.are_in_time.Goals.{then-row-i+else-is_late, else-row-i}
 
 pub returns-then-is_late : goal.returns-then-is_late
 returns-then-is_late c =
@@ -32,35 +26,35 @@ loop-place-preserved c =
     let inv = c.loop-place.invariant in
     let moments = c.args.moments.now in
     let l = c.loop-place-test.true in
-    ⊎_elim
-    (λ w.
-    let in-time = ltb-false _ _ (sym w.5.ensures.0 ∙ w.6.left) in
-    let e : c.if-row-i.plan.time ≡ w.3.result.time = ap (λ p. p.time) w.7 in (
-      search rules,
-      omega (arith, e, in-time),
-      inv.2
-          ∙ in_time_from-next (jobs_of moments)
-          c.args.order.now c.args.count c.args.i c.requires.0.long
-          c.loop-place.place
-          c.loop-place.plan.time l w.0.taken w.3.result.time
-          (finished moments _ _ _ _ _ w.1.ensures w.2.ensures w.3.ensures.0)
-          (subst (λ d. w.3.result.time ≤ d) w.4.ensures in-time)
-          ∙ ap (in_time_from (jobs_of moments) c.args.order.now c.args.count c.args.i
-          (c.loop-place.place + 1)) (sym e),
-    ))
-    (λ w.
-    let e : c.if-row-i.plan.time ≡ c.loop-place.plan.time = ap (λ p. p.time) w.1 in (
-      search rules,
-      omega (arith, e, inv.1),
-      inv.2
-          ∙ in_time_from-own (jobs_of moments)
-          c.args.order.now c.args.count c.args.i c.requires.0.long
-          c.loop-place.place
-          c.loop-place.plan.time l w.0.left
-          ∙ ap (in_time_from (jobs_of moments) c.args.order.now c.args.count c.args.i
-          (c.loop-place.place + 1)) (sym e),
-    ))
-    c.if-row-i.branch
+    elim c.if-row-i.branch [
+      | then-row-i+else-is_late w ↦
+          let in-time = ltb-false _ _ (sym w.is_late.ensures.0 ∙ w.if-is_late.false) in
+          let e : c.if-row-i.plan.time ≡ w.finish-plan.result.time = ap (λ p. p.time) w.plan-is in (
+            search rules,
+            omega (arith, e, in-time, w.is_late.ensures.1),
+            inv.2
+                ∙ in_time_from-next (jobs_of moments)
+                c.args.order.now c.args.count c.args.i c.requires.0.long
+                c.loop-place.place
+                c.loop-place.plan.time l w.if-row-i.true w.finish-plan.result.time
+                (finished moments _ _ _ _ _ w.moment_at-left.ensures w.moment_at.ensures w.finish-plan.ensures.0)
+                (subst (λ d. w.finish-plan.result.time ≤ d) w.moment_at-then-row-i.ensures in-time)
+                ∙ ap (in_time_from (jobs_of moments) c.args.order.now c.args.count c.args.i
+                (c.loop-place.place + 1)) (sym e),
+          )
+      | else-row-i w ↦
+          let e : c.if-row-i.plan.time ≡ c.loop-place.plan.time = ap (λ p. p.time) w.plan-is in (
+            search rules,
+            omega (arith, e, inv.1),
+            inv.2
+                ∙ in_time_from-own (jobs_of moments)
+                c.args.order.now c.args.count c.args.i c.requires.0.long
+                c.loop-place.place
+                c.loop-place.plan.time l w.if-row-i.false
+                ∙ ap (in_time_from (jobs_of moments) c.args.order.now c.args.count c.args.i
+                (c.loop-place.place + 1)) (sym e),
+          )
+    ]
 
 pub returns : goal.returns
 returns c =
@@ -75,16 +69,16 @@ pub bounds-order-place : goal.bounds-order-place
 bounds-order-place c = omega (arith, c.loop-place-test.true, c.requires.0.most)
 
 pub overflow_cast-row : goal.overflow_cast-row
-overflow_cast-row c = let b = below (goal.at.overflow_cast-row c).After-way_told-1 in search rules
+overflow_cast-row c = let b = c.requires.0.below c.loop-place.place c.loop-place-test.true in search rules
 
 pub moment_at-left-requires : goal.moment_at-left-requires
-moment_at-left-requires c = (search rules, below (goal.at.moment_at-left-requires c).After-way_told-1)
+moment_at-left-requires c = (search rules, c.requires.0.below c.loop-place.place c.loop-place-test.true)
 
 pub moment_at-requires : goal.moment_at-requires
-moment_at-requires c = (search rules, below (goal.at.moment_at-requires c).After-way_told-1)
+moment_at-requires c = (search rules, c.requires.0.below c.loop-place.place c.loop-place-test.true)
 
 pub finish-plan-requires : goal.finish-plan-requires
 finish-plan-requires c = c.loop-place.invariant.1
 
 pub moment_at-requires-then-row-i : goal.moment_at-requires-then-row-i
-moment_at-requires-then-row-i c = (search rules, below (goal.at.moment_at-requires-then-row-i c).After-way_told-1)
+moment_at-requires-then-row-i c = (search rules, c.requires.0.below c.loop-place.place c.loop-place-test.true)

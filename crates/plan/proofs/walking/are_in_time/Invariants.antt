@@ -1,13 +1,8 @@
 -- `are_in_time` finishes one row a turn: what is to be found is what the rows from the next place on show.
-use Prim.Native.Nat.{◌+◌, ◌-◌, ◌≤◌, ◌<◌}
-use mathlib.Core.Logic.{⊎_elim}
-use mathlib.Core.Path.{◌≡◌, refl, ap, sym, ◌∙◌, subst}
-use native.Mathlib.Omega.{arith}
-use borrow.Author.Rules.{rules}
-use borrow.Author.Tests.{ltb-true, ltb-false}
-use Rattle.counting.specs.Lists.{member_at}
+use Prim.Native.Nat.{◌-◌, ◌≤◌}
+use mathlib.Core.Path.{◌≡◌}
 use Rattle.plan.specs.inner.Passing.{jobs_of}
-use Rattle.plan.proofs.refused.WalkLaws.{finished, in_time_from, in_time_from-none, in_time_from-own, in_time_from-next, in_time_from-late}
+use Rattle.plan.proofs.refused.WalkLaws.{in_time_from}
 use Rattle.plan.proofs.walking.are_in_time.Given as goal
 
 abbrev pub invariant-loop-place : goal.invariant-loop-place

@@ -1,92 +1,84 @@
 -- `rows_before` looks at one row a turn: what the walk comes to is what it comes to from the next place on.
-use Prim.Native.Nat.{◌+◌, ◌-◌, ◌*◌, ◌≤◌, ◌<◌}
+use Prim.Native.Nat.{◌+◌, ◌≤◌, ◌<◌}
 use mathlib.Core.Bool.{true}
-use mathlib.Core.Logic.{⊎_elim}
 use mathlib.Core.Path.{◌≡◌, refl, ap, ap₂, sym, ◌∙◌, subst}
 use native.Mathlib.Omega.{arith}
 use borrow.Author.Rules.{rules}
 use borrow.Author.Tests.{ltb-true, ltb-false}
-use Rattle.counting.specs.Lists.{member_at}
 use Rattle.counting.proofs.tests.TestLaws.{true-false}
-use Rattle.rules.specs.Plan.{Jobs}
 use Rattle.plan.specs.inner.Passing.{jobs_of}
 use Rattle.plan.proofs.refused.WalkLaws.{walk_from, walk_from-none, walk_from-own, walk_from-stands, walk_from-late, walk_from-next, walked_whole, finished, stood}
 use Rattle.plan.proofs.walking.rows_before.Goals as goal
-use Rattle.plan.proofs.walking.rows_before.Goals.{Start, At-loop-place, In-loop-place, After-way_told-1}
-
--- what stands at the place is a row
-below : (c : In-loop-place) → member_at c.args.order.now c.loop-place.place < 24
-below c = c.requires.below c.loop-place.place c.loop-place-test.true
-
--- what the plan asks of the rows
-abbrev asked : Start → Jobs
-asked c = jobs_of c.args.moments.now
+use Rattle.plan.proofs.walking.rows_before.Goals.{then-row-i+else-stands_before+else-is_late, else-row-i}
 
 pub returns-then-stands_before : goal.returns-then-stands_before
 returns-then-stands_before c =
     let loop = c.loop-place in
-    walked_whole _ _ _ _ _ _ _ c.walked_to.ensures
+    let told = walked_whole _ _ _ _ _ _ _ c.walked_to.ensures
     (loop.invariant.3
-    ∙ walk_from-stands (asked (goal.at.returns-then-stands_before c).At-loop-place) _ _ _ _ c.requires.long _ _ _ c.loop-place-test.true c.if-row-i.true
+    ∙ walk_from-stands (jobs_of c.args.moments.now) _ _ _ _ c.requires.long _ _ _ c.loop-place-test.true c.if-row-i.true
     (stood c.args.moments.now _ _ _ _ _ _ c.moment_at-due.ensures c.stands_before.ensures
     c.if-stands_before.true))
-    c.requires.most loop.invariant.0 (λ _. loop.invariant.1) loop.invariant.2
+    c.requires.most loop.invariant.0 (λ _. loop.invariant.1) loop.invariant.2 in
+    record { value = told.0; walk_fits = told.1 }
 
 pub returns-then-is_late : goal.returns-then-is_late
 returns-then-is_late c =
     let loop = c.loop-place in
     let moments = c.args.moments.now in
-    walked_whole _ _ _ _ _ _ _ c.walked_to-then-is_late.ensures
+    let told = walked_whole _ _ _ _ _ _ _ c.walked_to-then-is_late.ensures
     (loop.invariant.3
-    ∙ walk_from-late (asked (goal.at.returns-then-is_late c).At-loop-place) _ _ _ _ c.requires.long _ _ _ c.loop-place-test.true c.if-row-i.true
+    ∙ walk_from-late (jobs_of c.args.moments.now) _ _ _ _ c.requires.long _ _ _ c.loop-place-test.true c.if-row-i.true
     (stood moments _ _ _ _ _ _ c.moment_at-due.ensures c.stands_before.ensures c.if-stands_before.false) _ _
     (finished moments _ _ _ _ _ c.moment_at-left.ensures c.moment_at.ensures c.finish-plan.ensures.0)
     (c.with_work-work.ensures.0 ∙ ap (λ x. loop.work + x) c.moment_at-left.ensures)
     (subst (λ d. d < c.finish-plan.result.time) c.moment_at-due.ensures
     (ltb-true _ _ (sym c.is_late.ensures.0 ∙ c.if-is_late.true))))
     c.requires.most (omega (arith, c.loop-place-test.true)) (λ e. absurd (true-false true refl e))
-    (omega (arith, c.with_work-work.ensures, loop.invariant.2))
+    (omega (arith, c.with_work-work.ensures, loop.invariant.2)) in
+    record { value = told.0; walk_fits = told.1 }
 
 pub loop-place-preserved : goal.loop-place-preserved
 loop-place-preserved c =
     let loop = c.loop-place in
     let args = c.args in
     let moments = args.moments.now in
-    ⊎_elim
-    (λ w.
-    let in-time = ltb-false _ _ (sym w.8.ensures.0 ∙ w.9.left) in
-    let e : c.if-row-i.plan.time ≡ w.6.result.time = ap (λ p. p.time) w.10 in (
-      search rules,
-      omega (arith, e, in-time),
-      omega (arith, w.11, w.7.ensures, loop.invariant.2),
-      loop.invariant.3
-          ∙ walk_from-next (asked (goal.at.loop-place-preserved c).At-loop-place) _ _ _ _ c.requires.long _ _ _ c.loop-place-test.true w.0.taken
-          (stood moments _ _ _ _ _ _ w.1.ensures w.2.ensures w.3.left) _ _
-          (finished moments _ _ _ _ _ w.4.ensures w.5.ensures w.6.ensures.0)
-          (w.7.ensures.0 ∙ ap (λ x. loop.work + x) w.4.ensures)
-          (subst (λ d. w.6.result.time ≤ d) w.1.ensures in-time)
-          ∙ ap₂ (walk_from (asked (goal.at.loop-place-preserved c).At-loop-place) args.order.now args.count args.i args.own (loop.place + 1))
-          (sym e) (sym w.11),
-    ))
-    (λ w.
-    let e : c.if-row-i.plan.time ≡ loop.plan.time = ap (λ p. p.time) w.1 in (
-      search rules,
-      omega (arith, e, loop.invariant.1),
-      omega (arith, w.2, loop.invariant.2),
-      loop.invariant.3
-          ∙ walk_from-own (asked (goal.at.loop-place-preserved c).At-loop-place) _ _ _ _ c.requires.long _ _ _ c.loop-place-test.true w.0.left
-          ∙ ap₂ (walk_from (asked (goal.at.loop-place-preserved c).At-loop-place) args.order.now args.count args.i args.own (loop.place + 1))
-          (sym e) (sym w.2),
-    ))
-    c.if-row-i.branch
+    elim c.if-row-i.branch [
+      | then-row-i+else-stands_before+else-is_late w ↦
+          let in-time = ltb-false _ _ (sym w.is_late.ensures.0 ∙ w.if-is_late.false) in
+          let e : c.if-row-i.plan.time ≡ w.finish-plan.result.time = ap (λ p. p.time) w.plan-is in (
+            search rules,
+            omega (arith, e, in-time, w.is_late.ensures.1),
+            omega (arith, w.work-is, w.with_work-work.ensures, loop.invariant.2),
+            loop.invariant.3
+                ∙ walk_from-next (jobs_of moments) _ _ _ _ c.requires.long _ _ _ c.loop-place-test.true w.if-row-i.true
+                (stood moments _ _ _ _ _ _ w.moment_at-due.ensures w.stands_before.ensures w.if-stands_before.false) _ _
+                (finished moments _ _ _ _ _ w.moment_at-left.ensures w.moment_at.ensures w.finish-plan.ensures.0)
+                (w.with_work-work.ensures.0 ∙ ap (λ x. loop.work + x) w.moment_at-left.ensures)
+                (subst (λ d. w.finish-plan.result.time ≤ d) w.moment_at-due.ensures in-time)
+                ∙ ap₂ (walk_from (jobs_of moments) args.order.now args.count args.i args.own (loop.place + 1))
+                (sym e) (sym w.work-is),
+          )
+      | else-row-i w ↦
+          let e : c.if-row-i.plan.time ≡ loop.plan.time = ap (λ p. p.time) w.plan-is in (
+            search rules,
+            omega (arith, e, loop.invariant.1),
+            omega (arith, w.work-is, loop.invariant.2),
+            loop.invariant.3
+                ∙ walk_from-own (jobs_of moments) _ _ _ _ c.requires.long _ _ _ c.loop-place-test.true w.if-row-i.false
+                ∙ ap₂ (walk_from (jobs_of moments) args.order.now args.count args.i args.own (loop.place + 1))
+                (sym e) (sym w.work-is),
+          )
+    ]
 
 pub returns : goal.returns
 returns c =
     let loop = c.loop-place in
     let e : loop.place ≡ c.args.count = omega (arith, loop.invariant.0, c.loop-place-test.false) in
-    walked_whole _ _ _ _ _ _ _ c.walked_to-2.ensures
-    (loop.invariant.3 ∙ walk_from-none (asked (goal.at.returns c).Start) _ _ _ _ c.requires.long _ _ _ c.loop-place-test.false ∙ rw e)
-    c.requires.most (omega arith) (λ _. loop.invariant.1) (omega (arith, loop.invariant.2, e))
+    let told = walked_whole _ _ _ _ _ _ _ c.walked_to-2.ensures
+    (loop.invariant.3 ∙ walk_from-none (jobs_of c.args.moments.now) _ _ _ _ c.requires.long _ _ _ c.loop-place-test.false ∙ rw e)
+    c.requires.most (omega arith) (λ _. loop.invariant.1) (omega (arith, loop.invariant.2, e)) in
+    record { value = told.0; walk_fits = told.1 }
 
 pub loop-place-init : goal.loop-place-init
 loop-place-init c = (search rules, search rules, search rules, refl)
@@ -95,16 +87,16 @@ pub bounds-order-place : goal.bounds-order-place
 bounds-order-place c = omega (arith, c.loop-place-test.true, c.requires.most)
 
 pub overflow_cast-row : goal.overflow_cast-row
-overflow_cast-row c = let b = below (goal.at.overflow_cast-row c).After-way_told-1 in search rules
+overflow_cast-row c = let b = c.requires.below c.loop-place.place c.loop-place-test.true in search rules
 
 pub moment_at-due-requires : goal.moment_at-due-requires
-moment_at-due-requires c = (search rules, below (goal.at.moment_at-due-requires c).After-way_told-1)
+moment_at-due-requires c = (search rules, c.requires.below c.loop-place.place c.loop-place-test.true)
 
 pub moment_at-left-requires : goal.moment_at-left-requires
-moment_at-left-requires c = (search rules, below (goal.at.moment_at-left-requires c).After-way_told-1)
+moment_at-left-requires c = (search rules, c.requires.below c.loop-place.place c.loop-place-test.true)
 
 pub moment_at-requires : goal.moment_at-requires
-moment_at-requires c = (search rules, below (goal.at.moment_at-requires c).After-way_told-1)
+moment_at-requires c = (search rules, c.requires.below c.loop-place.place c.loop-place-test.true)
 
 pub finish-plan-requires : goal.finish-plan-requires
 finish-plan-requires c = c.loop-place.invariant.1

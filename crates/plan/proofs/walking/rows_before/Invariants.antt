@@ -1,16 +1,8 @@
 -- `rows_before` looks at one row a turn: what the walk comes to is what it comes to from the next place on.
-use Prim.Native.Nat.{◌+◌, ◌-◌, ◌*◌, ◌≤◌, ◌<◌}
-use mathlib.Core.Bool.{true}
-use mathlib.Core.Logic.{⊎_elim}
-use mathlib.Core.Path.{◌≡◌, refl, ap, ap₂, sym, ◌∙◌, subst}
-use native.Mathlib.Omega.{arith}
-use borrow.Author.Rules.{rules}
-use borrow.Author.Tests.{ltb-true, ltb-false}
-use Rattle.counting.specs.Lists.{member_at}
-use Rattle.counting.proofs.tests.TestLaws.{true-false}
-use Rattle.rules.specs.Plan.{Jobs}
+use Prim.Native.Nat.{◌-◌, ◌*◌, ◌≤◌}
+use mathlib.Core.Path.{◌≡◌}
 use Rattle.plan.specs.inner.Passing.{jobs_of}
-use Rattle.plan.proofs.refused.WalkLaws.{walk_from, walk_from-none, walk_from-own, walk_from-stands, walk_from-late, walk_from-next, walked_whole, finished, stood}
+use Rattle.plan.proofs.refused.WalkLaws.{walk_from}
 use Rattle.plan.proofs.walking.rows_before.Given as goal
 
 abbrev pub invariant-loop-place : goal.invariant-loop-place
