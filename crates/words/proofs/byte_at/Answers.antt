@@ -1,6 +1,5 @@
 -- `words::byte_at` gives the byte that stands at the place, and past the end the definition's own 0.
 use mathlib.Core.Path.{sym}
-use borrow.Author.Rules.{rules}
 use lib.ListN.{get_or-eq_default}
 use Rattle.words.proofs.byte_at.Goals as goal
 

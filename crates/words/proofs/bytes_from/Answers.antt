@@ -1,7 +1,6 @@
 -- `words::bytes_from` lends what lies behind the place; past the end nothing lies behind it.
 use Prim.Native.Nat.{◌-◌}
 use native.Mathlib.Omega.{arith}
-use borrow.Author.Rules.{rules}
 use lib.ListN.{length, drop, length-drop, drop_of_length-le}
 use lib.Seq.{take_all, drop-length, take-nil}
 use Rattle.words.proofs.bytes_from.Goals as goal

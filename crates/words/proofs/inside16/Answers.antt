@@ -1,6 +1,5 @@
 -- `words::inside16` counts the two bytes, each below 256, by their weights.
 use native.Mathlib.Omega.{arith}
-use borrow.Author.Rules.{rules}
 use Rattle.words.specs.LittleEndian.{number_at}
 use Rattle.words.proofs.inside16.Goals as goal
 

@@ -1,6 +1,5 @@
 -- `words::inside32` counts the four bytes, each below 256, by their weights.
 use native.Mathlib.Omega.{arith}
-use borrow.Author.Rules.{rules}
 use Rattle.words.proofs.LittleEndianLaws.{number_at-four}
 use Rattle.words.proofs.inside32.Goals as goal
 

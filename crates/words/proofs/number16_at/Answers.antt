@@ -1,7 +1,6 @@
 -- `words::number16_at` counts the two bytes where they are all there. Else it counts the two first of the bytes from
 -- the place on, those past the end as 0.
 use native.Mathlib.Omega.{arith}
-use borrow.Author.Rules.{rules}
 use Rattle.words.specs.LittleEndian.{number_at}
 use Rattle.words.proofs.LittleEndianLaws.{number_at-first}
 use Rattle.words.proofs.number16_at.Goals as goal

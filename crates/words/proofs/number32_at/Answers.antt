@@ -1,7 +1,6 @@
 -- `words::number32_at` counts the four bytes where they are all there. Else it counts the four first of the bytes from
 -- the place on, those past the end as 0.
 use native.Mathlib.Omega.{arith}
-use borrow.Author.Rules.{rules}
 use Rattle.words.specs.LittleEndian.{number_at}
 use Rattle.words.proofs.LittleEndianLaws.{number_at-first}
 use Rattle.words.proofs.number32_at.Goals as goal

@@ -1,6 +1,6 @@
 -- `words::overwrite` writes byte by byte: what is left to write, written over the output so far, is the output
 -- asked for. At the end nothing is left to write, or what is left lies past the end.
-use Prim.Native.Nat.{◌+◌, ◌-◌, ◌≤◌, ◌<◌}
+use Prim.Native.Nat.{◌+◌, ◌≤◌, ◌<◌}
 use mathlib.Core.Path.{◌≡◌, refl, sym, ap, ◌∙◌}
 use native.Mathlib.Decide.{dec_lt}
 use native.Mathlib.Omega.{arith}

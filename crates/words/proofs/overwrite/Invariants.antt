@@ -1,13 +1,9 @@
 -- `words::overwrite` writes byte by byte: what is left to write, written over the output so far, is the output
 -- asked for. At the end nothing is left to write, or what is left lies past the end.
-use Prim.Native.Nat.{◌+◌, ◌-◌, ◌≤◌, ◌<◌}
-use mathlib.Core.Path.{◌≡◌, refl, sym, ap, ◌∙◌}
-use native.Mathlib.Decide.{dec_lt}
-use native.Mathlib.Omega.{arith}
-use borrow.Author.Rules.{rules}
-use lib.ListN.{length, drop, length-set, drop_of_length-le}
+use Prim.Native.Nat.{◌+◌, ◌-◌, ◌≤◌}
+use mathlib.Core.Path.{◌≡◌}
+use lib.ListN.{length, drop}
 use lib.Seq.{sets}
-use Rattle.words.proofs.OverwriteLaws.{sets-past, sets-next}
 use Rattle.words.proofs.overwrite.Given as goal
 
 abbrev pub invariant-loop-i : goal.invariant-loop-i

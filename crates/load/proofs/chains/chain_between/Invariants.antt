@@ -1,13 +1,8 @@
 -- `load::chain_between` adds one step and its wait a turn: what is added and the chain from here on are the chain from
 -- the start.
-use Prim.Native.Nat.{suc, ◌+◌, ◌-◌, ◌*◌, ◌≤◌, ◌<◌}
-use mathlib.Core.Path.{◌≡◌, ap, sym, ◌∙◌}
-use native.Mathlib.Numerals.{add-one}
-use native.Mathlib.Omega.{arith}
-use borrow.Author.Rules.{rules}
-use Rattle.load.specs.Load.{step_at}
+use Prim.Native.Nat.{◌+◌, ◌-◌, ◌*◌, ◌≤◌}
+use mathlib.Core.Path.{◌≡◌}
 use Rattle.load.specs.View.{chain_between}
-use Rattle.load.proofs.WindowChain.{chain-one, chain-front, chain-none}
 use Rattle.load.proofs.chains.chain_between.Given as goal
 
 abbrev pub invariant-loop-j : goal.invariant-loop-j

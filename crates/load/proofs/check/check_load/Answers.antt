@@ -1,7 +1,6 @@
 -- `load::check_load` asks the row count, then the rows, then the unused rows, and returns at the first fault.
 use mathlib.Core.Path.{◌≡◌, sym, ◌∙◌}
-use borrow.Author.Rules.{rules}
-use borrow.Author.Tests.{lt-ltb, le-ltb, not-true, not-false}
+use borrow.Author.Tests.{lt-ltb, le-ltb}
 use Rattle.refusals.specs.declared.Checked.TheVariants.{Good}
 use Rattle.refusals.specs.FirstMet.{first_fault_to}
 use Rattle.load.specs.declared.Load.{Load}

@@ -1,8 +1,6 @@
 -- `check_parts` asks the parts of a row in their order, and returns at the first fault.
 use mathlib.Core.Bool.{true}
 use mathlib.Core.Path.{◌≡◌, sym, ◌∙◌}
-use borrow.Author.Rules.{rules}
-use borrow.Author.Tests.{not-true, not-false}
 use Rattle.refusals.specs.declared.Checked.TheVariants.{Good}
 use Rattle.refusals.specs.FirstMet.{first_fault_to}
 use Rattle.load.specs.declared.Row.{Row}

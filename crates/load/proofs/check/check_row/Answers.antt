@@ -1,7 +1,6 @@
 -- `check_row` asks the row's fields, then what the caller says of earlier rows, then its parts, and returns at the
 -- first fault.
 use mathlib.Core.Path.{◌≡◌, sym, ◌∙◌}
-use borrow.Author.Rules.{rules}
 use Rattle.refusals.specs.declared.Checked.TheVariants.{Good}
 use Rattle.refusals.proofs.FirstMetLaws.{and_then-last}
 use Rattle.load.specs.Faults.{taken_tests}

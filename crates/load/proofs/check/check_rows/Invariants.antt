@@ -1,22 +1,16 @@
 -- `check_rows` asks one row a turn: the first i have no fault, and the two arrays hold their identifiers and boxes, so
 -- that what is taken there is what an earlier row of the load holds.
-use Prim.Native.Nat.{ℕ, ◌-◌, ◌≤◌, ◌<◌}
-use mathlib.Core.Path.{◌≡◌, sym, ◌∙◌, ap}
-use native.Mathlib.Omega.{arith}
-use borrow.Author.Rules.{rules}
-use lib.Dec.{eqb}
+use Prim.Native.Nat.{ℕ, ◌-◌, ◌≤◌}
+use mathlib.Core.Path.{◌≡◌}
 use Rattle.counting.specs.Lists.{filled}
-use Rattle.counting.proofs.lists.ListLaws.{filled_none, set-filled}
 use Rattle.refusals.specs.declared.Checked.{Checked}
 use Rattle.refusals.specs.declared.Checked.TheVariants.{Good}
 use Rattle.refusals.specs.FirstMet.{first_fault_to}
-use Rattle.refusals.proofs.FirstMetLaws.{and_then-both, first_fault_to-zero, first_fault_to-next, first_fault_to-refused}
 use Rattle.load.specs.declared.Identifier.{Identifier}
 use Rattle.load.specs.declared.BoxNumber.{BoxNumber}
 use Rattle.load.specs.declared.Load.{Load}
 use Rattle.load.specs.Load.{row_at}
 use Rattle.load.specs.Check.{row_fault}
-use Rattle.load.proofs.TakenLaws.{any_to-filled}
 use Rattle.load.proofs.check.check_rows.Given as goal
 
 -- what the row at a place holds, and its fault

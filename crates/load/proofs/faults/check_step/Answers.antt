@@ -1,6 +1,5 @@
 -- `load::check_step` asks the cost and then the wait.
 use mathlib.Core.Path.{sym, ◌∙◌}
-use borrow.Author.Rules.{rules}
 use borrow.Author.Tests.{lt-ltb, le-ltb}
 use Rattle.load.proofs.faults.check_step.Goals as goal
 

@@ -1,6 +1,5 @@
 -- `check_step_at` asks the step that `step_at` gives, and whether it is the row's last.
 use mathlib.Core.Path.{◌∙◌}
-use borrow.Author.Rules.{rules}
 use Rattle.load.specs.Faults.{step_tests}
 use Rattle.load.proofs.faults.check_step_at.Goals as goal
 

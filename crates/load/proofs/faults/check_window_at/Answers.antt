@@ -1,6 +1,5 @@
 -- `check_window_at` asks the window that `window_at` gives, behind the one before its place.
 use mathlib.Core.Path.{◌∙◌}
-use borrow.Author.Rules.{rules}
 use Rattle.load.specs.Faults.{window_tests}
 use Rattle.load.proofs.faults.check_window_at.Goals as goal
 

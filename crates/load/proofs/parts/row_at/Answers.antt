@@ -1,5 +1,4 @@
 -- `load::row_at` gives the row at its place: of the 24 places it copies, and past them it makes the row of zeros.
-use borrow.Author.Rules.{rules}
 use borrow.Author.Tests.{lt-ltb, le-ltb}
 use Rattle.load.proofs.parts.row_at.Goals as goal
 

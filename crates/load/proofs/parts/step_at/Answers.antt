@@ -2,8 +2,7 @@
 -- That there are eight is told by the row's own field, the seventh.
 use mathlib.Core.Path.{◌≡◌, sym}
 use native.Mathlib.Omega.{arith}
-use lib.ListN.{length, length-map, get_or-eq_default}
-use borrow.Author.Rules.{rules}
+use lib.ListN.{length, get_or-eq_default}
 use Rattle.load.specs.Load.{no_step}
 use Rattle.load.proofs.parts.step_at.Goals as goal
 

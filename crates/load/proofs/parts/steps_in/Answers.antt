@@ -1,13 +1,13 @@
 -- `load::steps_in` adds one row a turn: at i it holds the steps of the first i rows. A load counts at most 255 rows and
 -- a row at most 255 steps, so the sum fits; past the 24 places nothing stands in the list, and the row of zeros has no
 -- step.
-use Prim.Native.Nat.{ℕ, ◌-◌, ◌*◌, ◌≤◌}
+use Prim.Native.Nat.{ℕ}
 use mathlib.Core.Bool.{cond}
 use mathlib.Core.Path.{◌≡◌, sym, ap, ◌∙◌}
 use native.Mathlib.Decide.{dec_lt}
 use native.Mathlib.Omega.{arith}
 use lib.Dec.{ltb}
-use lib.ListN.{length, length-map, get_or-eq_default}
+use lib.ListN.{length, get_or-eq_default}
 use borrow.Author.Rules.{rules}
 use borrow.Author.Tests.{lt-ltb, le-ltb}
 use Rattle.counting.specs.Sums.{sum_to}

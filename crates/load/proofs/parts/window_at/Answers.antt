@@ -2,8 +2,7 @@
 -- list. That there are four is told by the row's own field, the eighth.
 use mathlib.Core.Path.{◌≡◌, sym}
 use native.Mathlib.Omega.{arith}
-use lib.ListN.{length, length-map, get_or-eq_default}
-use borrow.Author.Rules.{rules}
+use lib.ListN.{length, get_or-eq_default}
 use Rattle.load.specs.Load.{no_window}
 use Rattle.load.proofs.parts.window_at.Goals as goal
 

@@ -1,7 +1,6 @@
 -- `load::zero_load` makes 24 rows of zeros, of which none is used.
 use mathlib.Core.Path.{ap}
 use lib.ListN.{replicate}
-use borrow.Author.Rules.{rules}
 use Rattle.load.specs.Load.{zero_load}
 use Rattle.load.proofs.parts.zero_load.Goals as goal
 

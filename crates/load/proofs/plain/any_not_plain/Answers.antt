@@ -1,15 +1,10 @@
 -- `any_not_plain` looks at one row a turn: of the first i rows each is plain, and the first that is not ends the
 -- search.
-use Prim.Native.Nat.{ℕ, ◌-◌, ◌≤◌}
-use mathlib.Core.Bool.{Bool, false}
 use mathlib.Core.Path.{◌≡◌, sym, ◌∙◌, ap}
 use native.Mathlib.Omega.{arith}
 use borrow.Author.Rules.{rules}
 use Rattle.counting.specs.Sums.{any_to}
 use Rattle.counting.proofs.tests.TestLaws.{or-neither, any_to-zero, any_to-next, true-any_to}
-use Rattle.load.specs.declared.Load.{Load}
-use Rattle.load.specs.Load.{row_at}
-use Rattle.load.specs.Plain.{not_plain}
 use Rattle.load.proofs.plain.any_not_plain.Goals as goal
 use Rattle.load.proofs.plain.any_not_plain.Invariants.{at}
 

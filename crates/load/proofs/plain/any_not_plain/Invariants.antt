@@ -2,11 +2,8 @@
 -- search.
 use Prim.Native.Nat.{ℕ, ◌-◌, ◌≤◌}
 use mathlib.Core.Bool.{Bool, false}
-use mathlib.Core.Path.{◌≡◌, sym, ◌∙◌, ap}
-use native.Mathlib.Omega.{arith}
-use borrow.Author.Rules.{rules}
+use mathlib.Core.Path.{◌≡◌}
 use Rattle.counting.specs.Sums.{any_to}
-use Rattle.counting.proofs.tests.TestLaws.{or-neither, any_to-zero, any_to-next, true-any_to}
 use Rattle.load.specs.declared.Load.{Load}
 use Rattle.load.specs.Load.{row_at}
 use Rattle.load.specs.Plain.{not_plain}

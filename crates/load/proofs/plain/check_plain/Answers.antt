@@ -1,6 +1,5 @@
 -- `load::check_plain` asks the check of the load, and then whether some row is not plain.
 use mathlib.Core.Path.{◌≡◌, sym, ◌∙◌}
-use borrow.Author.Rules.{rules}
 use Rattle.refusals.specs.declared.Checked.TheVariants.{Good}
 use Rattle.load.specs.Check.{check_load}
 use Rattle.load.specs.Plain.{check_plain}

@@ -1,16 +1,12 @@
 -- `load::identifier_taken` looks at one place a turn: none of the first k is the identifier, and the first that is ends
 -- the search.
-use Prim.Native.Nat.{ℕ, min, ◌-◌, ◌≤◌}
+use Prim.Native.Nat.{ℕ, ◌-◌, ◌≤◌}
 use mathlib.Core.Bool.{Bool, false}
 use mathlib.Core.List.{List}
-use mathlib.Core.Path.{◌≡◌, sym, ◌∙◌, ap}
-use native.Mathlib.Omega.{arith}
-use borrow.Author.Rules.{rules}
-use borrow.Author.Tests.{eq-eqb, ne_eqb}
+use mathlib.Core.Path.{◌≡◌}
 use lib.Dec.{eqb}
 use lib.ListN.{get_or}
 use Rattle.counting.specs.Sums.{any_to}
-use Rattle.counting.proofs.tests.TestLaws.{or-neither, any_to-zero, any_to-next, true-any_to}
 use Rattle.load.specs.declared.Identifier.{Identifier}
 use Rattle.load.proofs.taken.identifier_taken.Given as goal
 

@@ -1,16 +1,14 @@
 -- `load::embedded_at` looks at one window a turn: the step is embedded in none of the first k, and the first in which
 -- it is ends the search. That a row has four places for windows is told by its own field, the eighth.
-use Prim.Native.Nat.{ℕ, min, ◌-◌, ◌≤◌}
-use mathlib.Core.Bool.{Bool, false}
+use Prim.Native.Nat.{min}
 use mathlib.Core.Path.{◌≡◌, sym, ◌∙◌, ap}
 use native.Mathlib.Omega.{arith}
-use lib.ListN.{length, length-map}
+use lib.ListN.{length}
 use borrow.Author.Rules.{rules}
 use Rattle.counting.specs.Sums.{any_to}
 use Rattle.counting.proofs.tests.TestLaws.{or-neither, any_to-zero, any_to-next, true-any_to}
 use Rattle.counting.proofs.lists.MemberLaws.{any_in-take}
-use Rattle.load.specs.declared.Row.{Row}
-use Rattle.load.specs.Load.{shown, no_window, window_at}
+use Rattle.load.specs.Load.{shown, no_window}
 use Rattle.load.specs.View.{row_windows, embedded_in, embedded_among}
 use Rattle.load.proofs.windows.embedded_at.Goals as goal
 use Rattle.load.proofs.windows.embedded_at.Goals.{Start}

@@ -1,17 +1,12 @@
 -- `load::embedded_at` looks at one window a turn: the step is embedded in none of the first k, and the first in which
 -- it is ends the search. That a row has four places for windows is told by its own field, the eighth.
-use Prim.Native.Nat.{ℕ, min, ◌-◌, ◌≤◌}
+use Prim.Native.Nat.{ℕ, ◌-◌, ◌≤◌}
 use mathlib.Core.Bool.{Bool, false}
-use mathlib.Core.Path.{◌≡◌, sym, ◌∙◌, ap}
-use native.Mathlib.Omega.{arith}
-use lib.ListN.{length, length-map}
-use borrow.Author.Rules.{rules}
+use mathlib.Core.Path.{◌≡◌}
 use Rattle.counting.specs.Sums.{any_to}
-use Rattle.counting.proofs.tests.TestLaws.{or-neither, any_to-zero, any_to-next, true-any_to}
-use Rattle.counting.proofs.lists.MemberLaws.{any_in-take}
 use Rattle.load.specs.declared.Row.{Row}
-use Rattle.load.specs.Load.{shown, no_window, window_at}
-use Rattle.load.specs.View.{row_windows, embedded_in, embedded_among}
+use Rattle.load.specs.Load.{shown, window_at}
+use Rattle.load.specs.View.{embedded_in}
 use Rattle.load.proofs.windows.embedded_at.Given as goal
 
 -- the step is embedded in the window at place k

@@ -1,5 +1,4 @@
 -- `embedded_in` goes by places: a step in a window, but not its first, is one from which the window is open.
-use borrow.Author.Rules.{rules}
 use borrow.Author.Tests.{lt-leb, le-leb}
 use Rattle.load.proofs.WindowLaws.{open_with-is}
 use Rattle.load.proofs.windows.embedded_in.Goals as goal

@@ -1,7 +1,5 @@
 -- `is_zero_row` says what the tests of its fields, its steps and its windows say.
 use mathlib.Core.Path.{sym, ◌∙◌}
-use borrow.Author.Rules.{rules}
-use borrow.Author.Tests.{not-true, not-false}
 use Rattle.load.proofs.zeros.is_zero_row.Goals as goal
 
 pub returns-then-not-zero_fields : goal.returns-then-not-zero_fields

@@ -1,11 +1,8 @@
 -- `zero_rows_from` asks one row a turn: while all are zeros, what is to be found is what those from here on show.
 use Prim.Native.Nat.{ℕ, ◌-◌}
 use mathlib.Core.Bool.{Bool}
-use mathlib.Core.Path.{◌≡◌, refl, sym, ◌∙◌}
-use borrow.Author.Rules.{rules}
-use borrow.Author.Tests.{not-true, not-false}
+use mathlib.Core.Path.{◌≡◌}
 use Rattle.counting.specs.Sums.{all_from}
-use Rattle.counting.proofs.tests.FromLaws.{all_from-zero, all_from-next}
 use Rattle.load.specs.declared.Load.{Load}
 use Rattle.load.specs.Load.{row_at}
 use Rattle.load.specs.Check.{is_zero_row}

@@ -1,14 +1,6 @@
 -- `zero_windows_from` asks one window a turn: while all are zeros, what is to be found is what those from here on show.
-use Prim.Native.Nat.{ℕ, ◌-◌}
-use mathlib.Core.Bool.{Bool}
-use mathlib.Core.Path.{◌≡◌, refl, sym, ◌∙◌}
-use borrow.Author.Rules.{rules}
-use borrow.Author.Tests.{not-true, not-false}
-use Rattle.counting.specs.Sums.{all_from}
+use mathlib.Core.Path.{refl, sym, ◌∙◌}
 use Rattle.counting.proofs.tests.FromLaws.{all_from-zero, all_from-next}
-use Rattle.load.specs.declared.Row.{Row}
-use Rattle.load.specs.Load.{window_at}
-use Rattle.load.specs.Check.{is_zero_window}
 use Rattle.load.proofs.zeros.zero_windows_from.Goals as goal
 use Rattle.load.proofs.zeros.zero_windows_from.Invariants.{zero-at}
 

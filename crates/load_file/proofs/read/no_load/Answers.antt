@@ -1,5 +1,4 @@
 -- `no_load` puts the all-zero load beside the refusal.
-use borrow.Author.Rules.{rules}
 use Rattle.load_file.proofs.read.no_load.Goals as goal
 
 pub returns : goal.returns

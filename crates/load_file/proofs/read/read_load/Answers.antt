@@ -1,7 +1,6 @@
 -- `read_load` finds the faults of the header, and behind a Good header, which announces at most 24 rows, those of the
 -- rows and of the end record.
 use mathlib.Core.Path.{◌≡◌, sym, ◌∙◌}
-use borrow.Author.Rules.{rules}
 use Rattle.refusals.specs.declared.Checked.TheVariants.{Good}
 use Rattle.refusals.specs.FirstMet.{first_met}
 use Rattle.load_file.specs.Reading.{header_tests}

@@ -1,7 +1,6 @@
 -- `read_rows` reads one row a turn: before turn i the rows before row i are read, and the next record stands at the
 -- place. A row that is refused decides and ends the loop; behind the last row the end record's finding does.
-use Prim.Native.Nat.{◌-◌, ◌≤◌}
-use mathlib.Core.Logic.{⊎_elim}
+use Prim.Native.Nat.{◌≤◌}
 use mathlib.Core.Path.{◌≡◌, refl, ◌∙◌}
 use native.Mathlib.Omega.{arith}
 use borrow.Author.Rules.{rules}
@@ -10,7 +9,7 @@ use Rattle.refusals.specs.declared.Checked.TheVariants.{Good, Refused}
 use Rattle.refusals.proofs.FirstMetLaws.{good-refused}
 use Rattle.load_file.specs.Places.{rows_said}
 use Rattle.load_file.specs.inner.ReadingSteps.{rows_fault}
-use Rattle.load_file.proofs.faults.ReadingRowsLaws.{RowsRead, rows_none, rows-refused, few-steps, rows_next, steps-counted, end-decides, reading-refused, reading-good}
+use Rattle.load_file.proofs.faults.ReadingRowsLaws.{rows_none, rows-refused, few-steps, rows_next, steps-counted, end-decides, reading-refused, reading-good}
 use Rattle.load_file.proofs.read.read_rows.Goals as goal
 use Rattle.load_file.proofs.read.read_rows.Goals.{Left-loop-i, Joined-answer-2, else-loop-i-test, then-loop-i-test+in-Refused, in-Good, in_default-answer}
 

@@ -1,16 +1,9 @@
 -- `read_rows` reads one row a turn: before turn i the rows before row i are read, and the next record stands at the
 -- place. A row that is refused decides and ends the loop; behind the last row the end record's finding does.
 use Prim.Native.Nat.{◌-◌, ◌≤◌}
-use mathlib.Core.Logic.{⊎_elim}
-use mathlib.Core.Path.{◌≡◌, refl, ◌∙◌}
-use native.Mathlib.Omega.{arith}
-use borrow.Author.Rules.{rules}
-use Rattle.refusals.specs.declared.Refusal.{Refusal}
-use Rattle.refusals.specs.declared.Checked.TheVariants.{Good, Refused}
-use Rattle.refusals.proofs.FirstMetLaws.{good-refused}
-use Rattle.load_file.specs.Places.{rows_said}
-use Rattle.load_file.specs.inner.ReadingSteps.{rows_fault}
-use Rattle.load_file.proofs.faults.ReadingRowsLaws.{RowsRead, rows_none, rows-refused, few-steps, rows_next, steps-counted, end-decides, reading-refused, reading-good}
+use mathlib.Core.Path.{◌≡◌}
+use Rattle.refusals.specs.declared.Checked.TheVariants.{Good}
+use Rattle.load_file.proofs.faults.ReadingRowsLaws.{RowsRead}
 use Rattle.load_file.proofs.read.read_rows.Given as goal
 
 abbrev pub invariant-loop-i : goal.invariant-loop-i

@@ -1,6 +1,5 @@
 -- `head_in` reads the byte where the version carries it.
 use mathlib.Core.Path.{sym, ◌∙◌}
-use borrow.Author.Rules.{rules}
 use borrow.Author.Tests.{eq-eqb, ne_eqb}
 use Rattle.load_file.proofs.read_parts.head_in.Goals as goal
 

@@ -1,5 +1,4 @@
 -- `own_fields` reads the fields of the row's own record.
-use borrow.Author.Rules.{rules}
 use Rattle.load_file.specs.Places.{row_with}
 use Rattle.load_file.proofs.read_parts.own_fields.Goals as goal
 

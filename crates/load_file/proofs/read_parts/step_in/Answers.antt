@@ -1,5 +1,4 @@
 -- `step_in` reads the two numbers of the record.
-use borrow.Author.Rules.{rules}
 use Rattle.load_file.proofs.read_parts.step_in.Goals as goal
 
 pub returns : goal.returns

@@ -1,5 +1,4 @@
 -- `window_in` reads the two bytes and the number of the record.
-use borrow.Author.Rules.{rules}
 use Rattle.load_file.proofs.read_parts.window_in.Goals as goal
 
 pub returns : goal.returns

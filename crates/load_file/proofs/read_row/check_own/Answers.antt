@@ -2,7 +2,6 @@
 use Prim.Native.Nat.{ℕ}
 use mathlib.Core.List.{List}
 use mathlib.Core.Path.{◌≡◌, sym, ◌∙◌}
-use borrow.Author.Rules.{rules}
 use Rattle.refusals.specs.FirstMet.{first_met}
 use Rattle.load.specs.Faults.{row_tests, taken_tests, identifier_taken, box_taken}
 use Rattle.load_file.specs.Places.{load_in}

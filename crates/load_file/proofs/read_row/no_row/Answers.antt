@@ -1,5 +1,4 @@
 -- `no_row` puts the row of zeros beside the refusal.
-use borrow.Author.Rules.{rules}
 use Rattle.load_file.proofs.read_row.no_row.Goals as goal
 
 pub returns : goal.returns

@@ -1,7 +1,6 @@
 -- `read_row` finds the fault of a row's own record, and behind a Good one those of its parts: of steps and windows that
 -- are no more than a row has.
 use mathlib.Core.Path.{◌≡◌, sym, ap, ◌∙◌}
-use borrow.Author.Rules.{rules}
 use Rattle.refusals.specs.declared.Checked.TheVariants.{Good}
 use Rattle.load_records.specs.Records.{row_kind}
 use Rattle.load_file.specs.Places.{version_said}

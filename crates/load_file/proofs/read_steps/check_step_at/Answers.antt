@@ -1,6 +1,5 @@
 -- `check_step_at` asks the step's own tests behind those of its record.
 use mathlib.Core.Path.{ap, ◌∙◌}
-use borrow.Author.Rules.{rules}
 use Rattle.refusals.specs.FirstMet.{first_met}
 use Rattle.load.specs.Faults.{step_numbers}
 use Rattle.load_records.specs.Records.{step_kind}

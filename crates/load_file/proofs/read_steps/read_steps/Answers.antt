@@ -1,6 +1,6 @@
 -- `read_steps` reads one step a turn: before turn j no fault is found in the first j, and they are kept. The first that
 -- is refused decides and ends the loop.
-use Prim.Native.Nat.{◌+◌, ◌*◌, ◌-◌, ◌≤◌, ◌<◌}
+use Prim.Native.Nat.{◌+◌, ◌*◌, ◌<◌}
 use mathlib.Core.Path.{◌≡◌, refl, sym, ◌∙◌, ap}
 use native.Mathlib.Omega.{arith}
 use borrow.Author.Rules.{rules}

@@ -1,6 +1,5 @@
 -- `check_window_at` asks the window's own tests behind those of its record.
 use mathlib.Core.Path.{ap, ◌∙◌}
-use borrow.Author.Rules.{rules}
 use Rattle.refusals.specs.FirstMet.{first_met}
 use Rattle.load.specs.Faults.{window_numbers}
 use Rattle.load_records.specs.Records.{window_kind}

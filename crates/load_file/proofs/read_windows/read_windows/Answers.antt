@@ -1,6 +1,6 @@
 -- `read_windows` reads one window a turn: before turn k no fault is found in the first k, and they are kept. The first
 -- that is refused decides and ends the loop.
-use Prim.Native.Nat.{◌+◌, ◌*◌, ◌-◌, ◌≤◌, ◌<◌}
+use Prim.Native.Nat.{◌+◌, ◌*◌, ◌<◌}
 use mathlib.Core.Path.{◌≡◌, refl, sym, ◌∙◌, ap}
 use mathlib.Core.List.{◌++◌}
 use native.Mathlib.Numerals.{add-one}
@@ -15,7 +15,7 @@ use Rattle.load.specs.Faults.{window_numbers}
 use Rattle.load_records.specs.Records.{window_kind}
 use Rattle.load_file.specs.Places.{window_in, windows_said}
 use Rattle.load_file.specs.Reading.{due_tests, window_fault_in}
-use Rattle.load_file.specs.inner.ReadingSteps.{windows_from, last_in}
+use Rattle.load_file.specs.inner.ReadingSteps.{windows_from}
 use Rattle.load_file.proofs.faults.PartLaws.{window_fault-read}
 use Rattle.load_file.proofs.read_windows.read_windows.Goals as goal
 use Rattle.load_file.proofs.read_windows.read_windows.Goals.{After-check_window_at-answer}

@@ -1,5 +1,4 @@
 -- `load_records::records::end_record` gives the mark, and behind it the two bytes of the count.
-use borrow.Author.Rules.{rules}
 use Rattle.words.specs.LittleEndian.{little_endian}
 use Rattle.load_records.proofs.records.end_record.Goals as goal
 

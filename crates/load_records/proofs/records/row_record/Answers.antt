@@ -1,5 +1,4 @@
 -- `load_records::records::row_record` gives the mark, the four bytes of each of four numbers, and the two counts.
-use borrow.Author.Rules.{rules}
 use Rattle.words.specs.LittleEndian.{little_endian}
 use Rattle.load_records.proofs.records.row_record.Goals as goal
 

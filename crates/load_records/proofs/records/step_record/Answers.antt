@@ -1,5 +1,4 @@
 -- `load_records::records::step_record` gives the mark, and behind it the two bytes of the cost and of the wait.
-use borrow.Author.Rules.{rules}
 use Rattle.words.specs.LittleEndian.{little_endian}
 use Rattle.load_records.proofs.records.step_record.Goals as goal
 

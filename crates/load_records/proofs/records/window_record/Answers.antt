@@ -1,5 +1,4 @@
 -- `load_records::records::window_record` gives the mark, the two steps, and behind them the two bytes of the limit.
-use borrow.Author.Rules.{rules}
 use Rattle.words.specs.LittleEndian.{little_endian}
 use Rattle.load_records.proofs.records.window_record.Goals as goal
 

@@ -1,5 +1,4 @@
 -- `load_records::rows::counted_row` takes the row over, with the smaller of each count and its places.
-use borrow.Author.Rules.{rules}
 use Rattle.load_records.specs.Writing.{counted_row}
 use Rattle.load_records.proofs.rows.counted_row.Goals as goal
 

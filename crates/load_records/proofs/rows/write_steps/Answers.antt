@@ -1,12 +1,8 @@
 -- `load_records::rows::write_steps` writes record by record: after j turns the first j records stand in the output,
 -- one behind the other.
-use Prim.Native.Nat.{◌-◌, ◌≤◌}
 use mathlib.Core.Path.{◌≡◌, refl, ◌∙◌}
 use native.Mathlib.Omega.{arith}
 use borrow.Author.Rules.{rules}
-use lib.ListN.{length}
-use lib.Seq.{sets}
-use Rattle.counting.specs.Lists.{join_to}
 use Rattle.words.proofs.OverwriteLaws.{sets-joined-zero, sets-same-next}
 use Rattle.load.specs.Load.{step_at}
 use Rattle.load_records.specs.Records.{step_record}

@@ -1,16 +1,12 @@
 -- `load_records::rows::write_windows` writes record by record: after k turns the first k records stand in the
 -- output, one behind the other.
 use Prim.Native.Nat.{◌-◌, ◌≤◌}
-use mathlib.Core.Path.{◌≡◌, refl, ◌∙◌}
-use native.Mathlib.Omega.{arith}
-use borrow.Author.Rules.{rules}
+use mathlib.Core.Path.{◌≡◌}
 use lib.ListN.{length}
 use lib.Seq.{sets}
 use Rattle.counting.specs.Lists.{join_to}
-use Rattle.words.proofs.OverwriteLaws.{sets-joined-zero, sets-same-next}
 use Rattle.load.specs.Load.{window_at}
 use Rattle.load_records.specs.Records.{window_record}
-use Rattle.load_records.proofs.LengthLaws.{window_record-length}
 use Rattle.load_records.proofs.rows.write_windows.Given as goal
 
 abbrev pub invariant-loop-k : goal.invariant-loop-k

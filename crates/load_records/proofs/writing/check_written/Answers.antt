@@ -1,6 +1,5 @@
 -- `load_records::writing::check_written` asks what version 2 asks, or what any other does.
 use mathlib.Core.Path.{◌∙◌}
-use borrow.Author.Rules.{rules}
 use borrow.Author.Tests.{eq-eqb, ne_eqb}
 use Rattle.load_records.proofs.writing.check_written.Goals as goal
 

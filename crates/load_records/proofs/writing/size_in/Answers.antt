@@ -1,6 +1,5 @@
 -- `load_records::writing::size_in` gives 0 where the check refuses, and else the whole size.
 use mathlib.Core.Path.{◌≡◌, sym, ◌∙◌}
-use borrow.Author.Rules.{rules}
 use lib.ListN.{length}
 use Rattle.refusals.specs.declared.Checked.TheVariants.{Good}
 use Rattle.refusals.proofs.GivenLaws.{if_good-good, if_good-refused}

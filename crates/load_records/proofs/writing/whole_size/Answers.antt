@@ -1,12 +1,9 @@
 -- `load_records::writing::whole_size` adds row by row: after i turns the size is that of the header, of the end record
 -- and of the first i rows. A checked load has few enough rows, steps and windows that the sum fits.
-use Prim.Native.Nat.{◌+◌, ◌-◌, ◌≤◌}
 use mathlib.Core.Path.{◌≡◌}
 use native.Mathlib.Omega.{arith}
 use borrow.Author.Rules.{rules}
-use lib.ListN.{length}
-use Rattle.load.specs.Load.{most_rows}
-use Rattle.load_records.proofs.WritingLaws.{rows_bytes, rows_bytes-length-zero, rows_bytes-length-next, rows_bytes-length-le, row_bytes-length-le, load_bytes-length-rows, rows-le}
+use Rattle.load_records.proofs.WritingLaws.{rows_bytes-length-zero, rows_bytes-length-next, rows_bytes-length-le, row_bytes-length-le, load_bytes-length-rows, rows-le}
 use Rattle.load_records.proofs.writing.whole_size.Goals as goal
 
 pub loop-i-init : goal.loop-i-init

@@ -2,11 +2,9 @@
 -- and of the first i rows. A checked load has few enough rows, steps and windows that the sum fits.
 use Prim.Native.Nat.{◌+◌, ◌-◌, ◌≤◌}
 use mathlib.Core.Path.{◌≡◌}
-use native.Mathlib.Omega.{arith}
-use borrow.Author.Rules.{rules}
 use lib.ListN.{length}
 use Rattle.load.specs.Load.{most_rows}
-use Rattle.load_records.proofs.WritingLaws.{rows_bytes, rows_bytes-length-zero, rows_bytes-length-next, rows_bytes-length-le, row_bytes-length-le, load_bytes-length-rows, rows-le}
+use Rattle.load_records.proofs.WritingLaws.{rows_bytes}
 use Rattle.load_records.proofs.writing.whole_size.Given as goal
 
 abbrev pub invariant-loop-i : goal.invariant-loop-i

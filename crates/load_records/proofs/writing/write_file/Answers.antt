@@ -1,6 +1,5 @@
 -- `load_records::writing::write_file` writes the header, behind it the rows, and behind them the end record.
 use mathlib.Core.Path.{ap, ◌∙◌}
-use borrow.Author.Rules.{rules}
 use lib.Seq.{sets}
 use Rattle.load_records.specs.Records.{end_record}
 use Rattle.load_records.proofs.WritingLaws.{load-written}

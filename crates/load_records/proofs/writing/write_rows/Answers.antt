@@ -1,7 +1,7 @@
 -- `load_records::writing::write_rows` writes row by row: after i turns the first i rows stand behind the header's
 -- place, and the place is the one behind them. The rows of a checked load are written as they are, and so few and so
 -- short that the place fits.
-use Prim.Native.Nat.{ℕ, ◌+◌, ◌-◌, ◌≤◌}
+use Prim.Native.Nat.{ℕ, ◌≤◌}
 use mathlib.Core.Path.{◌≡◌, refl, ap, sym, ◌∙◌}
 use native.Mathlib.Omega.{arith}
 use borrow.Author.Rules.{rules}
@@ -9,10 +9,10 @@ use lib.ListN.{length, take}
 use lib.Seq.{sets, length-take-le}
 use Rattle.words.proofs.OverwriteLaws.{sets-joined-zero, sets-joined-next}
 use Rattle.load.specs.declared.Row.{Row}
-use Rattle.load.specs.Load.{most_rows, row_at}
+use Rattle.load.specs.Load.{row_at}
 use Rattle.load_records.specs.Writing.{row_bytes, counted_row}
 use Rattle.load_records.proofs.RowLaws.{records-length, records-inside, records-taken}
-use Rattle.load_records.proofs.WritingLaws.{rows_bytes, rows_bytes-length-zero, rows_bytes-length-next, rows_bytes-length-le, row_bytes-length-le, rows-le, counted_same}
+use Rattle.load_records.proofs.WritingLaws.{rows_bytes-length-zero, rows_bytes-length-next, rows_bytes-length-le, row_bytes-length-le, rows-le, counted_same}
 use Rattle.load_records.proofs.writing.write_rows.Goals as goal
 use Rattle.load_records.proofs.writing.write_rows.Goals.{After-records_in-records}
 

@@ -1,5 +1,4 @@
 -- `or_zero_32` gives the number where it is at most the largest of the field.
-use borrow.Author.Rules.{rules}
 use borrow.Author.Tests.{le-leb, lt-leb}
 use Rattle.sheet.proofs.fields.or_zero_32.Goals as goal
 

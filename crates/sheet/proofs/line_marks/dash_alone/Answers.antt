@@ -1,7 +1,5 @@
 -- `dash_alone` asks whether the mark is a dash, and then whether a window of its row goes on there.
 use mathlib.Core.Path.{sym, ◌∙◌}
-use borrow.Author.Rules.{rules}
-use borrow.Author.Tests.{not-true, not-false}
 use Rattle.sheet.proofs.line_marks.dash_alone.Goals as goal
 
 pub returns-then-not-is_dash : goal.returns-then-not-is_dash

@@ -1,7 +1,5 @@
 -- `limit_alone` asks whether the mark before is a limit, and then whether a dash of its row follows.
 use mathlib.Core.Path.{sym, ◌∙◌}
-use borrow.Author.Rules.{rules}
-use borrow.Author.Tests.{not-true, not-false}
 use Rattle.sheet.proofs.line_marks.limit_alone.Goals as goal
 
 pub returns-then-not-is_limit : goal.returns-then-not-is_limit

@@ -1,6 +1,5 @@
 -- `check_end` asks whether the last line began a window.
 use mathlib.Core.Path.{sym, ◌∙◌}
-use borrow.Author.Rules.{rules}
 use Rattle.sheet.proofs.lines.check_end.Goals as goal
 
 pub returns-then-is_limit : goal.returns-then-is_limit

@@ -3,8 +3,6 @@
 use Prim.Native.Nat.{ℕ}
 use mathlib.Core.Path.{◌≡◌, sym, ◌∙◌}
 use lib.ListN.{drop}
-use borrow.Author.Rules.{rules}
-use borrow.Author.Tests.{not-true, not-false}
 use Rattle.refusals.specs.FirstMet.{first_met}
 use Rattle.sheet.specs.LineFaults.{line_tests}
 use Rattle.sheet.proofs.lines.check_line.Goals as goal

@@ -1,5 +1,5 @@
 -- `row_differs` compares the three fields in their order.
-use borrow.Author.Tests.{eq-eqb, ne_eqb, not-true, not-false}
+use borrow.Author.Tests.{eq-eqb, ne_eqb}
 use Rattle.sheet.proofs.lines.row_differs.Goals as goal
 
 pub returns-then-not-goes_on : goal.returns-then-not-goes_on

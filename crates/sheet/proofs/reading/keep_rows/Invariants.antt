@@ -1,13 +1,8 @@
 -- `keep_rows` keeps one row a turn: before each turn so many rows are kept, and the next begins at a place. It ends
 -- where every place is taken, or where the sheet does.
 use Prim.Native.Nat.{◌-◌, ◌≤◌}
-use mathlib.Core.Logic.{⊎_elim}
-use mathlib.Core.Path.{◌≡◌, ap, ap₂}
-use native.Mathlib.Omega.{arith}
-use borrow.Author.Rules.{rules}
 use Rattle.load.specs.Load.{most_rows}
-use Rattle.sheet.specs.inner.Walk.{rows_kept}
-use Rattle.sheet.proofs.walk.SheetWalk.{RowsKept, rows_none, row-stands-next, rows_next, kept-load, kept_next, rows-full, rows-ended}
+use Rattle.sheet.proofs.walk.SheetWalk.{RowsKept}
 use Rattle.sheet.proofs.reading.keep_rows.Given as goal
 
 abbrev pub invariant-loop-rows : goal.invariant-loop-rows

@@ -1,6 +1,5 @@
 -- `read_sheet` reads the rows where no line is refused.
 use mathlib.Core.Path.{sym, ◌∙◌}
-use borrow.Author.Rules.{rules}
 use Rattle.sheet.proofs.walk.SheetWalk.{lines-refused}
 use Rattle.sheet.proofs.reading.read_sheet.Goals as goal
 

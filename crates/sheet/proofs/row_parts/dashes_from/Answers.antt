@@ -1,12 +1,9 @@
 -- `dashes_from` asks one line a turn: before turn k the first k lines have dashes.
-use Prim.Native.Nat.{ℕ, ◌-◌, ◌<◌, ◌≤◌}
-use mathlib.Core.Bool.{true}
 use mathlib.Core.Path.{◌≡◌, sym, ap, ◌∙◌}
 use native.Mathlib.Omega.{arith}
 use borrow.Author.Count.{below_more}
 use borrow.Author.Rules.{rules}
-use borrow.Author.Tests.{not-true, not-false}
-use Rattle.sheet.specs.Lines.{line_place, line_from}
+use Rattle.sheet.specs.Lines.{line_from}
 use Rattle.sheet.specs.LineFaults.{is_dash}
 use Rattle.sheet.proofs.trip.PlaceLaws.{line_place-zero}
 use Rattle.sheet.proofs.walk.ReadLaws.{line-says, line-next}

@@ -1,5 +1,4 @@
 -- `step_of` cuts the line's cost and wait.
-use borrow.Author.Rules.{rules}
 use Rattle.sheet.proofs.row_parts.step_of.Goals as goal
 
 pub returns : goal.returns

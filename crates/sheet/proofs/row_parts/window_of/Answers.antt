@@ -1,5 +1,4 @@
 -- `window_of` counts the window's steps from 1, and cuts its limit.
-use borrow.Author.Rules.{rules}
 use Rattle.sheet.proofs.row_parts.window_of.Goals as goal
 
 pub returns : goal.returns

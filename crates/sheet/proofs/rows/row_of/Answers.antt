@@ -1,6 +1,5 @@
 -- `row_of` takes the row's own fields from its first line, and its steps and windows from all of them.
 use mathlib.Core.Path.{◌≡◌, sym}
-use borrow.Author.Rules.{rules}
 use Rattle.sheet.specs.Lines.{line_from}
 use Rattle.sheet.specs.inner.Walk.{kept_windows}
 use Rattle.sheet.proofs.trip.PlaceLaws.{line_place-zero}

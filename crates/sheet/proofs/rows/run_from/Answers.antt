@@ -1,10 +1,7 @@
 -- `run_from` counts one line a turn: before each turn the row goes on for so many lines, up to the next place. It ends
 -- where the sheet does, or with another identifier.
-use Prim.Native.Nat.{◌-◌}
 use native.Mathlib.Omega.{arith}
-use borrow.Author.Rules.{rules}
-use lib.ListN.{length}
-use Rattle.sheet.proofs.walk.RunLaws.{RunSoFar, run-one, run_fits, run_ends, run-differs, next-behind, run_more}
+use Rattle.sheet.proofs.walk.RunLaws.{run-one, run_fits, run_ends, run-differs, next-behind, run_more}
 use Rattle.sheet.proofs.rows.run_from.Goals as goal
 
 pub loop-next-init : goal.loop-next-init

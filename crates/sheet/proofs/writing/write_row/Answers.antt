@@ -1,17 +1,13 @@
 -- `sheet::writing::write_row` writes line by line: after j turns the first j lines stand from the place on, and the
 -- place is the one behind them. A line has at most 63 bytes, so the place fits.
-use Prim.Native.Nat.{ℕ, ◌+◌, ◌-◌, ◌*◌, ◌≤◌}
-use mathlib.Core.List.{List}
+use Prim.Native.Nat.{◌≤◌}
 use mathlib.Core.Path.{◌≡◌, refl, ap, sym, ◌∙◌}
 use native.Mathlib.Omega.{arith}
 use borrow.Author.Rules.{rules}
 use lib.ListN.{length, length-append}
 use lib.Seq.{sets, length-take-le}
-use Rattle.counting.specs.Lists.{join_to}
 use Rattle.counting.proofs.lists.ListLaws.{join_to-zero, join_to-next}
 use Rattle.words.proofs.OverwriteLaws.{sets-joined-zero, sets-joined-next}
-use Rattle.load.specs.declared.Row.{Row}
-use Rattle.sheet_line.specs.LineText.{line_of, line_bytes}
 use Rattle.sheet_line.proofs.TextLaws.{text-length, text-taken, text-inside}
 use Rattle.sheet.specs.Writing.{row_lines}
 use Rattle.sheet.proofs.writing.write_row.Goals as goal

@@ -2,18 +2,13 @@
 -- front, and the place is the one behind them. A checked load has at most 24 rows of at most 8 steps, so it fits.
 use Prim.Native.Nat.{ℕ, ◌-◌, ◌*◌, ◌≤◌}
 use mathlib.Core.List.{List}
-use mathlib.Core.Path.{◌≡◌, refl, ap, ◌∙◌}
-use native.Mathlib.Omega.{arith}
-use borrow.Author.Rules.{rules}
-use lib.ListN.{length, length-append}
+use mathlib.Core.Path.{◌≡◌}
+use lib.ListN.{length}
 use lib.Seq.{sets}
 use Rattle.counting.specs.Lists.{join_to}
-use Rattle.counting.proofs.lists.ListLaws.{join_to-zero, join_to-next}
-use Rattle.words.proofs.OverwriteLaws.{sets-joined-zero, sets-joined-next}
 use Rattle.load.specs.declared.Load.{Load}
 use Rattle.load.specs.Load.{most_rows, row_at}
-use Rattle.load.proofs.CheckLaws.{check_load-good, fields-steps-le}
-use Rattle.sheet.specs.Writing.{row_lines, sheet_bytes}
+use Rattle.sheet.specs.Writing.{row_lines}
 use Rattle.sheet.proofs.writing.write_rows.Given as goal
 
 -- the lines of row i, and those of the first n rows

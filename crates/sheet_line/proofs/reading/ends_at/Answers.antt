@@ -1,7 +1,6 @@
 -- `sheet_line::reading::ends_at` asks for the second byte only where the first is there, so its place fits.
 use mathlib.Core.Path.{ap, sym, ◌∙◌}
 use native.Mathlib.Omega.{arith}
-use borrow.Author.Rules.{rules}
 use borrow.Author.Tests.{eq-eqb, ne_eqb}
 use lib.Dec.{eqb}
 use Rattle.words.specs.LittleEndian.{byte_at}

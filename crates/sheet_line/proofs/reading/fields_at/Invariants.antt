@@ -1,20 +1,12 @@
 -- `sheet_line::reading::fields_at` reads one field a turn, each from where the one before ended: after k turns the
 -- first k stand there, their numbers are kept, and the place is that of the next.
-use Prim.Native.Nat.{ℕ, ◌+◌, ◌-◌, ◌≤◌}
-use mathlib.Core.Bool.{Bool, true}
-use mathlib.Core.List.{List}
-use mathlib.Core.Path.{◌≡◌, refl, ap, sym, ◌∙◌}
-use native.Mathlib.Omega.{arith}
-use lib.ListN.{length, length-set}
-use borrow.Author.Rules.{rules}
-use borrow.Author.Tests.{not-true, not-false}
+use Prim.Native.Nat.{◌-◌, ◌≤◌}
+use mathlib.Core.Bool.{true}
+use mathlib.Core.Path.{◌≡◌}
+use lib.ListN.{length}
 use Rattle.counting.specs.Lists.{filled}
-use Rattle.counting.proofs.lists.ListLaws.{filled_none, filled-stored, filled-all}
-use Rattle.counting.proofs.tests.TestLaws.{and_both, true-false, all_to-zero, all_to-next, false-all_to}
-use Rattle.sheet_line.specs.Line.{behind_digits, field_place, field_in, is_field_at}
-use Rattle.words.specs.PlainDecimal.{plain_value}
+use Rattle.sheet_line.specs.Line.{field_place, field_in}
 use Rattle.sheet_line.specs.inner.Fields.{fields_to}
-use Rattle.sheet_line.proofs.ReadingLaws.{field_place-zero, field_place-next}
 use Rattle.sheet_line.proofs.reading.fields_at.Given as goal
 
 abbrev pub invariant-loop-k : goal.invariant-loop-k

@@ -3,7 +3,6 @@
 use mathlib.Core.Bool.{true}
 use mathlib.Core.Path.{◌≡◌, ap, sym, ◌∙◌}
 use native.Mathlib.Omega.{arith}
-use borrow.Author.Rules.{rules}
 use borrow.Author.Tests.{not-true, not-false}
 use Rattle.sheet_line.specs.Line.{mark_place, mark_at, behind_mark}
 use Rattle.sheet_line.specs.inner.Fields.{MarkReadAt, ends_at}

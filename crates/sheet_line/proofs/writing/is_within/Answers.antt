@@ -3,7 +3,6 @@
 use mathlib.Core.Bool.{and-false, and-true}
 use mathlib.Core.Path.{sym}
 use native.Mathlib.Omega.{arith}
-use borrow.Author.Rules.{rules}
 use borrow.Author.Tests.{lt-leb, le-leb}
 use lib.Dec.{leb}
 use Rattle.load.specs.Load.{shown}

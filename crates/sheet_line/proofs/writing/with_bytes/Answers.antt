@@ -1,7 +1,6 @@
 -- `sheet_line::writing::with_bytes` writes the bytes over the text's places, from its length on.
 use Prim.Native.Nat.{◌+◌}
 use mathlib.Core.Path.{ap}
-use borrow.Author.Rules.{rules}
 use lib.ListN.{length}
 use Rattle.sheet_line.proofs.writing.with_bytes.Goals as goal
 

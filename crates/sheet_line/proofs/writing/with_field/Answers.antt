@@ -2,7 +2,6 @@
 use mathlib.Core.List.{[], ◌∷◌}
 use mathlib.Core.Path.{ap, ◌∙◌}
 use native.Mathlib.Omega.{arith}
-use borrow.Author.Rules.{rules}
 use Rattle.words.specs.Decimal.{decimal}
 use Rattle.sheet_line.specs.declared.LineText.{LineText}
 use Rattle.sheet_line.specs.LineText.{comma}

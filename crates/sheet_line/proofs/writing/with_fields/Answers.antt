@@ -1,6 +1,5 @@
 -- `sheet_line::writing::with_fields` puts one number a turn behind the text: after k turns the first k, a comma
 -- behind each.
-use Prim.Native.Nat.{◌+◌, ◌-◌, ◌*◌, ◌≤◌}
 use mathlib.Core.Path.{◌≡◌, ap, sym, ◌∙◌}
 use native.Mathlib.Omega.{arith}
 use borrow.Author.Rules.{rules}
@@ -8,7 +7,7 @@ use Rattle.counting.specs.Lists.{member_at}
 use Rattle.counting.proofs.lists.ListLaws.{join_to-zero}
 use Rattle.sheet_line.specs.declared.LineText.{LineText}
 use Rattle.sheet_line.specs.inner.Behind.{behind}
-use Rattle.sheet_line.proofs.TextLaws.{behind-none, field_bytes-length-most, fields_text, fields_text-next}
+use Rattle.sheet_line.proofs.TextLaws.{behind-none, field_bytes-length-most, fields_text-next}
 use Rattle.sheet_line.proofs.writing.with_fields.Goals as goal
 
 pub loop-k-init : goal.loop-k-init

@@ -1,14 +1,9 @@
 -- `sheet_line::writing::with_fields` puts one number a turn behind the text: after k turns the first k, a comma
 -- behind each.
 use Prim.Native.Nat.{◌+◌, ◌-◌, ◌*◌, ◌≤◌}
-use mathlib.Core.Path.{◌≡◌, ap, sym, ◌∙◌}
-use native.Mathlib.Omega.{arith}
-use borrow.Author.Rules.{rules}
-use Rattle.counting.specs.Lists.{member_at}
-use Rattle.counting.proofs.lists.ListLaws.{join_to-zero}
-use Rattle.sheet_line.specs.declared.LineText.{LineText}
+use mathlib.Core.Path.{◌≡◌}
 use Rattle.sheet_line.specs.inner.Behind.{behind}
-use Rattle.sheet_line.proofs.TextLaws.{behind-none, field_bytes-length-most, fields_text, fields_text-next}
+use Rattle.sheet_line.proofs.TextLaws.{fields_text}
 use Rattle.sheet_line.proofs.writing.with_fields.Given as goal
 
 abbrev pub invariant-loop-k : goal.invariant-loop-k

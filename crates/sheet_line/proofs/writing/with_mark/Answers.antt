@@ -1,6 +1,6 @@
 -- `sheet_line::writing::with_mark` looks at one window a turn: those before it do not have the step, and the first
 -- that has it decides.
-use Prim.Native.Nat.{◌-◌, ◌≤◌, ◌<◌}
+use Prim.Native.Nat.{◌<◌}
 use mathlib.Core.Bool.{true}
 use mathlib.Core.Path.{◌≡◌, refl, ap, sym, ◌∙◌}
 use native.Mathlib.Omega.{arith}

@@ -1,23 +1,10 @@
 -- `sheet_line::writing::with_mark` looks at one window a turn: those before it do not have the step, and the first
 -- that has it decides.
-use Prim.Native.Nat.{◌-◌, ◌≤◌, ◌<◌}
-use mathlib.Core.Bool.{true}
-use mathlib.Core.Path.{◌≡◌, refl, ap, sym, ◌∙◌}
-use native.Mathlib.Omega.{arith}
-use borrow.Author.Rules.{rules}
-use borrow.Author.Tests.{leb-true}
-use lib.Dec.{leb}
+use Prim.Native.Nat.{◌-◌, ◌≤◌}
+use mathlib.Core.Path.{◌≡◌}
 use lib.ListN.{drop}
-use mir.Syntax.{w8, w16}
-use mir.Val.{Fits}
-use Rattle.counting.proofs.tests.TestLaws.{and_right}
-use Rattle.load.specs.Load.{shown}
-use Rattle.load.specs.View.{row_windows, in_window}
-use Rattle.sheet_line.specs.declared.Mark.TheVariants.{Nothing}
-use Rattle.sheet_line.specs.LineText.{mark_among, mark_bytes}
-use Rattle.sheet_line.specs.inner.Behind.{behind}
-use Rattle.sheet_line.proofs.TextLaws.{behind-none}
-use Rattle.sheet_line.proofs.MarkLaws.{mark_in, among-here, among_next, among_none, mark_in-length-le}
+use Rattle.load.specs.View.{row_windows}
+use Rattle.sheet_line.specs.LineText.{mark_among}
 use Rattle.sheet_line.proofs.writing.with_mark.Given as goal
 
 abbrev pub invariant-loop-k : goal.invariant-loop-k

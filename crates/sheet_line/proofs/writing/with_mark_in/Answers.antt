@@ -1,5 +1,4 @@
 -- `sheet_line::writing::with_mark_in` asks whether the step is the window's first: a limit, or else a dash.
-use borrow.Author.Rules.{rules}
 use borrow.Author.Tests.{eq-eqb, ne_eqb}
 use Rattle.load.specs.Load.{shown}
 use Rattle.sheet_line.specs.LineText.{mark_bytes}

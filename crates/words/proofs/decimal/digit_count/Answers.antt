@@ -1,10 +1,8 @@
 -- `words::decimal::digit_count` takes off one digit a turn, and counts it; the one that is left is counted at first.
-use Prim.Native.Nat.{◌+◌, ◌^◌, ◌<◌}
-use mathlib.Core.Path.{◌≡◌, ap}
+use mathlib.Core.Path.{ap}
 use native.Mathlib.Omega.{arith}
 use borrow.Author.Rules.{rules}
 use lib.ListN.{length}
-use Rattle.words.specs.Decimal.{decimal}
 use Rattle.words.proofs.DecimalLaws.{decimal-small, decimal-length-next, decimal-length-le}
 use Rattle.words.proofs.decimal.digit_count.Goals as goal
 

@@ -1,13 +1,10 @@
 -- `words::decimal::with_digits` writes one digit a turn, from the last to the first: the digits that are left, written
 -- over the bytes so far, are the digits asked for. The one that is left at the end stands at the place itself.
-use Prim.Native.Nat.{◌+◌, ◌-◌, ◌/◌, ◌^◌, ◌≤◌, ◌<◌}
-use mathlib.Core.Path.{◌≡◌, refl, ap, ap₂, sym, ◌∙◌}
-use native.Mathlib.Omega.{arith}
-use borrow.Author.Rules.{rules}
-use lib.ListN.{length, length-set, set}
+use Prim.Native.Nat.{◌+◌, ◌^◌, ◌≤◌, ◌<◌}
+use mathlib.Core.Path.{◌≡◌}
+use lib.ListN.{length}
 use lib.Seq.{sets}
 use Rattle.words.specs.Decimal.{decimal}
-use Rattle.words.proofs.DecimalLaws.{decimal-small, decimal-length-next, decimal-length-le, decimal-length-lt, last-digit}
 use Rattle.words.proofs.decimal.with_digits.Given as goal
 
 abbrev pub invariant-loop-rest : goal.invariant-loop-rest

@@ -1,6 +1,5 @@
 -- `words::plain::decimal_at` reads what the bytes from the place on begin with.
 use mathlib.Core.Path.{◌≡◌, ap, ap₂, ◌∙◌}
-use borrow.Author.Rules.{rules}
 use Rattle.words.specs.PlainDecimal.{plain_at, value_at, plain_value}
 use Rattle.words.proofs.DigitLaws.{value_at-drop}
 use Rattle.words.proofs.PlainLaws.{plain_at-drop}

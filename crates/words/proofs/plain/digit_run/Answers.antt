@@ -1,13 +1,11 @@
 -- `words::plain::digit_run` passes a digit a turn, and stops at the first byte that is none, or behind eleven.
-use Prim.Native.Nat.{◌+◌, ◌-◌, ◌≤◌}
+use Prim.Native.Nat.{◌+◌}
 use mathlib.Core.Path.{◌≡◌, ap, sym, ◌∙◌}
 use native.Mathlib.Nat.{zero-add}
 use native.Mathlib.Omega.{arith}
-use borrow.Author.Rules.{rules}
-use borrow.Author.Tests.{not-true, not-false}
 use Rattle.words.specs.LittleEndian.{byte_at}
 use Rattle.words.specs.PlainDecimal.{is_digit}
-use Rattle.words.proofs.DigitLaws.{Run, digits_at-is, run-next}
+use Rattle.words.proofs.DigitLaws.{digits_at-is, run-next}
 use Rattle.words.proofs.plain.digit_run.Goals as goal
 use Rattle.words.proofs.plain.digit_run.Goals.{After-is_digit}
 

@@ -2,7 +2,6 @@
 -- 0 in front of others.
 use native.Mathlib.Omega.{arith}
 use mathlib.Core.Path.{sym, ◌∙◌}
-use borrow.Author.Rules.{rules}
 use Rattle.words.proofs.PlainLaws.{plain_at-run, plain_at-none, plain_at-few}
 use Rattle.words.proofs.plain.plain_run.Goals as goal
 

@@ -1,15 +1,8 @@
 -- `words::plain::spelled` takes one digit a turn, as the definition does: what the first of them spell stays below
 -- 10 ^ 9 while another is to come.
-use Prim.Native.Nat.{◌+◌, ◌-◌, ◌*◌, ◌^◌, ◌≤◌, ◌<◌}
-use mathlib.Core.Path.{◌≡◌, ap, ap₂, sym, ◌∙◌}
-use native.Mathlib.Nat.{zero-add}
-use native.Mathlib.Numerals.{add-one}
-use native.Mathlib.Omega.{arith}
-use borrow.Author.Rules.{rules}
-use Rattle.words.specs.LittleEndian.{byte_at}
+use Prim.Native.Nat.{◌-◌, ◌≤◌}
+use mathlib.Core.Path.{◌≡◌}
 use Rattle.words.specs.PlainDecimal.{value_at}
-use Rattle.words.proofs.DigitLaws.{IsSign}
-use Rattle.words.proofs.PlainLaws.{plain-sign, plain-front-lt}
 use Rattle.words.proofs.plain.spelled.Given as goal
 
 abbrev pub invariant-loop-i : goal.invariant-loop-i
