@@ -24,10 +24,10 @@ first : (c : Joined-lowest)
 first c =
     elim c.if-lowest.branch [
       | then-lowest w ↦
-        let e : c.if-lowest.numbers ≡ set (replicate 8 false) c.args.lowest true = w.numbers-is ∙ w.mark_number.ensures in
-        numbers-first _ _ _ _ (ap length e ∙ length-set (replicate 8 false) c.args.lowest true)
-        (λ l. ap (λ m. is_marked m c.args.lowest) e
-        ∙ get_or-set_same (replicate 8 false) c.args.lowest true false l)
+          let e : c.if-lowest.numbers ≡ set (replicate 8 false) c.args.lowest true = w.numbers-is ∙ w.mark_number.ensures in
+          numbers-first _ _ _ _ (ap length e ∙ length-set (replicate 8 false) c.args.lowest true)
+          (λ l. ap (λ m. is_marked m c.args.lowest) e
+          ∙ get_or-set_same (replicate 8 false) c.args.lowest true false l)
       | else-lowest w ↦ numbers-first _ _ _ _ (ap length w.numbers-is) (λ l. absurd (omega (arith, w.if-lowest.false)))
     ]
 

@@ -26,14 +26,14 @@ loop-i-preserved c =
     → TriedRow (numbers_from counts 0) (numbers_from counts 24) (marks_from counts 48) args.lowest row in
     elim c.if-number.branch [
       | then-number+then-is_tried+then-moment-soonest w ↦
-        subst Kept (sym w.row-is)
-        (λ _. record {
-          number = subst (λ n. n < 8) number.ensures w.if-number.true;
-          tried = subst (λ n. tried_by (member_at (numbers_from counts 0) loop.i) (member_at (numbers_from counts 24)
-              loop.i)
-              (is_marked (marks_from counts 48) loop.i) n args.lowest ≡ true) number.ensures
-              (sym w.is_tried.ensures ∙ w.if-is_tried.true);
-        })
+          subst Kept (sym w.row-is)
+          (λ _. record {
+            number = subst (λ n. n < 8) number.ensures w.if-number.true;
+            tried = subst (λ n. tried_by (member_at (numbers_from counts 0) loop.i) (member_at (numbers_from counts 24)
+                loop.i)
+                (is_marked (marks_from counts 48) loop.i) n args.lowest ≡ true) number.ensures
+                (sym w.is_tried.ensures ∙ w.if-is_tried.true);
+          })
       | then-number+then-is_tried+else-moment-soonest w ↦ subst Kept (sym w.row-is) loop.invariant
       | then-number+else-is_tried w ↦ subst Kept (sym w.row-is) loop.invariant
       | else-number w ↦ subst Kept (sym w.row-is) loop.invariant
