@@ -1,10 +1,8 @@
 -- `soonest_row` keeps one row, which is tried.
-use Prim.Native.Nat.{ℕ, ◌-◌, ◌<◌}
+use Prim.Native.Nat.{ℕ, ◌<◌}
 use mathlib.Core.Bool.{true}
-use mathlib.Core.Logic.{⊎_elim}
 use mathlib.Core.Path.{◌≡◌, sym, ◌∙◌, subst}
 use native.Mathlib.Omega.{arith}
-use borrow.Author.Rules.{rules}
 use Rattle.counting.specs.Lists.{member_at, is_marked}
 use Rattle.plan.specs.Boards.{numbers_from, marks_from}
 use Rattle.plan.specs.inner.Searching.{tried_by, TriedRow}
