@@ -1,6 +1,5 @@
 -- `look_at` reads each number of the row's places; past the last row nothing stands in a part.
 use mathlib.Core.Path.{sym}
-use borrow.Author.Rules.{rules}
 use Rattle.plan.proofs.BoardLaws.{look-past}
 use Rattle.plan.proofs.boards.look_at.Goals as goal
 

@@ -1,6 +1,5 @@
 -- `put_counts` stores each number in the row's place of its part.
 use mathlib.Core.Path.{refl}
-use borrow.Author.Rules.{rules}
 use Rattle.plan.specs.Boards.{parts_with}
 use Rattle.plan.proofs.boards.put_counts.Goals as goal
 

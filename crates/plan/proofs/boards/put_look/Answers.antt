@@ -1,6 +1,5 @@
 -- `put_look` puts the numbers of each array in its places, and none past the last row.
 use mathlib.Core.Path.{refl}
-use borrow.Author.Rules.{rules}
 use borrow.Author.Tests.{lt-ltb, le-ltb}
 use Rattle.plan.specs.Boards.{counts_with, lengths_with, moments_with}
 use Rattle.plan.proofs.boards.put_look.Goals as goal

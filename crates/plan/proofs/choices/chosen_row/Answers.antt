@@ -12,16 +12,17 @@ returns-then-clock-gt-LAST_MOMENT c =
 
 pub search-requires : goal.search-requires
 search-requires c =
-    let most = c.at_most_rows-last.ensures in (
-      record {
+    let most = c.at_most_rows-last.ensures in record {
+      search_fits = record {
         rows-most = omega (arith, most);
         clock-most = c.if-clock-gt-LAST_MOMENT.false;
         lowest-is = c.lowest_step-lowest.ensures;
         stack = c.stack_of-order.ensures.stack_in;
         known = refused_none _ _ _ (omega (arith, most));
-      },
-      (c.numbers_of-numbers.ensures, c.first_turn-first.ensures),
-    )
+      };
+      numbers_in = c.numbers_of-numbers.ensures;
+      first_turn = c.first_turn-first.ensures;
+    }
 
 pub returns : goal.returns
 returns c =

@@ -1,6 +1,4 @@
 -- `opening_after` asks whether a window is open then, and whether it was.
-use borrow.Author.Rules.{rules}
-use borrow.Author.Tests.{not-true, not-false}
 use Rattle.plan.proofs.choices.opening_after.Goals as goal
 
 pub returns-then-not-stays : goal.returns-then-not-stays

@@ -1,7 +1,6 @@
 -- `look_of` puts together what the calls find of the row.
 use Prim.Native.Nat.{min}
 use mathlib.Core.Path.{ap, ap₂, ◌∙◌}
-use borrow.Author.Rules.{rules}
 use Rattle.load.specs.Load.{most_steps}
 use Rattle.plan.specs.Looks.{look_by}
 use Rattle.plan.proofs.LookLaws.{found-is}

@@ -1,18 +1,16 @@
 -- `open_window` asks one window a turn: until one is open, the first open one is to be found among those from here on.
 -- That a row has four places for windows is told by its own field, the eighth.
-use Prim.Native.Nat.{◌-◌, ◌≤◌}
 use mathlib.Core.Bool.{and-false}
-use mathlib.Core.Logic.{⊎_elim}
 use mathlib.Core.Path.{◌≡◌, refl, sym, ◌∙◌}
 use native.Mathlib.Omega.{arith}
 use borrow.Author.Rules.{rules}
 use borrow.Author.Tests.{le-leb, lt-leb, lt-ltb, le-ltb}
-use lib.ListN.{length, drop, length-map}
-use Rattle.counting.specs.Lists.{first_in}
+use lib.ListN.{length}
 use Rattle.counting.proofs.searches.FirstInLaws.{first_in-from, first_in-past}
 use Rattle.load.specs.Load.{no_window}
-use Rattle.load.specs.View.{row_windows, open_with, open_at}
+use Rattle.load.specs.View.{open_with, open_at}
 use Rattle.plan.proofs.lookups.open_window.Goals as goal
+use Rattle.plan.proofs.lookups.open_window.Goals.{then-window-finished+else-finished-window, else-window-finished}
 use Rattle.plan.proofs.lookups.open_window.Goals.{Start}
 
 places : (c : Start) → length c.args.row.window ≡ 4
@@ -43,7 +41,10 @@ loop-k-preserved c =
     (omega (arith, places (goal.at.loop-k-preserved c).Start)) (omega arith) in (
       search rules,
       on
-          ∙ ⊎_elim (λ w. rw (le-ltb _ _ w.2.left, and-false)) (λ w. rw (lt-leb _ _ w.left)) c.if-window-finished.branch,
+          ∙ elim c.if-window-finished.branch [
+            | then-window-finished+else-finished-window w ↦ rw (le-ltb _ _ w.if-finished-window.false, and-false) cc
+            | else-window-finished w ↦ rw (lt-leb _ _ w.if-window-finished.false) cc
+          ],
     )
 
 pub returns : goal.returns

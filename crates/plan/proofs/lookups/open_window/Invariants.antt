@@ -1,17 +1,11 @@
 -- `open_window` asks one window a turn: until one is open, the first open one is to be found among those from here on.
 -- That a row has four places for windows is told by its own field, the eighth.
 use Prim.Native.Nat.{◌-◌, ◌≤◌}
-use mathlib.Core.Bool.{and-false}
-use mathlib.Core.Logic.{⊎_elim}
-use mathlib.Core.Path.{◌≡◌, refl, sym, ◌∙◌}
-use native.Mathlib.Omega.{arith}
-use borrow.Author.Rules.{rules}
-use borrow.Author.Tests.{le-leb, lt-leb, lt-ltb, le-ltb}
-use lib.ListN.{length, drop, length-map}
+use mathlib.Core.Path.{◌≡◌}
+use lib.ListN.{drop}
 use Rattle.counting.specs.Lists.{first_in}
-use Rattle.counting.proofs.searches.FirstInLaws.{first_in-from, first_in-past}
 use Rattle.load.specs.Load.{no_window}
-use Rattle.load.specs.View.{row_windows, open_with, open_at}
+use Rattle.load.specs.View.{row_windows, open_with}
 use Rattle.plan.proofs.lookups.open_window.Given as goal
 
 abbrev pub invariant-loop-k : goal.invariant-loop-k

@@ -1,6 +1,5 @@
 -- `is_tried` asks one thing after the other.
 use mathlib.Core.Path.{sym}
-use borrow.Author.Rules.{rules}
 use borrow.Author.Tests.{eq-eqb, ne_eqb, lt-ltb, le-ltb}
 use Rattle.plan.proofs.numbers.is_tried.Goals as goal
 

@@ -1,10 +1,8 @@
 -- `lowest_step` asks one row a turn: at k it has the lowest unfinished step of the first k rows.
-use Prim.Native.Nat.{ℕ, ◌-◌, ◌≤◌}
 use mathlib.Core.Bool.{◌&&◌}
 use mathlib.Core.Path.{◌≡◌, ap, sym, ◌∙◌}
 use native.Mathlib.Omega.{arith}
 use borrow.Author.Tests.{le-leb}
-use lib.Dec.{leb}
 use Rattle.counting.specs.Sums.{all_to}
 use Rattle.counting.proofs.tests.TestLaws.{all_to-zero, all_to-next}
 use Rattle.plan.specs.Boards.{numbers_from}

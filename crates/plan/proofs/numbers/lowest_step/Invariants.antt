@@ -1,15 +1,10 @@
 -- `lowest_step` asks one row a turn: at k it has the lowest unfinished step of the first k rows.
 use Prim.Native.Nat.{ℕ, ◌-◌, ◌≤◌}
-use mathlib.Core.Bool.{◌&&◌}
-use mathlib.Core.Path.{◌≡◌, ap, sym, ◌∙◌}
-use native.Mathlib.Omega.{arith}
-use borrow.Author.Tests.{le-leb}
+use mathlib.Core.Path.{◌≡◌}
 use lib.Dec.{leb}
 use Rattle.counting.specs.Sums.{all_to}
-use Rattle.counting.proofs.tests.TestLaws.{all_to-zero, all_to-next}
 use Rattle.plan.specs.Boards.{numbers_from}
 use Rattle.plan.specs.inner.Searching.{below_by}
-use borrow.Author.Rules.{rules}
 use Rattle.plan.proofs.numbers.lowest_step.Given as goal
 
 abbrev pub invariant-loop-k : goal.invariant-loop-k

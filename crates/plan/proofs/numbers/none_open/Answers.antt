@@ -1,5 +1,4 @@
 -- `none_open` asks one row a turn: at i it knows whether one of the first i rows has an open window.
-use Prim.Native.Nat.{◌-◌, ◌≤◌}
 use mathlib.Core.Bool.{not, ◌||◌}
 use mathlib.Core.Path.{◌≡◌, ap, ap₂, sym, ◌∙◌}
 use native.Mathlib.Omega.{arith}

@@ -1,12 +1,8 @@
 -- `none_open` asks one row a turn: at i it knows whether one of the first i rows has an open window.
 use Prim.Native.Nat.{◌-◌, ◌≤◌}
-use mathlib.Core.Bool.{not, ◌||◌}
-use mathlib.Core.Path.{◌≡◌, ap, ap₂, sym, ◌∙◌}
-use native.Mathlib.Omega.{arith}
-use borrow.Author.Rules.{rules}
+use mathlib.Core.Path.{◌≡◌}
 use Rattle.counting.specs.Lists.{is_marked}
 use Rattle.counting.specs.Sums.{any_to}
-use Rattle.counting.proofs.tests.TestLaws.{any_to-zero, any_to-next}
 use Rattle.plan.specs.Boards.{marks_from}
 use Rattle.plan.proofs.numbers.none_open.Given as goal
 

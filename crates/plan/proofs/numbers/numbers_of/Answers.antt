@@ -1,7 +1,6 @@
 -- `numbers_of` marks the lowest unfinished step, and then that of one open row a turn: what is marked stays so.
-use Prim.Native.Nat.{◌+◌, ◌-◌, ◌≤◌, ◌<◌}
+use Prim.Native.Nat.{◌+◌, ◌<◌}
 use mathlib.Core.Bool.{true, false}
-use mathlib.Core.Logic.{⊎_elim}
 use mathlib.Core.Path.{◌≡◌, ap, sym, ◌∙◌, subst}
 use native.Mathlib.Omega.{arith}
 use borrow.Author.Rules.{rules}
@@ -14,6 +13,7 @@ use Rattle.plan.specs.Boards.{numbers_from, marks_from}
 use Rattle.plan.specs.inner.Searching.{NumbersIn}
 use Rattle.plan.proofs.NumberLaws.{numbers-first, numbers-all, numbers-kept, numbers-marked}
 use Rattle.plan.proofs.numbers.numbers_of.Goals as goal
+use Rattle.plan.proofs.numbers.numbers_of.Goals.{then-lowest, else-lowest, then-is_marked+then-number, then-is_marked+else-number, else-is_marked}
 use Rattle.plan.proofs.numbers.numbers_of.Goals.{Joined-lowest}
 
 -- the lowest unfinished step is marked
@@ -21,14 +21,14 @@ first : (c : Joined-lowest)
     → NumbersIn (numbers_from c.args.counts.now 0) (marks_from c.args.counts.now 48)
     c.args.lowest 0 c.if-lowest.numbers
 first c =
-    ⊎_elim
-    (λ w.
-    let e : c.if-lowest.numbers ≡ set (replicate 8 false) c.args.lowest true = w.3 ∙ w.2.ensures in
-    numbers-first _ _ _ _ (ap length e ∙ length-set (replicate 8 false) c.args.lowest true)
-    (λ l. ap (λ m. is_marked m c.args.lowest) e
-    ∙ get_or-set_same (replicate 8 false) c.args.lowest true false l))
-    (λ w. numbers-first _ _ _ _ (ap length w.1) (λ l. absurd (omega (arith, w.0.left))))
-    c.if-lowest.branch
+    elim c.if-lowest.branch [
+      | then-lowest w ↦
+          let e : c.if-lowest.numbers ≡ set (replicate 8 false) c.args.lowest true = w.numbers-is ∙ w.mark_number.ensures in
+          numbers-first _ _ _ _ (ap length e ∙ length-set (replicate 8 false) c.args.lowest true)
+          (λ l. ap (λ m. is_marked m c.args.lowest) e
+          ∙ get_or-set_same (replicate 8 false) c.args.lowest true false l)
+      | else-lowest w ↦ numbers-first _ _ _ _ (ap length w.numbers-is) (λ l. absurd (omega (arith, w.if-lowest.false)))
+    ]
 
 pub returns-then-none_open : goal.returns-then-none_open
 returns-then-none_open c =
@@ -41,28 +41,27 @@ pub loop-i-preserved : goal.loop-i-preserved
 loop-i-preserved c =
     let loop = c.loop-i in
     let counts = c.args.counts.now in
-    ⊎_elim
-    (λ w. (
-      search rules,
-      rw (w.5 ∙ w.4.ensures)
-          (subst (λ n. NumbersIn (numbers_from counts 0) (marks_from counts 48) c.args.lowest (loop.i + 1)
-          (set loop.numbers n true)) (sym w.1.ensures)
-          (numbers-marked _ _ _ _ _ loop.invariant.1 (subst (λ n. n < 8) w.1.ensures w.2.taken))),
-    ))
-    (⊎_elim
-    (λ w. (
-      search rules,
-      rw w.3
-          (numbers-kept _ _ _ _ _ loop.invariant.1
-          (λ e l. omega (arith, w.2.left, w.1.ensures, l))),
-    ))
-    (λ w. (
-      search rules,
-      rw w.1
-          (numbers-kept _ _ _ _ _ loop.invariant.1
-          (λ e l. true-false _ e (sym c.is_marked.ensures ∙ w.0.left))),
-    )))
-    c.if-is_marked.branch
+    elim c.if-is_marked.branch [
+      | then-is_marked+then-number w ↦ (
+        search rules,
+        rw (w.numbers-is ∙ w.mark_number-then-number.ensures)
+            (subst (λ n. NumbersIn (numbers_from counts 0) (marks_from counts 48) c.args.lowest (loop.i + 1)
+            (set loop.numbers n true)) (sym w.count_at-number.ensures)
+            (numbers-marked _ _ _ _ _ loop.invariant.1 (subst (λ n. n < 8) w.count_at-number.ensures w.if-number.true))),
+      )
+      | then-is_marked+else-number w ↦ (
+        search rules,
+        rw w.numbers-is
+            (numbers-kept _ _ _ _ _ loop.invariant.1
+            (λ e l. omega (arith, w.if-number.false, w.count_at-number.ensures, l))),
+      )
+      | else-is_marked w ↦ (
+        search rules,
+        rw w.numbers-is
+            (numbers-kept _ _ _ _ _ loop.invariant.1
+            (λ e l. true-false _ e (sym c.is_marked.ensures ∙ w.if-is_marked.false))),
+      )
+    ]
 
 pub returns : goal.returns
 returns c =

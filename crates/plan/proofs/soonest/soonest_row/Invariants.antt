@@ -1,13 +1,7 @@
 -- `soonest_row` keeps one row, which is tried.
-use Prim.Native.Nat.{ℕ, ◌-◌, ◌<◌}
-use mathlib.Core.Bool.{true}
-use mathlib.Core.Logic.{⊎_elim}
-use mathlib.Core.Path.{◌≡◌, sym, ◌∙◌, subst}
-use native.Mathlib.Omega.{arith}
-use borrow.Author.Rules.{rules}
-use Rattle.counting.specs.Lists.{member_at, is_marked}
+use Prim.Native.Nat.{◌-◌, ◌<◌}
 use Rattle.plan.specs.Boards.{numbers_from, marks_from}
-use Rattle.plan.specs.inner.Searching.{tried_by, TriedRow}
+use Rattle.plan.specs.inner.Searching.{TriedRow}
 use Rattle.plan.proofs.soonest.soonest_row.Given as goal
 
 abbrev pub invariant-loop-i : goal.invariant-loop-i

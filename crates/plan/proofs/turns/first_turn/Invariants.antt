@@ -1,10 +1,5 @@
 -- `first_turn` keeps the highest class of the first i rows.
 use Prim.Native.Nat.{ℕ, ◌-◌, ◌≤◌, ◌<◌}
-use mathlib.Core.Logic.{⊎_elim}
-use mathlib.Core.Path.{sym, subst}
-use native.Mathlib.Decide.{ℕ_discrete}
-use native.Mathlib.Omega.{arith}
-use borrow.Author.Rules.{rules}
 use Rattle.counting.specs.Lists.{member_at}
 use Rattle.plan.proofs.turns.first_turn.Given as goal
 
