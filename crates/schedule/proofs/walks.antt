@@ -1,2 +1,5 @@
--- What the loops over lent slots share.
+-- What the walks by hand over lent slots share.
 pub mod FoldLaws
+pub mod SlotFields
+pub mod SlotCalls
+pub mod LentFront
