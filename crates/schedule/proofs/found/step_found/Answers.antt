@@ -1,6 +1,5 @@
 -- `step_found` asks the tests of a step in their order: each return is at the first test that is met.
 use mathlib.Core.Path.{sym, ◌∙◌}
-use borrow.Author.Rules.{rules}
 use borrow.Author.Tests.{lt-ltb, le-ltb, eq-eqb, ne_eqb}
 use Rattle.schedule.specs.inner.Seen.{step_tests}
 use Rattle.schedule.proofs.found.step_found.Goals as goal

@@ -1,5 +1,4 @@
 -- `check_room` asks the number of slots, and then the room.
-use borrow.Author.Rules.{rules}
 use borrow.Author.Tests.{lt-ltb, le-ltb}
 use Rattle.schedule_file.proofs.records.check_room.Goals as goal
 

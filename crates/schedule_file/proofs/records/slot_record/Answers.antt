@@ -1,5 +1,4 @@
 -- `slot_record` gives the mark, the row, the step, and behind them the four bytes of the start.
-use borrow.Author.Rules.{rules}
 use Rattle.words.specs.LittleEndian.{little_endian}
 use Rattle.schedule_file.proofs.records.slot_record.Goals as goal
 

@@ -2,9 +2,8 @@
 use Prim.Native.Nat.{◌≤◌}
 use mathlib.Core.Path.{◌≡◌, sym, ◌∙◌}
 use native.Mathlib.Omega.{arith}
-use lib.ListN.{length, length-map, take}
+use lib.ListN.{length, take}
 use lib.Seq.{length-take-le}
-use borrow.Author.Rules.{rules}
 use Rattle.refusals.specs.declared.Checked.TheVariants.{Good}
 use Rattle.rules.specs.Slots.{most_slots}
 use Rattle.schedule_file.specs.ScheduleFile.{slot_place, room_fault}

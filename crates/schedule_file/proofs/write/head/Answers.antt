@@ -1,5 +1,4 @@
 -- `head` writes the head over the front of bytes that are all zero.
-use borrow.Author.Rules.{rules}
 use Rattle.schedule_file.specs.inner.Gathered.{headed}
 use Rattle.schedule_file.proofs.write.head.Goals as goal
 

@@ -1,5 +1,4 @@
 -- `with_slot` writes the record of a slot behind what was gathered.
-use borrow.Author.Rules.{rules}
 use borrow.Author.Tests.{lt-ltb, le-ltb}
 use Rattle.schedule_file.specs.inner.Gathered.{with_slot}
 use Rattle.schedule_file.proofs.write.with_slot.Goals as goal
