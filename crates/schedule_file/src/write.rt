@@ -1,6 +1,6 @@
 // The writing of a schedule file from slots that are lent as a slice of slot records, their numbers
-// unchecked. A function over it is proved by a walk by hand, so each of the two does little: one
-// takes a slot apart, one is the loop. The file is gathered by value, and written where it fits.
+// unchecked. Each of the two does little: one takes a slot apart, one is the loop. The file is
+// gathered by value, and written where it fits.
 ghost use Rattle.std.specs.Prelude.{◌≡◌, ◌<◌, length, get_or, take};
 ghost use Rattle.refusals.specs.Given.{Given};
 ghost use Rattle.rules.specs.Slots.{no_slot};

@@ -7,7 +7,7 @@ use native.Mathlib.Omega.{arith}
 use lib.ListN.{length, take}
 use lib.Seq.{length-take-le}
 use seplogic.Ra.Ura.{Ura}
-use seplogic.Ra.TreeShare.{full_share}
+use base.Fraction.{full_share}
 use mir.Syntax.{w64, ty_array}
 use mir.Val.{Val, vint}
 use base.Logic.{SProp, ent, sep, emp, snd∗, ex_e}
@@ -101,7 +101,7 @@ module _ {M : Type 1} {𝓤 : Ura M} (𝓛 : Logic 𝓤) where
       (𝓛.laws.at_raw full_share (ty_array T'.mir 256) b 0 (only (list_vals xs))) $
       owned ! Slots (Is Slots) (Array-Makes 𝓛 T.the_row (LL.makes T.the_type T'.the_plain 𝓛) 256) xs
       (list_vals xs) is $ move ! (1 ∷ 0 ∷ []) $ fjoin ! $
-      fpack ! (List Val) (λ vs. fsep (cell_at full_share Slots.mir vs b 0) (Slots.own xs vs)) (list_vals xs) $
+      fpack ! (List Val) (λ vs. fsep (cell_at full_share Slots.mir vs b 0) (Slots.own_val xs vs)) (list_vals xs) $
       by ! (Array-apart 𝓛 T.the_row full_share tt 256 xs b 0)
 
   pub cell_in : (xs : List Slot) (b : ℕ)

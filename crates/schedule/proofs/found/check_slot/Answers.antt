@@ -1,6 +1,5 @@
 -- `check_slot` goes on where nothing was refused, and else stays.
 use mathlib.Core.Path.{ap, sym, ◌∙◌}
-use borrow.Author.Rules.{rules}
 use Rattle.refusals.specs.Given.{if_good}
 use Rattle.schedule.specs.inner.SeenFold.{next_slot, step_slot}
 use Rattle.schedule.proofs.found.check_slot.Goals as goal

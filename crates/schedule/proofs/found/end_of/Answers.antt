@@ -1,5 +1,4 @@
 -- `end_of` adds the cost of the step that `step_at` gives.
-use borrow.Author.Rules.{rules}
 use Rattle.schedule.proofs.found.end_of.Goals as goal
 
 pub returns : goal.returns

@@ -1,5 +1,4 @@
 -- `late_window` asks the window that `window_at` gives: its last step, then its limit from the start of its first.
-use borrow.Author.Rules.{rules}
 use borrow.Author.Tests.{eq-eqb, ne_eqb}
 use Rattle.schedule.proofs.found.late_window.Goals as goal
 

@@ -1,6 +1,5 @@
 -- `next_slot` keeps a slot that is right, and else what was found.
 use mathlib.Core.Path.{sym, ◌∙◌}
-use borrow.Author.Rules.{rules}
 use Rattle.schedule.proofs.fold.SeenLaws.{found_at-row}
 use Rattle.schedule.proofs.found.next_slot.Goals as goal
 

@@ -1,5 +1,4 @@
 -- `release_of` gives the phase of a first step, and the end and the wait of the step before a later one.
-use borrow.Author.Rules.{rules}
 use borrow.Author.Tests.{le-leb, lt-leb}
 use Rattle.schedule.proofs.found.release_of.Goals as goal
 

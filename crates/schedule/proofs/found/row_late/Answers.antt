@@ -1,5 +1,4 @@
 -- `row_late` asks a row's last step alone.
-use borrow.Author.Rules.{rules}
 use borrow.Author.Tests.{eq-eqb, ne_eqb}
 use Rattle.schedule.proofs.found.row_late.Goals as goal
 

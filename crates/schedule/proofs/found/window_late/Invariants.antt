@@ -1,11 +1,8 @@
 -- `window_late` asks one window a turn: none of the first k is late, and the first that is ends the search.
 use Prim.Native.Nat.{◌-◌, ◌≤◌}
 use mathlib.Core.Bool.{false}
-use mathlib.Core.Path.{◌≡◌, sym, ◌∙◌, ap}
-use native.Mathlib.Omega.{arith}
-use borrow.Author.Rules.{rules}
+use mathlib.Core.Path.{◌≡◌}
 use Rattle.counting.specs.Sums.{any_to}
-use Rattle.counting.proofs.tests.TestLaws.{or-neither, any_to-zero, any_to-next, true-any_to}
 use Rattle.schedule.specs.inner.Seen.{late_window}
 use Rattle.schedule.proofs.found.window_late.Given as goal
 

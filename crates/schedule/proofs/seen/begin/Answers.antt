@@ -1,5 +1,4 @@
 -- `begin` has seen no slot, and has found what `found_first` finds.
-use borrow.Author.Rules.{rules}
 use Rattle.schedule.specs.inner.Seen.{begun}
 use Rattle.schedule.proofs.seen.begin.Goals as goal
 

@@ -1,5 +1,4 @@
 -- `count_found` compares with the number of steps in all.
-use borrow.Author.Rules.{rules}
 use borrow.Author.Tests.{eq-eqb, ne_eqb}
 use Rattle.schedule.proofs.seen.count_found.Goals as goal
 

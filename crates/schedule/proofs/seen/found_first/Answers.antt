@@ -1,6 +1,5 @@
 -- `found_first` asks the load, and then the count.
 use mathlib.Core.Path.{sym, ◌∙◌}
-use borrow.Author.Rules.{rules}
 use Rattle.schedule.specs.inner.Seen.{begun}
 use Rattle.schedule.proofs.seen.found_first.Goals as goal
 
