@@ -9,7 +9,7 @@ use Rattle.load.specs.Check.{row_fault, check_load}
 use Rattle.load.proofs.check.check_load.Goals as goal
 use Rattle.load.proofs.check.check_load.Goals.{In-Good}
 
--- the load, from behind the returns-in-Refused that were found returns
+-- the load, from behind the rows that were found good
 abbrev load_of : In-Good → Load
 load_of c = c.args.load
 

@@ -8,7 +8,7 @@ use Rattle.load.specs.Check.{check_step, check_window, check_parts, zero_steps_f
 use Rattle.load.proofs.check.check_parts.Goals as goal
 use Rattle.load.proofs.check.check_parts.Goals.{In-Good, Else-not-zero_steps_from, In-Good-windows}
 
--- the row, from behind each part that was found returns
+-- the row, from behind each part that was found good
 abbrev row1 : In-Good → Row
 row1 c = c.args.row
 

@@ -28,7 +28,7 @@ call5 c = call4 c.before.before.before
 abbrev call6 : Else-window-before → Start
 call6 c = call5 c.before.before
 
--- the returns-then-window-eq0 n tests of the window in hand are not met
+-- the first n tests of the window in hand are not met
 abbrev Passed : Start → ℕ → Type 0
 Passed c n =
     let tests = window_numbers c.args.row c.args.window c.args.«before» in

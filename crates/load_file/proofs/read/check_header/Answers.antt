@@ -26,7 +26,7 @@ returns-in-Refused c =
     let bs = c.args.bytes.now in
     behind-refused (due_tests header_kind bs 0) (own bs) c.check_due.ensures c.in-Refused.is
 
--- behind a record that is there and has its returns-then-not-is_version, the header's own tests are left
+-- behind a record that is there and has its mark, the header's own tests are left
 passed : (c : In-Good)
     → let bs = c.args.bytes.now in first_met (own bs) ≡ first_met (header_tests bs)
 unfolding header_tests

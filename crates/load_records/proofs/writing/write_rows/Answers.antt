@@ -21,7 +21,7 @@ loop-i-init c =
     let e = rows_bytes-length-zero c.args.version c.args.load in
     (search rules, rows-le _ c.requires, omega arith, refl, sets-joined-zero _ _ _)
 
--- the records of c.before.before.before row are there, and they are the row's
+-- the records of a row are there, and they are the row's
 module _ (c : After-records_in-records) where
   there : c.records_in-records.result.length ≤ length c.records_in-records.result.bytes
   there = records-inside _ _ _ c.records_in-records.ensures

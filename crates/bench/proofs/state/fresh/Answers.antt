@@ -3,12 +3,8 @@ use borrow.Author.Rules.{rules}
 use Rattle.counting.specs.Lists.{join_to}
 use Rattle.rules.specs.State.{fresh}
 use Rattle.bench.specs.Held.{bench_of}
-use Rattle.bench.proofs.state.fresh.Statement.{statement}
-use Rattle.bench.proofs.state.fresh.Tie as tie
+use Rattle.bench.proofs.state.fresh.Goals as goal
 
-returns : tie.Need-returns
+pub returns : goal.returns
 unfolding bench_of fresh join_to
 returns c = search rules
-
-pub fresh-spec : {M : Type 1} → statement M
-fresh-spec = tie.close (tie.spec returns)

@@ -5,8 +5,7 @@ use mathlib.Core.List.{List}
 use borrow.Author.Rules.{rules}
 use Rattle.plan.specs.declared.Look.{Look}
 use Rattle.plan.specs.Calls.{PutLook}
-use Rattle.bench.proofs.boards.fresh_row.Statement.{statement}
-use Rattle.bench.proofs.boards.fresh_row.Tie as tie
+use Rattle.bench.proofs.boards.fresh_row.Goals as goal
 
 -- the parts of a board, a row and the parts with its look
 module _ (counts lengths moments : List ℕ) (i : ℕ) (counts' lengths' moments' : List ℕ) where
@@ -14,11 +13,7 @@ module _ (counts lengths moments : List ℕ) (i : ℕ) (counts' lengths' moments
       → PutLook counts lengths moments i it counts' lengths' moments'
   put-alike look it put same = subst (λ it. PutLook counts lengths moments i it counts' lengths' moments') same put
 
-returns : tie.Need-returns
+pub returns : goal.returns
 returns c =
-    let looked = c.before.before.before.before in
-    put-alike _ _ _ looked.before.args.i _ _ _ looked.look-of.result _ c.put-look.ensures
-    looked.look-of.ensures
-
-pub fresh-row-spec : {M : Type 1} → statement M
-fresh-row-spec = tie.close (tie.spec (λ c κs. search rules) (λ c κs. search rules) returns)
+    put-alike _ _ _ c.args.i _ _ _ c.look_of-look.result _ c.put_look.ensures
+    c.look_of-look.ensures

@@ -1,0 +1,57 @@
+-- `write_run` looks the rows up as they were read, asks for the room, and then makes one start a turn: after k turns
+-- the records of the first k slots of the schedule stand behind the head, and what stood past them is still there.
+use mathlib.Core.Path.{ap, sym, ◌∙◌}
+use native.Mathlib.Omega.{arith}
+use borrow.Author.Rules.{rules}
+use lib.Seq.{sets}
+use Rattle.load.specs.View.{view_of}
+use Rattle.rules.specs.Run.{schedule}
+use Rattle.schedule_file.specs.ScheduleFile.{slot_record}
+use Rattle.schedule_file.proofs.ArrayLaws.{records-next}
+use Rattle.bench.proofs.running.FileRuns.{written-run}
+use Prim.Native.Nat.{ℕ, ◌-◌, ◌≤◌, ◌<◌}
+use mathlib.Core.Path.{◌≡◌, refl, sym, ◌∙◌}
+use lib.ListN.{length, length-set}
+use Rattle.refusals.specs.declared.Checked.TheVariants.{Good}
+use Rattle.load.specs.declared.Load.{Load}
+use Rattle.load.specs.Load.{most_rows, row_at}
+use Rattle.load.specs.Check.{check_load}
+use Rattle.load_file.proofs.CallLaws.{ReadLoad-accepted}
+use Rattle.rules.specs.State.{fresh}
+use Rattle.plan.specs.Looks.{look_by}
+use Rattle.plan.specs.Boards.{Board, board_in}
+use Rattle.schedule_file.specs.ScheduleFile.{header_size}
+use Rattle.schedule_file.proofs.ArrayLaws.{records_of, records_of-zero}
+use Rattle.bench.specs.Held.{bench_of}
+use Rattle.bench.specs.inner.Boards.{Placed, Shows, ClassesOf}
+use Rattle.bench.proofs.shown.CheckedLaws.{checked-rows, checked-steps}
+use Rattle.bench.proofs.shown.ShownRows.{Shown, shown-next, shows-all, fresh-looked, fresh-steps, fresh-opening}
+use Rattle.bench.proofs.shown.ShownRows.{classes-next}
+use Rattle.bench.proofs.shown.PutLaws.{board_in-wide, put-renewed, put-placed}
+use Rattle.bench.proofs.running.RunningLaws.{Running, steps-counted, running-fresh}
+use Rattle.bench.proofs.running.StartedRun.{NextUp, next_up}
+use Rattle.bench.proofs.running.FileRuns.{unread-run, short-run}
+use Rattle.bench.proofs.files.write_run.Given as goal
+
+abbrev pub invariant-loop-i : goal.invariant-loop-i
+invariant-loop-i l =
+    (l.i ≤ l.rows)
+    × Placed l.counts l.lengths l.moments
+    × ((k : ℕ) → k < l.i → Shown l.load (bench_of fresh) (board_in l.counts l.lengths l.moments) k)
+    × (length l.classes ≡ most_rows)
+    × ClassesOf l.load l.i l.classes
+
+abbrev pub decreases-loop-i : goal.decreases-loop-i
+decreases-loop-i l = l.rows - l.i
+
+abbrev pub invariant-loop-k : goal.invariant-loop-k
+invariant-loop-k l =
+    (l.k ≤ l.steps)
+    × (length l.out ≡ length l.initial.out)
+    × (l.out ≡ sets l.initial.out header_size (records_of (schedule (view_of l.load)) l.k))
+    × Placed l.counts l.lengths l.moments
+    × Running l.load (board_in l.counts l.lengths l.moments) l.clock l.k
+
+abbrev pub decreases-loop-k : goal.decreases-loop-k
+decreases-loop-k l =
+    l.steps - l.k
