@@ -1,6 +1,5 @@
 -- `chosen_row` searches once, at the clock.
 use native.Mathlib.Omega.{arith}
-use borrow.Author.Rules.{rules}
 use Rattle.plan.proofs.NextLaws.{chosen-most, chosen-past}
 use Rattle.plan.proofs.SweepLaws.{refused_none}
 use Rattle.plan.proofs.choices.chosen_row.Goals as goal

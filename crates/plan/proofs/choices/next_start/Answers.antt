@@ -1,6 +1,5 @@
 -- `next_start` searches at the clock, and where nothing starts there, sweeps the rows for the soonest moment.
 use native.Mathlib.Omega.{arith}
-use borrow.Author.Rules.{rules}
 use Rattle.plan.proofs.NextLaws.{next_past, next-now, next-swept}
 use Rattle.plan.proofs.SweepLaws.{refused_none}
 use Rattle.plan.proofs.choices.next_start.Goals as goal

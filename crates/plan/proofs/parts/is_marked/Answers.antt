@@ -1,6 +1,5 @@
 -- `is_marked` reads the place of the array that is the part's place i.
 use mathlib.Core.Path.{sym}
-use borrow.Author.Rules.{rules}
 use Rattle.plan.proofs.BoardLaws.{marks_from-at}
 use Rattle.plan.proofs.parts.is_marked.Goals as goal
 

@@ -1,6 +1,5 @@
 -- `length_at` reads the place of the array that is the part's place i.
 use mathlib.Core.Path.{sym}
-use borrow.Author.Rules.{rules}
 use Rattle.plan.proofs.BoardLaws.{numbers_from-at}
 use Rattle.plan.proofs.parts.length_at.Goals as goal
 

@@ -1,12 +1,6 @@
 -- `first_passing` goes from one moment at which the step may pass to the next: before each it does not.
-use Prim.Native.Nat.{ℕ, ◌+◌, ◌-◌, ◌≤◌, ◌<◌}
-use mathlib.Core.Bool.{false}
-use mathlib.Core.Path.{◌≡◌}
 use native.Mathlib.Decide.{dec_lt}
 use native.Mathlib.Omega.{arith}
-use Rattle.load.specs.Load.{last_moment}
-use Rattle.plan.specs.Boards.{board_in, look_in}
-use Rattle.plan.specs.Choices.{passes_in}
 use Rattle.plan.proofs.soonest.first_passing.Goals as goal
 
 pub tried_until-until-requires : goal.tried_until-until-requires

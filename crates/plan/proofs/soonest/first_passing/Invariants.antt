@@ -2,8 +2,6 @@
 use Prim.Native.Nat.{ℕ, ◌+◌, ◌-◌, ◌≤◌, ◌<◌}
 use mathlib.Core.Bool.{false}
 use mathlib.Core.Path.{◌≡◌}
-use native.Mathlib.Decide.{dec_lt}
-use native.Mathlib.Omega.{arith}
 use Rattle.load.specs.Load.{last_moment}
 use Rattle.plan.specs.Boards.{board_in, look_in}
 use Rattle.plan.specs.Choices.{passes_in}

@@ -1,6 +1,5 @@
 -- `start_bound` asks one row that is tried for its first moment: at that moment it is a candidate and passes.
 use native.Mathlib.Omega.{arith}
-use borrow.Author.Rules.{rules}
 use Rattle.plan.specs.Boards.{board_in}
 use Rattle.plan.proofs.SweptLaws.{starts_first}
 use Rattle.plan.proofs.soonest.start_bound.Goals as goal
