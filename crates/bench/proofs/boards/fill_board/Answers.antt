@@ -21,9 +21,9 @@ pub loop-i-init : goal.loop-i-init
 loop-i-init c = (
   search rules,
   checked-rows _ c.requires.load_value,
-  c.requires.bench_value.1.0,
+  c.requires.placed,
   λ k l. absurd (omega arith),
-  c.requires.bench_value.1.1,
+  c.requires.classes_len,
   λ k l. absurd (omega arith),
 )
 
@@ -44,8 +44,8 @@ loop-i-preserved c =
     let l = c.loop-i-test.true in
     let place : i < 24 = omega (arith, l, inv.1) in
     let steps = checked-steps load c.requires.load_value i l in
-    let shape = shaped_row (view_of load) (state_of bench) c.requires.bench_value.0 i (rows_are load i l) in
-    let clock = shaped-clock (view_of load) (state_of bench) c.requires.bench_value.0 in
+    let shape = shaped_row (view_of load) (state_of bench) c.requires.bench_value i (rows_are load i l) in
+    let clock = shaped-clock (view_of load) (state_of bench) c.requires.bench_value in
     let put = c.put_look.ensures in (
       omega (arith, l),
       inv.1,
@@ -62,4 +62,8 @@ loop-i-preserved c =
 pub returns : goal.returns
 returns c =
     let inv = c.loop-i.invariant in
-    (shows-all _ _ _ (board_in-wide _ _ _) (λ k l. inv.3 k (omega arith)), (inv.2, λ k l. inv.5 k (omega arith)))
+    record {
+      shows = shows-all _ _ _ (board_in-wide _ _ _) (λ k l. inv.3 k (omega arith));
+      placed_2 = inv.2;
+      classes_of = λ k l. inv.5 k (omega arith);
+    }

@@ -32,9 +32,8 @@ module _ (c : After-look_at-look) where
 
 pub returns : goal.returns
 returns c =
-    let first = start (goal.at.returns c).After-look_at-look in
-    let args = first.args in
-    let can = first.requires.0 in
+    let args = c.args in
+    let can = c.requires.can_start in
     let look = c.look_of-next.ensures
     ∙ started-look args.row (board (goal.at.returns c).After-look_at-look) args.moment args.i _ _ _ can
     (ap (λ n. n + 1) (finished-is (goal.at.returns c).After-look_at-look)) (c.end_of-end.ensures ∙ ap (λ n. args.moment + n) (cost-is (goal.at.returns c).After-look_at-look))
@@ -43,9 +42,9 @@ returns c =
       row_started = record {
         slot_is = c.slot_of-slot.ensures ∙ ap (λ n. slot_of args.i n args.moment) (finished-is (goal.at.returns c).After-look_at-look);
         end_is = c.end_of-end.ensures ∙ ap (λ n. args.moment + n) (cost-is (goal.at.returns c).After-look_at-look);
-        renewed = put-renewed _ _ _ args.i c.look_of-next.result _ _ _ put can.place first.requires.1 _ look;
+        renewed = put-renewed _ _ _ args.i c.look_of-next.result _ _ _ put can.place c.requires.placed _ look;
       };
-      placed_2 = put-placed _ _ _ args.i c.look_of-next.result _ _ _ put can.place first.requires.1;
+      placed_2 = put-placed _ _ _ args.i c.look_of-next.result _ _ _ put can.place c.requires.placed;
     }
 
 pub slot_of-slot-requires : goal.slot_of-slot-requires

@@ -9,7 +9,7 @@ use Rattle.counting.proofs.sums.SumLaws.{sum_to-zero, sum_to-next}
 use Rattle.plan.specs.Boards.{numbers_from}
 use Rattle.plan.proofs.BoardLaws.{numbers_from-at}
 use Rattle.bench.proofs.boards.steps_of.Goals as goal
-use Rattle.bench.proofs.boards.steps_of.Goals.{In-loop-i, After-way_told-1}
+use Rattle.bench.proofs.boards.steps_of.Goals.{In-loop-i, In-loop-i}
 
 -- what a turn adds
 module _ (c : In-loop-i) where
@@ -28,8 +28,8 @@ pub loop-i-preserved : goal.loop-i-preserved
 loop-i-preserved c =
     let inv = c.loop-i.invariant in (
       search rules,
-      ap₂ ◌+◌ inv.1 (sym (here-is (goal.at.loop-i-preserved c).After-way_told-1)) ∙ sym (sum_to-next _ _),
-      omega (arith, here-most (goal.at.loop-i-preserved c).After-way_told-1, inv.2),
+      ap₂ ◌+◌ inv.1 (sym (here-is (goal.at.loop-i-preserved c).In-loop-i)) ∙ sym (sum_to-next _ _),
+      omega (arith, here-most (goal.at.loop-i-preserved c).In-loop-i, inv.2),
     )
 
 pub returns : goal.returns
@@ -41,7 +41,7 @@ pub loop-i-init : goal.loop-i-init
 loop-i-init c = (search rules, sym (sum_to-zero _), search rules)
 
 pub overflow_cast-sum : goal.overflow_cast-sum
-overflow_cast-sum c = omega (arith, here-most (goal.at.overflow_cast-sum c).After-way_told-1)
+overflow_cast-sum c = omega (arith, here-most (goal.at.overflow_cast-sum c).In-loop-i)
 
 pub overflow_add-sum-in-loop-i : goal.overflow_add-sum-in-loop-i
-overflow_add-sum-in-loop-i c = omega (arith, here-most (goal.at.overflow_add-sum-in-loop-i c).After-way_told-1, c.requires.0)
+overflow_add-sum-in-loop-i c = omega (arith, here-most (goal.at.overflow_add-sum-in-loop-i c).In-loop-i, c.requires.0)

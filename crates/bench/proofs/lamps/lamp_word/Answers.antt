@@ -15,6 +15,7 @@ use Rattle.words.proofs.LampLaws.{word_of-lt}
 use Rattle.plan.specs.Boards.{marks_from}
 use Rattle.plan.proofs.BoardLaws.{marks_from-at}
 use Rattle.bench.proofs.lamps.lamp_word.Goals as goal
+use Rattle.bench.proofs.lamps.lamp_word.Goals.{then-counts-i-gt0, else-counts-i-gt0}
 
 pub loop-i-init : goal.loop-i-init
 loop-i-init c = (search rules, refl, sym (sum_to-zero _))
@@ -39,10 +40,10 @@ loop-i-preserved c =
       search rules,
       rw (add-one, pow-suc) (omega arith),
       rw (sum_to-next, mark)
-          (⊎_elim
-          (λ w. rw (lt-ltb _ _ w.0.taken) (omega (arith, w.1)))
-          (λ w. rw (le-ltb _ _ w.0.left) (omega (arith, w.1)))
-          c.if-counts-i-gt0.branch),
+          (elim c.if-counts-i-gt0.branch [
+            then-counts-i-gt0 w ↦ rw (lt-ltb _ _ w.if-counts-i-gt0.true) (omega (arith, w.word-is))
+            | else-counts-i-gt0 w ↦ rw (le-ltb _ _ w.if-counts-i-gt0.false) (omega (arith, w.word-is))
+          ]),
     )
 
 pub returns : goal.returns
