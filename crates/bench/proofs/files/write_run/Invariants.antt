@@ -1,36 +1,20 @@
 -- `write_run` looks the rows up as they were read, asks for the room, and then makes one start a turn: after k turns
 -- the records of the first k slots of the schedule stand behind the head, and what stood past them is still there.
-use mathlib.Core.Path.{ap, sym, ◌∙◌}
-use native.Mathlib.Omega.{arith}
-use borrow.Author.Rules.{rules}
-use lib.Seq.{sets}
-use Rattle.load.specs.View.{view_of}
-use Rattle.rules.specs.Run.{schedule}
-use Rattle.schedule_file.specs.ScheduleFile.{slot_record}
-use Rattle.schedule_file.proofs.ArrayLaws.{records-next}
-use Rattle.bench.proofs.running.FileRuns.{written-run}
 use Prim.Native.Nat.{ℕ, ◌-◌, ◌≤◌, ◌<◌}
-use mathlib.Core.Path.{◌≡◌, refl, sym, ◌∙◌}
-use lib.ListN.{length, length-set}
-use Rattle.refusals.specs.declared.Checked.TheVariants.{Good}
-use Rattle.load.specs.declared.Load.{Load}
-use Rattle.load.specs.Load.{most_rows, row_at}
-use Rattle.load.specs.Check.{check_load}
-use Rattle.load_file.proofs.CallLaws.{ReadLoad-accepted}
+use mathlib.Core.Path.{◌≡◌}
+use lib.Seq.{sets}
+use lib.ListN.{length}
+use Rattle.load.specs.View.{view_of}
+use Rattle.load.specs.Load.{most_rows}
+use Rattle.rules.specs.Run.{schedule}
 use Rattle.rules.specs.State.{fresh}
-use Rattle.plan.specs.Looks.{look_by}
-use Rattle.plan.specs.Boards.{Board, board_in}
+use Rattle.plan.specs.Boards.{board_in}
 use Rattle.schedule_file.specs.ScheduleFile.{header_size}
-use Rattle.schedule_file.proofs.ArrayLaws.{records_of, records_of-zero}
+use Rattle.schedule_file.proofs.ArrayLaws.{records_of}
 use Rattle.bench.specs.Held.{bench_of}
-use Rattle.bench.specs.inner.Boards.{Placed, Shows, ClassesOf}
-use Rattle.bench.proofs.shown.CheckedLaws.{checked-rows, checked-steps}
-use Rattle.bench.proofs.shown.ShownRows.{Shown, shown-next, shows-all, fresh-looked, fresh-steps, fresh-opening}
-use Rattle.bench.proofs.shown.ShownRows.{classes-next}
-use Rattle.bench.proofs.shown.PutLaws.{board_in-wide, put-renewed, put-placed}
-use Rattle.bench.proofs.running.RunningLaws.{Running, steps-counted, running-fresh}
-use Rattle.bench.proofs.running.StartedRun.{NextUp, next_up}
-use Rattle.bench.proofs.running.FileRuns.{unread-run, short-run}
+use Rattle.bench.specs.inner.Boards.{Placed, ClassesOf}
+use Rattle.bench.proofs.shown.ShownRows.{Shown}
+use Rattle.bench.proofs.running.RunningLaws.{Running}
 use Rattle.bench.proofs.files.write_run.Given as goal
 
 abbrev pub invariant-loop-i : goal.invariant-loop-i

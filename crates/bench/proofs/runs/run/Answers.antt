@@ -2,7 +2,6 @@
 use mathlib.Core.Path.{ap₂, sym, ◌∙◌}
 use Rattle.bench.specs.Runs.{ran_with}
 use Rattle.bench.proofs.running.RunsLaws.{schedule_or-good, schedule_or-refused}
-use borrow.Author.Rules.{rules}
 use Rattle.bench.proofs.runs.run.Goals as goal
 
 pub run_checked-requires : goal.run_checked-requires

@@ -1,21 +1,15 @@
 -- `run_checked` makes one start a turn. What holds at every turn is `Running`: the slots so far are the first of the
 -- schedule, and with fewer than the schedule has, work is left and there is a next start.
-use Prim.Native.Nat.{◌-◌, ◌≤◌, ◌<◌}
-use mathlib.Core.Path.{◌≡◌, refl, sym, ◌∙◌}
-use native.Mathlib.Omega.{arith}
-use borrow.Author.Rules.{rules}
+use Prim.Native.Nat.{◌-◌, ◌≤◌}
+use mathlib.Core.Path.{◌≡◌}
 use lib.ListN.{length}
 use Rattle.counting.specs.Lists.{filled}
-use Rattle.counting.proofs.lists.ListLaws.{filled_none, filled-stored}
-use Rattle.load.specs.declared.Load.{Load}
 use Rattle.load.specs.View.{view_of}
 use Rattle.rules.specs.Slots.{no_slot, slot_places, slot_at}
 use Rattle.rules.specs.Run.{schedule}
-use Rattle.plan.specs.Boards.{Board, board_in}
+use Rattle.plan.specs.Boards.{board_in}
 use Rattle.bench.specs.inner.Boards.{Placed}
-use Rattle.bench.proofs.shown.CheckedLaws.{checked-rows}
-use Rattle.bench.proofs.running.RunningLaws.{Running, fresh-shaped, steps-counted, running-fresh, running-done}
-use Rattle.bench.proofs.running.StartedRun.{NextUp, next_up}
+use Rattle.bench.proofs.running.RunningLaws.{Running}
 use Rattle.bench.proofs.runs.run_checked.Given as goal
 
 abbrev pub invariant-loop-k : goal.invariant-loop-k
