@@ -1,5 +1,4 @@
 -- `Bench::start` puts the end of the step, one more step finished and the opening in the row's places.
-use borrow.Author.Rules.{rules}
 use Rattle.bench.proofs.Bench.start.Goals as goal
 
 pub returns : goal.returns

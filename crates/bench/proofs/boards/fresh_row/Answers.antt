@@ -2,7 +2,6 @@
 use Prim.Native.Nat.{ℕ}
 use mathlib.Core.Path.{◌≡◌, subst}
 use mathlib.Core.List.{List}
-use borrow.Author.Rules.{rules}
 use Rattle.plan.specs.declared.Look.{Look}
 use Rattle.plan.specs.Calls.{PutLook}
 use Rattle.bench.proofs.boards.fresh_row.Goals as goal

@@ -2,7 +2,6 @@
 use Prim.Native.Nat.{◌+◌}
 use mathlib.Core.Path.{◌≡◌, ap, ◌∙◌}
 use native.Mathlib.Omega.{arith}
-use borrow.Author.Rules.{rules}
 use Rattle.plan.specs.declared.Look.{Look}
 use Rattle.plan.specs.Boards.{Board, board_in, look_in}
 use Rattle.plan.specs.Choices.{opening_by, opening_in}

@@ -1,13 +1,9 @@
 -- `steps_of` adds one row's steps a turn: at i it has those of the first i rows.
-use Prim.Native.Nat.{ℕ, ◌+◌, ◌-◌, ◌*◌, ◌≤◌}
-use mathlib.Core.Path.{◌≡◌, ap, ap₂, sym, ◌∙◌}
-use native.Mathlib.Omega.{arith}
-use borrow.Author.Rules.{rules}
+use Prim.Native.Nat.{◌-◌, ◌*◌, ◌≤◌}
+use mathlib.Core.Path.{◌≡◌}
 use Rattle.counting.specs.Sums.{sum_to}
 use Rattle.counting.specs.Lists.{member_at}
-use Rattle.counting.proofs.sums.SumLaws.{sum_to-zero, sum_to-next}
 use Rattle.plan.specs.Boards.{numbers_from}
-use Rattle.plan.proofs.BoardLaws.{numbers_from-at}
 use Rattle.bench.proofs.boards.steps_of.Given as goal
 
 abbrev pub invariant-loop-i : goal.invariant-loop-i

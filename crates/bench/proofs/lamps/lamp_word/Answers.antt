@@ -1,6 +1,5 @@
 -- `lamp_word` lights one row a turn: at i it has the word of the first i rows, and 2 ^ i for the next row's bit.
-use Prim.Native.Nat.{◌-◌, ◌^◌, ◌≤◌}
-use mathlib.Core.Logic.{⊎_elim}
+use Prim.Native.Nat.{◌^◌, ◌≤◌}
 use mathlib.Core.Path.{◌≡◌, refl, sym}
 use native.Mathlib.Nat.{pow-suc}
 use native.Mathlib.Numerals.{add-one}
@@ -10,7 +9,6 @@ use borrow.Author.Tests.{lt-ltb, le-ltb}
 use lib.Pow.{pow_mono}
 use Rattle.counting.specs.Lists.{is_marked}
 use Rattle.counting.proofs.sums.SumLaws.{sum_to-zero, sum_to-next}
-use Rattle.words.specs.LampWord.{word_of}
 use Rattle.words.proofs.LampLaws.{word_of-lt}
 use Rattle.plan.specs.Boards.{marks_from}
 use Rattle.plan.proofs.BoardLaws.{marks_from-at}
@@ -41,7 +39,7 @@ loop-i-preserved c =
       rw (add-one, pow-suc) (omega arith),
       rw (sum_to-next, mark)
           (elim c.if-counts-i-gt0.branch [
-            then-counts-i-gt0 w ↦ rw (lt-ltb _ _ w.if-counts-i-gt0.true) (omega (arith, w.word-is))
+            | then-counts-i-gt0 w ↦ rw (lt-ltb _ _ w.if-counts-i-gt0.true) (omega (arith, w.word-is))
             | else-counts-i-gt0 w ↦ rw (le-ltb _ _ w.if-counts-i-gt0.false) (omega (arith, w.word-is))
           ]),
     )

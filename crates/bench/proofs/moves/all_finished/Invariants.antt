@@ -1,14 +1,9 @@
 -- `all_finished` asks one row a turn: the first i rows are finished, and the first that is not ends the search.
 use Prim.Native.Nat.{◌-◌, ◌≤◌}
 use mathlib.Core.Bool.{true}
-use mathlib.Core.Path.{◌≡◌, ap, sym, ◌∙◌}
-use native.Mathlib.Omega.{arith}
-use borrow.Author.Tests.{le-leb, lt-leb}
-use Rattle.counting.proofs.tests.TestLaws.{all_to-zero, all_to-next, false-all_to}
+use mathlib.Core.Path.{◌≡◌}
 use Rattle.bench.specs.inner.Moves.{finished_by}
-use borrow.Author.Rules.{rules}
 use Rattle.plan.specs.Boards.{numbers_from}
-use Rattle.plan.proofs.BoardLaws.{numbers_from-at}
 use Rattle.bench.proofs.moves.all_finished.Given as goal
 
 abbrev pub invariant-loop-i : goal.invariant-loop-i

@@ -5,7 +5,6 @@ use Rattle.counting.specs.Lists.{is_marked}
 use Rattle.words.proofs.LampLaws.{word_of-ones}
 use Rattle.plan.specs.Boards.{marks_from}
 use Rattle.bench.proofs.choice.NextLaws.{moved_by-ext}
-use borrow.Author.Rules.{rules}
 use Rattle.bench.proofs.moves.handed.Goals as goal
 
 pub returns : goal.returns

@@ -1,9 +1,7 @@
 -- `move_checked` asks for the load's shape first.
 use mathlib.Core.Path.{sym, ◌∙◌}
-use borrow.Author.Tests.{not-true, not-false}
 use Rattle.load.specs.View.{view_of}
 use Rattle.bench.proofs.choice.NextLaws.{unshaped-move}
-use borrow.Author.Rules.{rules}
 use Rattle.bench.proofs.moves.move_checked.Goals as goal
 
 pub returns-then-not-has_shape : goal.returns-then-not-has_shape

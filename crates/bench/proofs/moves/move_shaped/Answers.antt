@@ -3,14 +3,11 @@
 use Prim.Native.Nat.{◌<◌}
 use mathlib.Core.Path.{refl, ap, sym, ◌∙◌}
 use native.Mathlib.Omega.{arith}
-use borrow.Author.Rules.{rules}
 use Rattle.counting.specs.Lists.{member_at}
-use Rattle.rules.specs.declared.Outcome.TheVariants.{Start}
 use Rattle.plan.specs.declared.Look.{Look}
 use Rattle.bench.proofs.choice.NextLaws.{chosen-next, stepped-move, handed-start}
 use Prim.Native.Nat.{◌≤◌}
 use mathlib.Core.Path.{◌≡◌, sym, ◌∙◌}
-use lib.ListN.{length-map}
 use Rattle.load.specs.View.{view_of}
 use Rattle.rules.specs.Move.{all_finished}
 use Rattle.plan.specs.Boards.{board_in}

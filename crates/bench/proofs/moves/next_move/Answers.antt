@@ -1,7 +1,6 @@
 -- `next_move` checks the load first: its refusal is the move's, and else the move is the rules'.
 use mathlib.Core.Path.{sym, ◌∙◌}
 use Rattle.bench.proofs.choice.NextLaws.{next_move-good, next_move-refused}
-use borrow.Author.Rules.{rules}
 use Rattle.bench.proofs.moves.next_move.Goals as goal
 
 pub move_checked-requires : goal.move_checked-requires

@@ -1,8 +1,7 @@
 -- `has_shape` asks the clock, the rows of the load and the places of the others in turn.
 use mathlib.Core.Path.{sym, ◌∙◌}
-use borrow.Author.Tests.{le-leb, lt-leb, not-true, not-false}
+use borrow.Author.Tests.{le-leb, lt-leb}
 use Rattle.bench.proofs.shown.LookLaws.{shaped-is}
-use borrow.Author.Rules.{rules}
 use Rattle.bench.proofs.shape.has_shape.Goals as goal
 
 pub returns-then-bench-gt-LAST_MOMENT : goal.returns-then-bench-gt-LAST_MOMENT

@@ -1,5 +1,4 @@
 -- `row_shaped` asks the steps, the end and the opening in turn.
-use borrow.Author.Rules.{rules}
 use borrow.Author.Tests.{le-leb, lt-leb}
 use Rattle.plan.specs.Looks.{view_alike, state_alike}
 use Rattle.plan.proofs.LookLaws.{is_open-last}

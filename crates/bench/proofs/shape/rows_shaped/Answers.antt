@@ -1,9 +1,6 @@
 -- `rows_shaped` asks one row a turn: the first i rows have their shape, and the first that has not ends the search.
-use Prim.Native.Nat.{◌-◌, ◌≤◌}
-use mathlib.Core.Bool.{true}
 use mathlib.Core.Path.{◌≡◌, sym, ◌∙◌, ap}
 use native.Mathlib.Omega.{arith}
-use borrow.Author.Tests.{not-true, not-false}
 use Rattle.counting.specs.Sums.{all_to}
 use Rattle.counting.proofs.tests.TestLaws.{all_to-zero, all_to-next, false-all_to}
 use Rattle.load.specs.View.{view_of}

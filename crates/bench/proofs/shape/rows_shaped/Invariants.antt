@@ -1,17 +1,11 @@
 -- `rows_shaped` asks one row a turn: the first i rows have their shape, and the first that has not ends the search.
 use Prim.Native.Nat.{◌-◌, ◌≤◌}
 use mathlib.Core.Bool.{true}
-use mathlib.Core.Path.{◌≡◌, sym, ◌∙◌, ap}
-use native.Mathlib.Omega.{arith}
-use borrow.Author.Tests.{not-true, not-false}
+use mathlib.Core.Path.{◌≡◌}
 use Rattle.counting.specs.Sums.{all_to}
-use Rattle.counting.proofs.tests.TestLaws.{all_to-zero, all_to-next, false-all_to}
 use Rattle.load.specs.View.{view_of}
 use Rattle.rules.specs.State.{row_shaped}
 use Rattle.bench.specs.Held.{state_of}
-use Rattle.bench.proofs.shown.LookLaws.{shape-of-row}
-use Rattle.bench.proofs.shown.CheckedLaws.{checked-rows}
-use borrow.Author.Rules.{rules}
 use Rattle.bench.proofs.shape.rows_shaped.Given as goal
 
 abbrev pub invariant-loop-i : goal.invariant-loop-i

@@ -1,12 +1,9 @@
 -- `unused_from` asks one row a turn: while all are 0, what is to be found is what those from here on show.
 use Prim.Native.Nat.{◌-◌}
-use mathlib.Core.Path.{◌≡◌, refl, sym, ◌∙◌}
-use borrow.Author.Tests.{not-true, not-false}
+use mathlib.Core.Path.{◌≡◌}
 use Rattle.counting.specs.Sums.{all_from}
-use Rattle.counting.proofs.tests.FromLaws.{all_from-zero, all_from-next}
 use Rattle.rules.specs.State.{row_unused}
 use Rattle.bench.specs.Held.{state_of}
-use borrow.Author.Rules.{rules}
 use Rattle.bench.proofs.shape.unused_from.Given as goal
 
 abbrev pub invariant-loop-i : goal.invariant-loop-i
