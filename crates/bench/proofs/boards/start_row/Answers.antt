@@ -31,16 +31,17 @@ module _ (c : After-look_at-look) where
 
 pub returns : goal.returns
 returns c =
+    let here = (goal.at.returns c).After-look_at-look in
     let args = c.args in
     let can = c.requires.can_start in
     let look = c.look_of-next.ensures
-    ∙ started-look args.row (board (goal.at.returns c).After-look_at-look) args.moment args.i _ _ _ can
-    (ap (λ n. n + 1) (finished-is (goal.at.returns c).After-look_at-look)) (c.end_of-end.ensures ∙ ap (λ n. args.moment + n) (cost-is (goal.at.returns c).After-look_at-look))
-    (c.opening_after-opening.ensures ∙ opening-is (goal.at.returns c).After-look_at-look) in
+    ∙ started-look args.row (board here) args.moment args.i _ _ _ can
+    (ap (λ n. n + 1) (finished-is here)) (c.end_of-end.ensures ∙ ap (λ n. args.moment + n) (cost-is here))
+    (c.opening_after-opening.ensures ∙ opening-is here) in
     let put = c.put_look.ensures in record {
       row_started = record {
-        slot_is = c.slot_of-slot.ensures ∙ ap (λ n. slot_of args.i n args.moment) (finished-is (goal.at.returns c).After-look_at-look);
-        end_is = c.end_of-end.ensures ∙ ap (λ n. args.moment + n) (cost-is (goal.at.returns c).After-look_at-look);
+        slot_is = c.slot_of-slot.ensures ∙ ap (λ n. slot_of args.i n args.moment) (finished-is here);
+        end_is = c.end_of-end.ensures ∙ ap (λ n. args.moment + n) (cost-is here);
         renewed = put-renewed _ _ _ args.i c.look_of-next.result _ _ _ put can.place c.requires.placed _ look;
       };
       placed_2 = put-placed _ _ _ args.i c.look_of-next.result _ _ _ put can.place c.requires.placed;
@@ -53,4 +54,5 @@ pub end_of-end-requires : goal.end_of-end-requires
 end_of-end-requires c = omega (arith, c.requires.can_start.ends)
 
 pub overflow_add-look : goal.overflow_add-look
-overflow_add-look c = omega (arith, c.requires.can_start.more, finished-is (goal.at.overflow_add-look c).After-look_at-look)
+overflow_add-look c = omega (arith, c.requires.can_start.more, finished-is (goal.at.overflow_add-look
+    c).After-look_at-look)

@@ -26,10 +26,11 @@ module _ (c : In-loop-i) where
 
 pub loop-i-preserved : goal.loop-i-preserved
 loop-i-preserved c =
+    let here = (goal.at.loop-i-preserved c).In-loop-i in
     let inv = c.loop-i.invariant in (
       search rules,
-      ap₂ ◌+◌ inv.1 (sym (here-is (goal.at.loop-i-preserved c).In-loop-i)) ∙ sym (sum_to-next _ _),
-      omega (arith, here-most (goal.at.loop-i-preserved c).In-loop-i, inv.2),
+      ap₂ ◌+◌ inv.1 (sym (here-is here)) ∙ sym (sum_to-next _ _),
+      omega (arith, here-most here, inv.2),
     )
 
 pub returns : goal.returns
