@@ -20,18 +20,22 @@ pub fn read_full(mut input: impl Read + Drop, buffer: &mut [u8]) -> usize
     size
 }
 
-// Tells what failed on standard error, and why in the system's words, without their number. Gives
-// the status to end with.
+// Gives an error's words without the system's number for it.
+fn without_number(said: &str) -> &str {
+    match said.split_once(" (os error ") {
+        Some((words, _)) => words,
+        None => said,
+    }
+}
+
+// Tells what failed on standard error, and why in the system's words. Gives the status to end with.
 pub fn tell_failed<R: Eprint + Alloc>(
     rt: &R,
     what: &str,
     error: io::Error,
 ) -> io::Result<ExitCode> {
     let said = error.to_string(rt.alloc())?;
-    let why = match said.split_once(" (os error ") {
-        Some((words, _)) => words,
-        None => said.as_str(),
-    };
+    let why = without_number(&said);
     eprintln!(rt; "{what}: {why}")?;
     Ok(ExitCode::FAILURE)
 }
