@@ -1,6 +1,6 @@
 // The program that says whom to blame: reads a load file from standard input, and prints the lines
 // of its load with the place and row that hold each row up, or `refused` and the number. A failed
-// read counts as the input's end; a failed write is said on standard error.
+// read counts as the input's end; a failed write is said on standard error, with status 1.
 #![tactic(auto)]
 
 mod streams;

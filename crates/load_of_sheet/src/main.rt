@@ -1,7 +1,7 @@
 // The program that makes load files: reads a route sheet from standard input, and writes the file
 // of its load in version 1, which carries all that a sheet does. A sheet that is too long, or
 // refused, writes nothing, and is told on standard error. A failed read counts as the input's end;
-// a failed write is said on standard error.
+// a failed write is said on standard error. Where something is said there, the status is 1.
 #![tactic(auto)]
 
 mod streams;

@@ -1,6 +1,6 @@
 // The program: reads a load file from standard input, and prints the lines of its load, or
 // `refused` and the number. A failed read counts as the input's end; a failed write is said on
-// standard error.
+// standard error, with status 1.
 #![tactic(auto)]
 
 mod streams;

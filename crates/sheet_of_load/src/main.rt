@@ -1,7 +1,7 @@
 // The program that makes route sheets: reads a load file from standard input, and writes the sheet
 // of its load. A file that is too long, or refused, or has a class that is not 0, which no sheet
 // carries, writes nothing, and is told on standard error. A failed read counts as the input's end;
-// a failed write is said on standard error.
+// a failed write is said on standard error. Where something is said there, the status is 1.
 #![tactic(auto)]
 
 mod streams;
