@@ -1,14 +1,18 @@
 // The program that says whom to blame: reads a load file from standard input, and prints the lines
 // of its load with the place and row that hold each row up, or `refused` and the number. A failed
-// read counts as the input's end; a failed write is said on standard error.
+// read counts as the input's end; a failed write is said on standard error, with status 1.
 #![tactic(auto)]
+
+mod streams;
 
 ghost use Rattle.std.specs.Prelude.{◌≤◌, length};
 ghost use Rattle.blame.specs.Program.{Answer};
 
-use libc::{STDIN_FILENO, STDOUT_FILENO};
 use lines::{Text, blamed_text_of};
 use load_records::MOST_FILE_BYTES;
+use std::io;
+use std::process::ExitCode;
+use streams::{read_full, tell_failed};
 
 // One byte more than the longest load file has: for a longer file the same is printed as for so
 // many of its bytes.
@@ -23,13 +27,14 @@ fn answer(file: [u8; FILE_PLACES], size: usize) -> Text
 }
 
 // Reads, prints and writes.
-fn main() {
+fn main(rt: HostRuntime) -> io::Result<ExitCode> {
     let mut file = [0u8; FILE_PLACES];
-    let size = io::read_full(STDIN_FILENO, &mut file);
+    let size = read_full(rt.stdin(), &mut file);
     let text = answer(file, size);
     let length = text.length;
     let bytes = text.bytes;
-    if !io::write_all(STDOUT_FILENO, &bytes[..length]) {
-        os::fail(b"blame: standard output");
+    match rt.write_all(&bytes[..length]) {
+        Ok(()) => Ok(ExitCode::SUCCESS),
+        Err(error) => tell_failed(&rt, "blame: standard output", error),
     }
 }

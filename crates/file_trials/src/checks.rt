@@ -7,22 +7,23 @@ use crate::output::{write_byte, write_number};
 use crate::slots::{SLOT_SIZE, SLOTS_SIZE, slots_from};
 use refusals::number_given;
 use schedule::check_array;
+use std::io::{Read, Result, Write};
 
 // Reads and answers the question. Says no where it is cut short, the file too long, or the slots
 // too many.
-pub fn answer(given: Given) -> bool {
+pub fn answer(given: Given, input: &mut impl Read, output: &mut impl Write) -> Result<bool> {
     if !given.is_whole {
-        return false;
+        return Ok(false);
     }
     let mut bytes = [0u8; SLOTS_SIZE];
-    let n = read_things(&mut bytes, SLOT_SIZE);
+    let n = read_things(input, &mut bytes, SLOT_SIZE);
     if n == NO_COUNT {
-        return false;
+        return Ok(false);
     }
-    if !write_refused(given.found) {
+    if !write_refused(output, given.found)? {
         let found = check_array(given.load, slots_from(&bytes), n);
-        write_number(b"check ", number_given(found));
+        write_number(output, b"check ", number_given(found))?;
     }
-    write_byte(b'\n');
-    true
+    write_byte(output, b'\n')?;
+    Ok(true)
 }

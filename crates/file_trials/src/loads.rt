@@ -9,6 +9,7 @@ use crate::written::write_written;
 use load::Load;
 use load_records::{VERSION_2, version_1_size, version_2_size, write_version_1, write_version_2};
 use refusals::Checked;
+use std::io::{Read, Result, Write};
 
 // Writes a load as its file of a version, and gives what is found.
 fn write_in(version: u8, load: Load, room: &mut [u8]) -> Checked {
@@ -29,28 +30,33 @@ fn size_in(version: u8, load: Load) -> usize {
 }
 
 // Writes the word that an answer about a version begins with.
-fn write_word(version: u8) {
+fn write_word(output: &mut impl Write, version: u8) -> Result<()> {
     if version == VERSION_2 {
-        write_text(b"load2");
+        write_text(output, b"load2")
     } else {
-        write_text(b"load");
+        write_text(output, b"load")
     }
 }
 
 // Reads and answers the question. Says no where it is cut short, or the room too large.
-pub fn answer(version: u8, is_said: bool) -> bool {
-    let room = read_room(is_said, MOST_ROOM);
+pub fn answer(
+    version: u8,
+    is_said: bool,
+    input: &mut impl Read,
+    output: &mut impl Write,
+) -> Result<bool> {
+    let room = read_room(input, is_said, MOST_ROOM);
     if room > MOST_ROOM {
-        return false;
+        return Ok(false);
     }
-    let given = from_memory();
+    let given = from_memory(input);
     if !given.is_whole {
-        return false;
+        return Ok(false);
     }
     let mut bytes = filled();
     let found = write_in(version, given.load, &mut bytes[..room]);
     let n = answered(is_said, room, size_in(version, given.load));
-    write_word(version);
-    write_written(b" ", found, &bytes, n);
-    true
+    write_word(output, version)?;
+    write_written(output, b" ", found, &bytes, n)?;
+    Ok(true)
 }

@@ -22,44 +22,52 @@ use given::{from_file, from_memory};
 use input::read_whole;
 use load_records::{VERSION_1, VERSION_2};
 use output::write_text;
+use std::io::{BufReader, BufWriter, Read, Result, Write};
 
 // Reads what follows a question's letter, and answers it. Says no where there is no such letter, or
 // the question is cut short.
-fn answer_kind(letter: u8) -> bool {
+fn answer_kind(input: &mut impl Read, output: &mut impl Write, letter: u8) -> Result<bool> {
     match letter {
-        b'C' => checks::answer(from_file()),
-        b'D' => checks::answer(from_memory()),
-        b'W' => loads::answer(VERSION_1, false),
-        b'w' => loads::answer(VERSION_1, true),
-        b'V' => loads::answer(VERSION_2, false),
-        b'v' => loads::answer(VERSION_2, true),
-        b'S' => schedules::answer(false),
-        b's' => schedules::answer(true),
-        b'R' => sheets::answer(),
-        b'E' => exports::answer(false),
-        b'e' => exports::answer(true),
-        _ => false,
+        b'C' => checks::answer(from_file(input), input, output),
+        b'D' => checks::answer(from_memory(input), input, output),
+        b'W' => loads::answer(VERSION_1, false, input, output),
+        b'w' => loads::answer(VERSION_1, true, input, output),
+        b'V' => loads::answer(VERSION_2, false, input, output),
+        b'v' => loads::answer(VERSION_2, true, input, output),
+        b'S' => schedules::answer(false, input, output),
+        b's' => schedules::answer(true, input, output),
+        b'R' => sheets::answer(input, output),
+        b'E' => exports::answer(false, input, output),
+        b'e' => exports::answer(true, input, output),
+        _ => Ok(false),
     }
 }
 
 // Answers the next question. Says no at the end of the input, and after `bad`.
-fn answer_next() -> bool {
+fn answer_next(input: &mut impl Read, output: &mut impl Write) -> Result<bool> {
     let mut letter = [0u8; 1];
-    if !read_whole(&mut letter) {
-        return false;
+    if !read_whole(input, &mut letter) {
+        return Ok(false);
     }
-    let is_answered = answer_kind(letter[0]);
+    let is_answered = answer_kind(input, output, letter[0])?;
     if !is_answered {
-        write_text(b"bad\n");
+        write_text(output, b"bad\n")?;
     }
-    is_answered
+    Ok(is_answered)
 }
 
-// A proved loop has to end, and nothing says that the input does. So the questions are counted
-// down, from a number that no run uses up.
-fn main() {
-    let mut left = u32::MAX;
-    while left > 0 && answer_next() {
-        left -= 1;
+// A proved loop has to end, and nothing says that the input does. So there are only so many
+// questions, more than any run has. Each is answered before the next is read. A failed write ends
+// the program, with status 1.
+fn main(rt: HostRuntime) -> Result<()> {
+    let mut input = BufReader::new(rt.alloc(), rt.stdin())?;
+    let mut output = BufWriter::new(rt.alloc(), rt.stdout())?;
+    for _ in 0..u32::MAX {
+        let is_answered = answer_next(&mut input, &mut output)?;
+        output.flush()?;
+        if !is_answered {
+            break;
+        }
     }
+    Ok(())
 }

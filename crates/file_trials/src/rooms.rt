@@ -3,6 +3,7 @@
 ghost use Rattle.std.specs.Prelude.{◌≡◌, length};
 
 use crate::input::read_count;
+use std::io::Read;
 
 // The bytes of the largest room for a file.
 pub const MOST_ROOM: usize = 4096;
@@ -23,8 +24,8 @@ pub fn filled() -> [u8; MOST_SHEET_ROOM]
 
 // Gives how many bytes a room has: those that the question says, where it says so, and else the
 // most. They are more than any room has where the question is cut short.
-pub fn read_room(is_said: bool, most: usize) -> usize {
-    if is_said { read_count() } else { most }
+pub fn read_room(input: &mut impl Read, is_said: bool, most: usize) -> usize {
+    if is_said { read_count(input) } else { most }
 }
 
 // Gives how many of a room's bytes are answered, where a call wrote so many: all of a room that the

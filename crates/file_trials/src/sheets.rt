@@ -8,6 +8,7 @@ use crate::rooms::filled;
 use crate::written::write_written;
 use load_records::{version_1_size, write_version_1};
 use sheet::read_sheet;
+use std::io::{Read, Result, Write};
 
 // The most bytes of a sheet that is asked about.
 const MOST_ASKED: usize = 16384;
@@ -21,17 +22,17 @@ fn places() -> [u8; MOST_ASKED]
 }
 
 // Reads and answers the question. Says no where it is cut short, or the sheet too long.
-pub fn answer() -> bool {
+pub fn answer(input: &mut impl Read, output: &mut impl Write) -> Result<bool> {
     let mut sheet = places();
-    let length = read_things(&mut sheet, 1);
+    let length = read_things(input, &mut sheet, 1);
     if length == NO_COUNT {
-        return false;
+        return Ok(false);
     }
     let reading = read_sheet(front(&sheet, length));
     let found = reading.answer;
     let load = reading.load;
     let mut bytes = filled();
     write_version_1(load, &mut bytes);
-    write_written(b"sheet ", found, &bytes, version_1_size(load));
-    true
+    write_written(output, b"sheet ", found, &bytes, version_1_size(load))?;
+    Ok(true)
 }

@@ -1,18 +1,22 @@
 // The program that makes load files: reads a route sheet from standard input, and writes the file
 // of its load in version 1, which carries all that a sheet does. A sheet that is too long, or
 // refused, writes nothing, and is told on standard error. A failed read counts as the input's end;
-// a failed write is said on standard error.
+// a failed write is said on standard error. Where something is said there, the status is 1.
 #![tactic(auto)]
+
+mod streams;
 
 ghost use Rattle.std.specs.Prelude.{◌≤◌, length};
 ghost use Rattle.load_records.specs.Records.{most_file_bytes};
 ghost use Rattle.sheet.specs.Inputs.{Places, IsLong};
 ghost use Rattle.load_of_sheet.specs.Program.{Answer};
 
-use libc::{STDERR_FILENO, STDIN_FILENO, STDOUT_FILENO};
 use load_records::{MOST_FILE_BYTES, version_1_size, write_version_1};
 use refusals::{Checked, Written, number_given};
 use sheet::read_sheet;
+use std::io;
+use std::process::ExitCode;
+use streams::{read_full, tell_failed};
 
 // The most bytes of an input that is read as a sheet.
 const MOST_INPUT_BYTES: usize = 65536;
@@ -55,21 +59,13 @@ fn answer(sheet: &[u8], file: &mut [u8]) -> Written
     }
 }
 
-// Tells the number of what was refused.
-fn tell_refused(number: u32) {
-    io::write_all(STDERR_FILENO, b"refused ");
-    io::print_decimal(STDERR_FILENO, number as u64);
-    io::write_all(STDERR_FILENO, b"\n");
-}
-
 // Reads, makes the file and writes it.
-fn main() {
+fn main(rt: HostRuntime) -> io::Result<ExitCode> {
     let mut input = places();
-    let size = io::read_full(STDIN_FILENO, &mut input);
+    let size = read_full(rt.stdin(), &mut input);
     if is_long(size) {
-        let told = b"load-of-sheet: the input is longer than 65536 bytes\n";
-        io::write_all(STDERR_FILENO, told);
-        return;
+        eprintln!(rt; "load-of-sheet: the input is longer than 65536 bytes")?;
+        return Ok(ExitCode::FAILURE);
     }
     let mut file = [0u8; MOST_FILE_BYTES];
     let made = answer(&input[..size], &mut file);
@@ -77,8 +73,11 @@ fn main() {
     let length = made.length;
     let number = number_given(found);
     if number > 0 {
-        tell_refused(number);
-    } else if !io::write_all(STDOUT_FILENO, &file[..length]) {
-        os::fail(b"load-of-sheet: standard output");
+        eprintln!(rt; "refused {number}")?;
+        return Ok(ExitCode::FAILURE);
+    }
+    match rt.write_all(&file[..length]) {
+        Ok(()) => Ok(ExitCode::SUCCESS),
+        Err(error) => tell_failed(&rt, "load-of-sheet: standard output", error),
     }
 }

@@ -1,18 +1,22 @@
 // The program that makes route sheets: reads a load file from standard input, and writes the sheet
 // of its load. A file that is too long, or refused, or has a class that is not 0, which no sheet
 // carries, writes nothing, and is told on standard error. A failed read counts as the input's end;
-// a failed write is said on standard error.
+// a failed write is said on standard error. Where something is said there, the status is 1.
 #![tactic(auto)]
+
+mod streams;
 
 ghost use Rattle.std.specs.Prelude.{◌≤◌, length};
 ghost use Rattle.sheet.specs.Writing.{most_sheet_bytes};
 ghost use Rattle.sheet.specs.Inputs.{Places, IsLong};
 ghost use Rattle.sheet_of_load.specs.Program.{Answer};
 
-use libc::{STDERR_FILENO, STDIN_FILENO, STDOUT_FILENO};
 use load_file::read_load;
 use refusals::{Checked, Written, number_given};
 use sheet::{MOST_SHEET_BYTES, write_sheet};
+use std::io;
+use std::process::ExitCode;
+use streams::{read_full, tell_failed};
 
 // The most bytes of an input that is read as a load file.
 const MOST_INPUT_BYTES: usize = 65536;
@@ -53,21 +57,13 @@ fn answer(file: &[u8], sheet: &mut [u8]) -> Written
     }
 }
 
-// Tells the number of what was refused.
-fn tell_refused(number: u32) {
-    io::write_all(STDERR_FILENO, b"refused ");
-    io::print_decimal(STDERR_FILENO, number as u64);
-    io::write_all(STDERR_FILENO, b"\n");
-}
-
 // Reads, makes the sheet and writes it.
-fn main() {
+fn main(rt: HostRuntime) -> io::Result<ExitCode> {
     let mut input = places();
-    let size = io::read_full(STDIN_FILENO, &mut input);
+    let size = read_full(rt.stdin(), &mut input);
     if is_long(size) {
-        let told = b"sheet-of-load: the input is longer than 65536 bytes\n";
-        io::write_all(STDERR_FILENO, told);
-        return;
+        eprintln!(rt; "sheet-of-load: the input is longer than 65536 bytes")?;
+        return Ok(ExitCode::FAILURE);
     }
     let mut sheet = [0u8; MOST_SHEET_BYTES];
     let made = answer(&input[..size], &mut sheet);
@@ -75,8 +71,11 @@ fn main() {
     let length = made.length;
     let number = number_given(found);
     if number > 0 {
-        tell_refused(number);
-    } else if !io::write_all(STDOUT_FILENO, &sheet[..length]) {
-        os::fail(b"sheet-of-load: standard output");
+        eprintln!(rt; "refused {number}")?;
+        return Ok(ExitCode::FAILURE);
+    }
+    match rt.write_all(&sheet[..length]) {
+        Ok(()) => Ok(ExitCode::SUCCESS),
+        Err(error) => tell_failed(&rt, "sheet-of-load: standard output", error),
     }
 }

@@ -9,65 +9,70 @@ use bound::{blames_of, place_waits_of};
 use load::{Load, MOST_ROWS};
 use refusals::number_given;
 use rules::{Blame, LargestW, MOST_PLACES};
+use std::io::{Result, Write};
 
 // Writes a number and the row that it belongs to.
-fn write_of(number: u32, row: u8) {
-    write_marked(b' ', number);
-    write_marked(b':', row as u32);
+fn write_of(output: &mut impl Write, number: u32, row: u8) -> Result<()> {
+    write_marked(output, b' ', number)?;
+    write_marked(output, b':', row as u32)
 }
 
 // Writes the largest W of each place.
-fn write_waits(places: [LargestW; MOST_PLACES]) {
-    write_text(b"waits");
+fn write_waits(output: &mut impl Write, places: [LargestW; MOST_PLACES]) -> Result<()> {
+    write_text(output, b"waits")?;
     for j in 0..MOST_PLACES {
         let place = places[j];
-        write_of(place.left as u32, place.row);
+        write_of(output, place.left as u32, place.row)?;
     }
+    Ok(())
 }
 
 // Writes whom each row blames.
-fn write_blames(blames: [Blame; MOST_ROWS]) {
-    write_text(b" blames");
+fn write_blames(output: &mut impl Write, blames: [Blame; MOST_ROWS]) -> Result<()> {
+    write_text(output, b" blames")?;
     for i in 0..MOST_ROWS {
         let blame = blames[i];
-        write_of(blame.place as u32, blame.row);
+        write_of(output, blame.place as u32, blame.row)?;
     }
+    Ok(())
 }
 
 // Writes the margins.
-fn write_margins(margins: [i32; MOST_ROWS]) {
-    write_text(b" margins");
+fn write_margins(output: &mut impl Write, margins: [i32; MOST_ROWS]) -> Result<()> {
+    write_text(output, b" margins")?;
     for i in 0..MOST_ROWS {
-        write_signed(margins[i]);
+        write_signed(output, margins[i])?;
     }
+    Ok(())
 }
 
 // Writes what is told of a load, or what it is refused for.
-fn write_told(load: Load, with_margins: bool) {
+fn write_told(output: &mut impl Write, load: Load, with_margins: bool) -> Result<()> {
     let waits = place_waits_of(load);
     let answer = waits.answer;
     let places = waits.places;
-    if write_refused(number_given(answer)) {
-        return;
+    if write_refused(output, number_given(answer))? {
+        return Ok(());
     }
     let told = blames_of(load);
     let blames = told.blames;
     let margins = told.margins;
-    write_waits(places);
-    write_blames(blames);
+    write_waits(output, places)?;
+    write_blames(output, blames)?;
     if with_margins {
-        write_margins(margins);
+        write_margins(output, margins)?;
     }
+    Ok(())
 }
 
 // Answers the question. Says no where it is cut short, or the file too long.
-pub fn answer(given: Given, with_margins: bool) -> bool {
+pub fn answer(given: Given, with_margins: bool, output: &mut impl Write) -> Result<bool> {
     if !given.is_whole {
-        return false;
+        return Ok(false);
     }
-    if !write_refused(given.found) {
-        write_told(given.load, with_margins);
+    if !write_refused(output, given.found)? {
+        write_told(output, given.load, with_margins)?;
     }
-    write_byte(b'\n');
-    true
+    write_byte(output, b'\n')?;
+    Ok(true)
 }

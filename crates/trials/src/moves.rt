@@ -11,6 +11,7 @@ use bench::{Bench, Moved, fresh, next_move};
 use load::MOST_ROWS;
 use refusals::number_of;
 use rules::Outcome;
+use std::io::{Read, Result, Write};
 use words::{byte_at, number32_at};
 
 // A state is its clock (4 bytes) and 24 times the steps finished (1), the end (4) and the opening
@@ -35,57 +36,59 @@ fn bench_from(bytes: &[u8]) -> Bench {
 }
 
 // Writes what a move answered.
-fn write_outcome(outcome: Outcome) {
+fn write_outcome(output: &mut impl Write, outcome: Outcome) -> Result<()> {
     match outcome {
         Outcome::Start(slot) => {
-            write_number(b"start ", slot.row as u32);
-            write_marked(b' ', slot.step as u32);
-            write_marked(b' ', slot.start);
+            write_number(output, b"start ", slot.row as u32)?;
+            write_marked(output, b' ', slot.step as u32)?;
+            write_marked(output, b' ', slot.start)
         }
-        Outcome::Idle => write_text(b"idle"),
-        Outcome::Done => write_text(b"done"),
+        Outcome::Idle => write_text(output, b"idle"),
+        Outcome::Done => write_text(output, b"done"),
         Outcome::Refused(refusal) => {
-            write_refused(number_of(refusal));
+            write_refused(output, number_of(refusal))?;
+            Ok(())
         }
     }
 }
 
 // Writes what a state holds of a row.
-fn write_row(finished: u8, end: u32, opening: u32) {
-    write_marked(b' ', finished as u32);
-    write_marked(b':', end);
-    write_marked(b':', opening);
+fn write_row(output: &mut impl Write, finished: u8, end: u32, opening: u32) -> Result<()> {
+    write_marked(output, b' ', finished as u32)?;
+    write_marked(output, b':', end)?;
+    write_marked(output, b':', opening)
 }
 
 // Writes what a state holds: the clock, and then every row.
-fn write_bench(bench: Bench) {
-    write_number(b" clock ", bench.clock);
+fn write_bench(output: &mut impl Write, bench: Bench) -> Result<()> {
+    write_number(output, b" clock ", bench.clock)?;
     for i in 0..MOST_ROWS {
-        write_row(bench.finished[i], bench.end[i], bench.opening[i]);
+        write_row(output, bench.finished[i], bench.end[i], bench.opening[i])?;
     }
+    Ok(())
 }
 
 // Writes all that a move hands back.
-fn write_moved(moved: Moved) {
+fn write_moved(output: &mut impl Write, moved: Moved) -> Result<()> {
     let outcome = moved.outcome;
-    write_outcome(outcome);
-    write_number(b" lamps ", moved.lamps);
-    write_number(b" count ", moved.count);
-    write_bench(moved.bench);
+    write_outcome(output, outcome)?;
+    write_number(output, b" lamps ", moved.lamps)?;
+    write_number(output, b" count ", moved.count)?;
+    write_bench(output, moved.bench)
 }
 
 // Reads and answers the question. Says no where it is cut short, or the file too long.
-pub fn answer(given: Given) -> bool {
+pub fn answer(given: Given, input: &mut impl Read, output: &mut impl Write) -> Result<bool> {
     if !given.is_whole {
-        return false;
+        return Ok(false);
     }
     let mut state = [0u8; STATE_SIZE];
-    if !read_whole(&mut state) {
-        return false;
+    if !read_whole(input, &mut state) {
+        return Ok(false);
     }
-    if !write_refused(given.found) {
-        write_moved(next_move(given.load, bench_from(&state)));
+    if !write_refused(output, given.found)? {
+        write_moved(output, next_move(given.load, bench_from(&state)))?;
     }
-    write_byte(b'\n');
-    true
+    write_byte(output, b'\n')?;
+    Ok(true)
 }

@@ -1,18 +1,18 @@
-// Standard output, by pieces: texts, and numbers as decimal digits.
-use libc::STDOUT_FILENO;
+// What is answered, by pieces: texts, and numbers as decimal digits.
+use std::io::{Result, Write};
 
 // Writes a text.
-pub fn write_text(text: &[u8]) {
-    io::write_all(STDOUT_FILENO, text);
+pub fn write_text(output: &mut impl Write, text: &[u8]) -> Result<()> {
+    output.write_all(text)
 }
 
 // Writes one byte.
-pub fn write_byte(byte: u8) {
-    write_text(&[byte]);
+pub fn write_byte(output: &mut impl Write, byte: u8) -> Result<()> {
+    write_text(output, &[byte])
 }
 
 // Writes a text and then a number.
-pub fn write_number(text: &[u8], number: u32) {
-    write_text(text);
-    io::print_decimal(STDOUT_FILENO, number as u64);
+pub fn write_number(output: &mut impl Write, text: &[u8], number: u32) -> Result<()> {
+    write_text(output, text)?;
+    write!(output, "{number}")
 }

@@ -20,8 +20,7 @@ use Rattle.sheet.specs.Reading.{sheet_fault, read_sheet}
 use Rattle.sheet.proofs.trip.ReadSheet.{read_plain}
 use Rattle.sheet.proofs.trip.SheetTrip.{accepted-good}
 use Rattle.load_of_sheet.specs.Program.{Answer}
-use Rattle.load_of_sheet.proofs.answer.Statement.{statement}
-use Rattle.load_of_sheet.proofs.answer.Tie as tie
+use Rattle.load_of_sheet.proofs.answer.Goals as goal
 
 fault-is : (bs : List ℕ) (r : Reading) → r ≡ read_sheet bs → r.answer ≡ sheet_fault bs
 unfolding read_sheet
@@ -64,28 +63,11 @@ module _ (bs out : List ℕ) (r : Reading) (e : r ≡ read_sheet bs) where
         never-short = found-is ∙ sym fault;
       }
 
-returns : tie.Need-returns
-returns c =
-    let wrote = c.before.before.before in
-    let told = wrote.before.before in
-    let read = told.before.before.before in
-    is-written _ _ _ read.read-sheet.ensures told.enum_told.given.1 (search rules) _ _ _
-    wrote.write-version-1.ensures c.version-1-size.ensures
+pub returns-in-Good : goal.returns-in-Good
+returns-in-Good c =
+    is-written _ _ _ c.read_sheet-reading.ensures c.in-Good.is (search rules) _ _ _
+    c.write_version_1.ensures c.version_1_size.ensures
 
-returns-2 : tie.Need-returns-2
-returns-2 c =
-    let read = c.before.before.before.before in
-    is-refused _ _ _ read.read-sheet.ensures _ c.before.found.given.1
-
-pub answer-spec : {M : Type 1} → statement M
-answer-spec =
-    tie.close
-    (tie.spec
-    (λ c κs. search rules)
-    (λ c. search rules)
-    (λ c κs. search rules)
-    (λ c κs. search rules)
-    (λ c. search rules)
-    (λ c. search rules)
-    returns
-    returns-2)
+pub returns-in-Refused : goal.returns-in-Refused
+returns-in-Refused c =
+    is-refused _ _ _ c.read_sheet-reading.ensures _ c.in-Refused.is

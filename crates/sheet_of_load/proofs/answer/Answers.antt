@@ -24,8 +24,8 @@ use Rattle.sheet.specs.Writing.{sheet_bytes, most_sheet_bytes}
 use Rattle.sheet.specs.Calls.{WriteSheet}
 use Rattle.sheet.proofs.marks.RowSize.{sheet_bytes-le}
 use Rattle.sheet_of_load.specs.Program.{export_fault, Answer}
-use Rattle.sheet_of_load.proofs.answer.Statement.{statement}
-use Rattle.sheet_of_load.proofs.answer.Tie as tie
+use Rattle.sheet_of_load.proofs.answer.Goals as goal
+use Rattle.sheet_of_load.proofs.answer.Goals.{After-shared_slice_known-1}
 
 -- a load that passes its check is refused with 22 or not at all
 carried-left : (load : Load) → check_load load ≡ Good → check_plain load ≡ first_fault (first_met (carried_tests load) ∷ [])
@@ -63,30 +63,14 @@ module _ (bs out : List ℕ) (r : Reading) (e : ReadLoad bs r) where
       }
 
 -- the bytes of a slice are bytes
-bytes : (c : tie.After-shared-slice-known) → Bytes c.before.args.file.now
-bytes c at = omega (arith, c.shared-slice-known.given at)
+bytes : (c : After-shared_slice_known-1) → Bytes c.args.file.now
+bytes c at = omega (arith, c.shared_slice_known-1.given at)
 
-returns : tie.Need-returns
-returns c =
-    let wrote = c.before.before in
-    let told = wrote.before.before in
-    let read = told.before.before.before in
-    is-written _ _ _ read.read-load.ensures (bytes read.before.before) told.enum_told.given.1
-    (search rules) _ _ wrote.write-sheet.ensures
+pub returns-in-Good : goal.returns-in-Good
+returns-in-Good c =
+    is-written _ _ _ c.read_load-reading.ensures (bytes (goal.at.returns-in-Good c).After-shared_slice_known-1) c.in-Good.is
+    (search rules) _ _ c.write_sheet.ensures
 
-returns-2 : tie.Need-returns-2
-returns-2 c =
-    let read = c.before.before.before.before in
-    is-refused _ _ _ read.read-load.ensures _ c.before.found.given.1
-
-pub answer-spec : {M : Type 1} → statement M
-answer-spec =
-    tie.close
-    (tie.spec
-    (λ c κs. search rules)
-    (λ c. search rules)
-    (λ c κs. search rules)
-    (λ c. search rules)
-    (λ c. search rules)
-    returns
-    returns-2)
+pub returns-in-Refused : goal.returns-in-Refused
+returns-in-Refused c =
+    is-refused _ _ _ c.read_load-reading.ensures _ c.in-Refused.is
