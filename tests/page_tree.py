@@ -7,7 +7,8 @@ from typing import NamedTuple
 
 PAGES = ('README.md', 'docs/*.md', 'docs/landings/*.md', 'examples/README.md', 'second/*.md')
 # The folders that are made, and those that a page announces.
-MADE = ('.git', 'target', 'dist', 'second/build')
+MADE = ('.git', 'dist', 'second/build')
+OUT = re.compile(r'crates/\w+/out(/|$)')
 ANNOUNCED = ('docs/landings',)
 
 NAME = r'[^\s(){}.;,@"«»]+'
@@ -97,9 +98,11 @@ def sentence_findings(page, text, sentences):
 
 # What declares a name: in antt, in Rattle, in C. What a law declares for itself alone, and what C only calls, does not.
 MARKS = r'(?:(?:abbrev|unfoldable)\s+)*'
-PUBLIC = re.compile(rf'^\s*{MARKS}pub\s+({NAME})\s+:\s', re.M)
+# An answer to a goal, or an invariant, bears the name that the toolchain gives it.
+ASKED = r'(?!\s*goal\.)'
+PUBLIC = re.compile(rf'^\s*{MARKS}pub\s+({NAME})\s+:\s{ASKED}', re.M)
 FIELD = re.compile(rf'^ +pub\s+({NAME})\s+:\s', re.M)
-ANTT_NAMES = (PUBLIC, re.compile(rf'^{MARKS}({NAME})\s+:\s', re.M), re.compile(rf'\b(?:record|data)\s+({NAME})'))
+ANTT_NAMES = (PUBLIC, re.compile(rf'^{MARKS}({NAME})\s+:\s{ASKED}', re.M), re.compile(rf'\b(?:record|data)\s+({NAME})'))
 RATTLE_NAMES = (re.compile(r'\b(?:fn|struct|enum|const|mod)\s+(\w+)'), re.compile(r'^\s+(?:pub\s+)?(\w+):', re.M),
                 re.compile(r'^\s+([A-Z]\w*)(?:\([^)]*\))?,$', re.M))
 C_NAMES = (re.compile(r'#define\s+(\w+)'), re.compile(r'^[A-Za-z_][\w ]*[ *](\w+)\(', re.M))
@@ -139,7 +142,7 @@ class Tree:
         self.comments = {path: only_comments(text) for path, text in texts.items()}
         self.below = self.names_below()
         self.names = set().union(*self.below.values())
-        self.crates = re.findall(r'^(\w+):', read(root, 'crates.txt'), re.M)
+        self.crates = re.findall(r'^(\w+)(?: +staticlib)? *:', read(root, 'crates.txt'), re.M)
         self.edits = {crate: self.edits_of(crate) for crate in self.crates}
         self.all_edits = set().union(*self.edits.values())
         self.calls, self.methods = {}, {}
@@ -151,7 +154,8 @@ class Tree:
         paths = set()
         for folder, folders, files in os.walk(self.root):
             inside = os.path.relpath(folder, self.root)
-            folders[:] = [name for name in folders if os.path.normpath(os.path.join(inside, name)) not in MADE]
+            places = {name: os.path.normpath(os.path.join(inside, name)) for name in folders}
+            folders[:] = [name for name, place in places.items() if place not in MADE and not OUT.match(place)]
             paths |= {os.path.normpath(os.path.join(inside, name)) for name in folders + files}
         return paths
 
@@ -184,7 +188,7 @@ class Tree:
         return {line for path in texts for line in read(self.root, path).split('\n')}
 
     def has(self, path):
-        return os.path.normpath(path) in self.paths or path.startswith(MADE + ANNOUNCED)
+        return os.path.normpath(path) in self.paths or path.startswith(MADE + ANNOUNCED) or bool(OUT.match(path))
 
     def places_of(self, path, page=''):
         """The places that a page's path stands for: from the root, from crates/ or a crate, from the page's folder.

@@ -1,7 +1,7 @@
-// The calls for C. Each is lent the bytes of a load file and an output, and gives one number: what
-// is wrong with the file, 1 to 8 or 21; then 9, where the output is shorter than the answer; else
-// 0. A refusal alters no byte, and bytes past the answer stay. A refused file is looked at no
-// further.
+// The calls for C, which reading_bench_c exports. Each is lent the bytes of a load file and an
+// output, and gives one number: what is wrong with the file, 1 to 8 or 21; then 9, where the output
+// is shorter than the answer; else 0. A refusal alters no byte, and bytes past the answer stay. A
+// refused file is looked at no further.
 #![tactic(auto)]
 
 ghost use Rattle.reading_bench.specs.Calls.{Numbered, BenchBound, BenchVerdict};
@@ -27,8 +27,7 @@ fn give(answer: &[u8], out: &mut [u8]) -> u32
 }
 
 // Writes the bound of a load: 4 bytes, little-endian.
-#[unsafe(no_mangle)]
-pub extern "C" fn bench_bound(load: &[u8], out: &mut [u8]) -> u32
+pub fn bench_bound(load: &[u8], out: &mut [u8]) -> u32
     ensures { BenchBound load.now out.old result out.new }
 {
     let read = read_load(load);
@@ -43,8 +42,7 @@ pub extern "C" fn bench_bound(load: &[u8], out: &mut [u8]) -> u32
 }
 
 // Writes the verdict of a load: 1 byte, 1 for yes and 0 for no.
-#[unsafe(no_mangle)]
-pub extern "C" fn bench_verdict(load: &[u8], out: &mut [u8]) -> u32
+pub fn bench_verdict(load: &[u8], out: &mut [u8]) -> u32
     ensures { BenchVerdict load.now out.old result out.new }
 {
     let read = read_load(load);
@@ -59,8 +57,7 @@ pub extern "C" fn bench_verdict(load: &[u8], out: &mut [u8]) -> u32
 }
 
 // Writes all margins of a load: 96 bytes, 4 to a row, little-endian two's complement.
-#[unsafe(no_mangle)]
-pub extern "C" fn bench_margins(load: &[u8], out: &mut [u8]) -> u32
+pub fn bench_margins(load: &[u8], out: &mut [u8]) -> u32
     ensures { BenchMargins load.now out.old result out.new }
 {
     let read = read_load(load);
@@ -76,8 +73,7 @@ pub extern "C" fn bench_margins(load: &[u8], out: &mut [u8]) -> u32
 }
 
 // Writes the schedule file of a load: the starts of its run, from fresh to Done.
-#[unsafe(no_mangle)]
-pub extern "C" fn bench_schedule(load: &[u8], out: &mut [u8]) -> u32
+pub fn bench_schedule(load: &[u8], out: &mut [u8]) -> u32
     ensures { BenchSchedule load.now out.old result out.new }
 {
     number_given(write_run(load, out))
