@@ -4,7 +4,7 @@
 use Prim.Native.Nat.{ℕ}
 use mathlib.Core.Bool.{Bool, true, false, ◌&&◌, ◌||◌}
 use mathlib.Core.List.{List, [], ◌∷◌}
-use mathlib.Core.Path.{◌≡◌, refl}
+use mathlib.Core.Path.{◌≡◌, refl, sym, subst}
 use lib.Dec.{eqb}
 use borrow.Author.Tests.{eqb-true}
 use Rattle.counting.specs.Lists.{any_in}
@@ -66,7 +66,8 @@ among (a ∷ rest) others each n h =
 
     go : (b : Bool) → eqb n a ≡ b → (b || any_in (eqb n) rest) ≡ true → (any_in (eqb n) rest ≡ true → OneOf others n)
         → OneOf others n
-    go true q p later = rw (eqb-true n a q) (and_left own (each_among others rest) each)
+    go true q p later =
+        subst (OneOf others) (sym (eqb-true n a q)) (and_left own (each_among others rest) each)
     go false q p later = later p
 
 -- one of some numbers is one of more

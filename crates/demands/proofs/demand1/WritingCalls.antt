@@ -3,7 +3,7 @@ use Prim.Native.Nat.{ℕ}
 use mathlib.Core.Bool.{true}
 use mathlib.Core.List.{List, [], ◌∷◌, ◌++◌}
 use mathlib.Core.Logic.{◌≢◌}
-use mathlib.Core.Path.{◌≡◌, refl, ◌∙◌}
+use mathlib.Core.Path.{◌≡◌, refl, sym, ◌∙◌, subst}
 use lib.Dec.{ltb}
 use lib.ListN.{length}
 use Rattle.counting.specs.Lists.{any_in}
@@ -51,7 +51,7 @@ given-gives : (numbers : List ℕ) (finding : Checked) (answer out : List ℕ) (
     → OneOf numbers (number_given found)
 unfolding any_in
 given-gives numbers finding answer out found after nine f g =
-    rw g.finding-is
+    subst (λ (f : Checked). OneOf numbers (number_given f)) (sym g.finding-is)
     (then-gives numbers finding _ f
     (last-gives numbers _
     (tests-give numbers ((ltb (length out) (length answer), OutputShort) ∷ []) (rw nine)))).passes
