@@ -1,7 +1,7 @@
 -- "Read a load from comma-separated lines .. and write one out": demand 2 for route sheets, over
 -- any results that meet the calls' relations. To be read after PublicCalls, and before Demand2.
 -- Rests on D49, D86, D88 and D92.
-use Rattle.std.specs.Prelude.{ℕ, ◌≤◌, List, ◌≡◌, length, take}
+use Rattle.std.specs.Prelude.{ℕ, ◌≤◌, List, ◌≡◌, take}
 use Rattle.words.specs.LittleEndian.{Bytes}
 use Rattle.refusals.specs.declared.Checked.TheVariants.{Good}
 use Rattle.refusals.specs.declared.Written.{Written}

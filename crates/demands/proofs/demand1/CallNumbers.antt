@@ -69,7 +69,6 @@ use Rattle.sheet.specs.Reading.{read_sheet}
 use Rattle.sheet.proofs.narrow.SheetNumbers.{sheet-numbers}
 use Rattle.rules.specs.declared.Slot.{Slot}
 use Rattle.rules.specs.declared.Outcome.{Outcome}
-use Rattle.rules.specs.declared.Outcome.TheVariants.{Refused}
 use Rattle.rules.specs.Outcomes.{told_by}
 use Rattle.rules.specs.State.{State}
 use Rattle.rules.specs.Move.{start_or_idle_by, chosen, move}
