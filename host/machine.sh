@@ -1,6 +1,7 @@
 # What builds a program for x86-64 on this machine, and what runs it; read by `.` in the root of the
 # repository. The archive is for x86-64: on another machine the compiler is Debian's for x86-64,
-# programs are linked with their C library, and the kit's emulator runs them.
+# programs are linked with their C library, and Debian's emulator runs them. The toolchain itself
+# runs on x86-64 alone, so that there an archive is needed that was built elsewhere.
 #
 # Sets the words `compile_c`, `compile_cpp` and `list_names` (nm), and `emulator`, which stands
 # before a program's path. What is compiled keeps to `strict`: no warning passes.
@@ -15,8 +16,7 @@ else
     cross=x86_64-linux-gnu
     sh tests/tools "$cross-gcc=gcc-x86-64-linux-gnu" "$cross-g++=g++-x86-64-linux-gnu" \
         "$cross-nm=binutils-x86-64-linux-gnu" "/usr/$cross/include/stdio.h=libc6-dev-amd64-cross" \
-        pkg-config=pkg-config make=make
+        qemu-x86_64=qemu-user pkg-config=pkg-config make=make
     compile_c="$cross-gcc -static" compile_cpp=$cross-g++ list_names=$cross-nm
-    kit=$(readlink -f "$(command -v rt)")
-    emulator=${RATTLE_HOME:-${kit%/bin/rt}}/on/$(uname -m)/toolchain/bin/qemu-x86_64
+    emulator=qemu-x86_64
 fi
