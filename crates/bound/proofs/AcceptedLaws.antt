@@ -43,7 +43,8 @@ module _ (L : View) (ok : Acceptable L) where
 
   -- the four terms of the load cut at m
   pub cut-bound-is : (m : ℕ) → m ≤ most_steps
-      → bound (cut L m) ≡ kept_costs L m + largest_phase L + kept_waits L m + sum_to (largest_w smallest_costs L) (m - 1)
+      → bound (cut L m) ≡ kept_costs L m + largest_phase L + kept_waits L m
+      + sum_to (largest_w smallest_costs L) (m - 1)
   cut-bound-is m h = bound-of-cut L m accepted-within h
 
   pub cut-bound-le : (m : ℕ) → bound (cut L m) ≤ largest_bound

@@ -67,7 +67,8 @@ abbrev pub PlaceWaitsOf : Load → PlaceWaits → Type 0
 PlaceWaitsOf load r =
     r ≡ record {
       answer = for_bench load;
-      places = if_good (for_bench load) (place_waits (view_of load)) (replicate most_places none_left);
+      places = if_good (for_bench load) (place_waits (view_of load))
+          (replicate most_places none_left);
     }
 
 -- margin_bytes(margins): 4 bytes to a row, little-endian two's complement

@@ -1,6 +1,7 @@
 -- Lists made from the numbers 0 .. n - 1, sums, tests and choices over a list, and what stands at a
 -- place of one.
-use Rattle.std.specs.Prelude.{ℕ, zero, suc, ◌+◌, ◌-◌, Bool, false, cond, ◌||◌, List, [], ◌∷◌, ◌++◌, get_or, replicate, eqb}
+use Rattle.std.specs.Prelude.{ℕ, zero, suc, ◌+◌, ◌-◌, Bool, false, cond, ◌||◌, List, [], ◌∷◌, ◌++◌}
+use Rattle.std.specs.Prelude.{get_or, replicate, eqb}
 
 module _ {A : Type 0} where
   -- f 0 ++ f 1 ++ .. ++ f (n - 1)

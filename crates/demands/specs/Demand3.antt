@@ -84,7 +84,8 @@ pub record RunKept (load : Load) (run : Run load) : Type 0 where
   -- each row's last step ends by its row bound
   pub rows_end : (k : ℕ) → k < length (schedule (view_of load))
       → (slot_of load k).step ≡ (view_of load).steps (row_of (slot_of load k))
-      → slot_end (view_of load) (slot_of load k) ≤ row_bound (view_of load) (row_of (slot_of load k))
+      → slot_end (view_of load) (slot_of load k)
+      ≤ row_bound (view_of load) (row_of (slot_of load k))
   -- if no margin is negative each row ends by its deadline, and so the schedule rules hold
   pub deadlines : (v : Judged) → VerdictOf load v → v.verdict ≡ true
       → ScheduleRules (view_of load) (schedule (view_of load))

@@ -32,7 +32,8 @@ use Rattle.reading_bench.specs.Calls.{BenchBound, BenchVerdict, BenchMargins, Be
 use Rattle.lines.specs.Calls.{PrintLines, PrintBlames}
 use Rattle.demands.specs.NumberLists.{OneOf, of_range, of_fields, of_window}
 use Rattle.demands.specs.NumberLists.{of_load, of_plain, of_file, of_sheet}
-use Rattle.demands.specs.NumberLists.{of_output, of_c, of_writing, of_plain_writing, of_slot_writing}
+use Rattle.demands.specs.NumberLists.{of_output, of_c, of_writing, of_plain_writing}
+use Rattle.demands.specs.NumberLists.{of_slot_writing}
 use Rattle.demands.specs.NumberLists.{of_schedule, of_move}
 
 -- a call for C gives the file's own numbers and 9 alone
@@ -44,8 +45,10 @@ NumbersForC call =
 pub record Numbers : Type 0 where
   -- a load in memory, and its parts
   pub check-load : (load : Load) (r : Checked) → CheckLoad load r → OneOf of_load (number_given r)
-  pub check-fields : (row : Row) (r : Checked) → CheckFields row r → OneOf of_fields (number_given r)
-  pub check-plain : (load : Load) (r : Checked) → CheckPlain load r → OneOf of_plain (number_given r)
+  pub check-fields : (row : Row) (r : Checked) → CheckFields row r
+      → OneOf of_fields (number_given r)
+  pub check-plain : (load : Load) (r : Checked) → CheckPlain load r
+      → OneOf of_plain (number_given r)
   pub check-step : (step : Step) (is_last : Bool) (r : Checked) → CheckStep step is_last r
       → OneOf of_range (number_given r)
   pub check-window : (row : Row) (window : Window) (before : ℕ) (r : Checked)

@@ -93,7 +93,8 @@ module _ (load : Load) (ok : Acceptable (view_of load)) (reg : Registered load) 
     unfolding view_of
     seen p h = omega (arith, placed.windows-there i l, length-take (row_at load i).windows (row_at load i).window)
 
-    last-before : (p : ℕ) → p < (row_at load i).windows → last_before (row_at load i) p < (window_at (row_at load i) p).first
+    last-before : (p : ℕ) → p < (row_at load i).windows → last_before (row_at load i) p
+        < (window_at (row_at load i) p).first
     unfolding view_of
     last-before zero h = rw (window-is load i zero (seen zero h)) at (ok.first-least i zero l (seen zero h))
     last-before (suc p) h =

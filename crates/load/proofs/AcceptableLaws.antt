@@ -193,7 +193,8 @@ module _ (load : Load) (e : check_load load ≡ Good) where
         steps-unused = λ i j l.
             all_from-true (λ j. is_zero_step (step_at (row_at load i) j)) _ _ (all_zero-good _ (part-finding i l 1)) j;
         windows-unused = λ i p l.
-            all_from-true (λ p. is_zero_window (window_at (row_at load i) p)) _ _ (all_zero-good _ (part-finding i l 3)) p;
+            all_from-true (λ p. is_zero_window (window_at (row_at load i) p)) _ _
+            (all_zero-good _ (part-finding i l 3)) p;
       }
 
   pub check-acceptable : Acceptable (view_of load)

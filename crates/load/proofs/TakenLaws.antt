@@ -14,4 +14,5 @@ module _ {A : Type 0} where
       → any_to (λ k. p (get_or (filled f n last z) k d)) (min n last) ≡ any_to (λ k. p (f k)) n
   any_to-filled p f n last z d h =
       ap (any_to (λ k. p (get_or (filled f n last z) k d))) (min-eq_left h)
-      ∙ any_to-ext (λ k. p (get_or (filled f n last z) k d)) (λ k. p (f k)) n (λ k l. ap p (get_or-filled f n last k z d l))
+      ∙ any_to-ext (λ k. p (get_or (filled f n last z) k d)) (λ k. p (f k)) n
+      (λ k l. ap p (get_or-filled f n last k z d l))

@@ -90,7 +90,8 @@ module _ (L : View) (i j p : ℕ) (l : p < length (L.windows i)) (from : (window
 module _ (L : View) (ok : Acceptable L) (i : ℕ) (r : i < L.rows) where
   -- windows share no step: two that have a step, counted from 1, in common are one
   pub windows-apart : (p q a : ℕ) → p < length (L.windows i) → q < length (L.windows i)
-      → (window_of L i p).first ≤ a → a ≤ (window_of L i p).last → (window_of L i q).first ≤ a → a ≤ (window_of L i q).last
+      → (window_of L i p).first ≤ a → a ≤ (window_of L i p).last → (window_of L i q).first ≤ a → a
+      ≤ (window_of L i q).last
       → p ≡ q
   windows-apart p q a lp lq fp tp fq tq =
       elim (dec_lt p q) [

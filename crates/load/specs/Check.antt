@@ -77,7 +77,8 @@ check_parts row =
 
 -- the row at place i: its fields, 4 and 5, its parts
 unfoldable pub row_fault : Load → ℕ → Row → Checked
-row_fault load i row = first_fault (check_fields row ∷ check_taken load i row ∷ check_parts row ∷ [])
+row_fault load i row =
+    first_fault (check_fields row ∷ check_taken load i row ∷ check_parts row ∷ [])
 
 -- the check of a load in memory: the row count, the rows in order, the unused rows
 unfoldable pub check_load : Load → Checked

@@ -1,7 +1,8 @@
 -- "Numbers given back", 3 to 7 and "21 factory identifier, after 3 and before 4" (2026-04): the
 -- tests of each record kind, in the order in which they are asked. The file and the load in memory
 -- share them. To be read after Load and View. Rests on D2 to D5 and D91.
-use Rattle.std.specs.Prelude.{ℕ, zero, suc, ◌-◌, Bool, cond, ◌||◌, not, List, [], ◌∷◌, eqb, leb, ltb}
+use Rattle.std.specs.Prelude.{ℕ, zero, suc, ◌-◌, Bool, cond, ◌||◌, not, List, [], ◌∷◌, eqb, leb}
+use Rattle.std.specs.Prelude.{ltb}
 use Rattle.counting.specs.Sums.{any_to}
 use Rattle.refusals.specs.declared.Refusal.{Refusal}
 use Rattle.refusals.specs.declared.Refusal.TheVariants.{

@@ -32,7 +32,8 @@ pub record WorkedParts : Type 0 where
       ≡ replicate 5 0
   -- every place counted, a step more, a window more, and a step and a window less
   pub places :
-      numbers_of_parts (counting 8 4 ∷ counting 9 4 ∷ counting 8 5 ∷ counting 7 4 ∷ counting 8 3 ∷ [])
+      numbers_of_parts (counting 8 4 ∷ counting 9 4 ∷ counting 8 5 ∷ counting 7 4
+      ∷ counting 8 3 ∷ [])
       ≡ 0 ∷ 3 ∷ 3 ∷ 3 ∷ 3 ∷ []
   -- used steps before windows, unused steps before windows, windows before their unused places
   pub in_order :

@@ -25,8 +25,10 @@ use Rattle.load_file.specs.WorkedVersions.{WorkedVersions}
 
 -- to open this is to open all that its line names
 unfoldable computing : ℕ
-unfolding sum_to all_to any_to join_to join_in little_endian number_at first_fault_to zero_row zero_load view_of chain row_tests
-    taken_tests step_tests window_tests row_with row_from row_place load_in header_tests step_fault_in window_fault_in own_fault
+unfolding sum_to all_to any_to join_to join_in little_endian number_at first_fault_to zero_row zero_load view_of
+    chain row_tests
+    taken_tests step_tests window_tests row_with row_from row_place load_in header_tests step_fault_in
+    window_fault_in own_fault
     row_fault_at end_tests file_fault read_load joined numbers_read file file2 spelled2
 computing = 0
 

@@ -7,7 +7,8 @@ use Rattle.load.specs.declared.Step.{Step}
 use Rattle.load.specs.declared.Window.{Window}
 use Rattle.load.specs.declared.Row.{Row}
 use Rattle.load.specs.declared.Load.{Load}
-use Rattle.load.specs.Load.{most_rows, most_steps, most_windows, only_head, no_step, no_window, zero_row}
+use Rattle.load.specs.Load.{most_rows, most_steps, most_windows, only_head, no_step, no_window}
+use Rattle.load.specs.Load.{zero_row}
 use Rattle.load_records.specs.Records.{carries, header_kind, row_kind, step_kind, window_kind}
 
 -- the version that the header names
@@ -21,7 +22,12 @@ step_in bs at = record { cost = number_at 2 bs (at + 2); wait = number_at 2 bs (
 -- the window that the record at a place spells
 abbrev pub window_in : List ℕ → ℕ → Window
 window_in bs at =
-    record { first = byte_at bs (at + 2); last = byte_at bs (at + 3); limit = number_at 2 bs (at + 4) }
+    record {
+      first = byte_at bs (at + 2);
+      last =
+          byte_at bs (at + 3);
+      limit = number_at 2 bs (at + 4);
+    }
 
 -- how many steps the row record at a place announces
 abbrev pub steps_said : List ℕ → ℕ → ℕ

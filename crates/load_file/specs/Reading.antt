@@ -80,7 +80,8 @@ windows_fault bs at = first_fault_to (window_fault_in bs at) (windows_said bs at
 
 -- row i, whose record stands at a place, with its steps and then its windows
 unfoldable pub row_fault_at : List ℕ → ℕ → ℕ → Checked
-row_fault_at bs i at = first_fault (own_fault bs i at ∷ steps_fault bs at ∷ windows_fault bs at ∷ [])
+row_fault_at bs i at =
+    first_fault (own_fault bs i at ∷ steps_fault bs at ∷ windows_fault bs at ∷ [])
 
 -- row i, where it stands
 abbrev pub row_fault_in : List ℕ → ℕ → Checked
@@ -109,4 +110,8 @@ file_for_bench bs = file_fault bs
 
 -- what reading a file gives: a refused reading gives the all-zero load
 unfoldable pub read_load : List ℕ → Reading
-read_load bs = record { answer = file_fault bs; load = if_good (file_fault bs) (load_in bs) zero_load }
+read_load bs = record {
+  answer = file_fault bs;
+  load =
+      if_good (file_fault bs) (load_in bs) zero_load;
+}

@@ -16,7 +16,8 @@ use Rattle.load_records.specs.WorkedCases.{overfull, WorkedCases}
 
 -- to open this is to open all that its line names
 unfoldable computing : ℕ
-unfolding sum_to all_to any_to join_to join_in little_endian first_fault_to zero_row view_of chain row_tests taken_tests step_tests
+unfolding sum_to all_to any_to join_to join_in little_endian first_fault_to zero_row view_of chain row_tests
+    taken_tests step_tests
     window_tests check_parts row_fault check_load row_bytes counted_row load_bytes joined file file2 spelled2 overfull
     check_plain
 computing = 0

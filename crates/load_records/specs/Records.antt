@@ -48,7 +48,8 @@ end_kind = record { mark₁ = 0x45; mark₂ = 0x4E; size = 4 }
 
 -- the most bytes that a row has with its steps and its windows
 abbrev pub most_row_bytes : ℕ
-most_row_bytes = (row_kind newest).size + most_steps * step_kind.size + most_windows * window_kind.size
+most_row_bytes = (row_kind newest).size + most_steps * step_kind.size
+    + most_windows * window_kind.size
 
 -- the most bytes that a load file has: 4 + 24 x (22 + 8 x 6 + 4 x 6) + 4
 abbrev pub most_file_bytes : ℕ

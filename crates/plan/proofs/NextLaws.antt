@@ -110,7 +110,8 @@ module _ (board : Board) (classes : List ℕ) (clock last : ℕ) where
       (λ h. absurd (omega arith))
 
   -- a row is chosen at the clock
-  pub next-now : (rows row : ℕ) → last ≡ min rows most_rows → clock ≤ last_moment → ChosenRow board classes clock last row
+  pub next-now : (rows row : ℕ) → last ≡ min rows most_rows → clock ≤ last_moment
+      → ChosenRow board classes clock last row
       → row < last → NextStart board classes clock rows (record { row = row; moment = clock })
   next-now rows row e early c l =
       next_start board classes clock rows last (record { row = row; moment = clock }) e

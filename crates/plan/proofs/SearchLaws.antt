@@ -140,7 +140,8 @@ module _ (board : Board) (clock rows : ℕ) where
 
     -- the first that is not passed over is chosen
     pub first-chosen : (number turn next i : ℕ) → PassedRows board classes rows number turn next i clock → turn < next
-        → i < rows → (look_in board i).finished ≡ number → turn_in classes i ≡ turn → candidate_in board clock rows i ≡ true
+        → i < rows → (look_in board i).finished ≡ number → turn_in classes i ≡ turn
+        → candidate_in board clock rows i ≡ true
         → passes_in board clock rows i ≡ true → chosen_in board classes clock rows ≡ at i
     unfolding chosen_in
     first-chosen number turn next i p later l e f c q =

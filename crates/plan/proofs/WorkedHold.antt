@@ -48,7 +48,8 @@ choices-hold =
     }
 
 pub starts-hold : WorkedStarts
-unfolding computing numbers_from marks_from parts_with counts_with lengths_with moments_with passes_in chosen_in first_to
+unfolding computing numbers_from marks_from parts_with counts_with lengths_with moments_with passes_in
+    chosen_in first_to
 starts-hold =
     record {
       now = (refl, refl);

@@ -83,7 +83,8 @@ chosen_in board classes clock rows =
 -- that, or the clock past it
 abbrev pub next_moment : Board → List ℕ → ℕ → ℕ → ℕ
 next_moment board classes clock rows =
-    clock + first_to (λ d. is_found (chosen_in board classes (clock + d) rows)) (last_moment - clock)
+    clock + first_to (λ d. is_found (chosen_in board classes (clock + d) rows))
+    (last_moment - clock)
 
 -- the row that was found, and another number where none was
 abbrev pub row_or : ℕ → Found → ℕ

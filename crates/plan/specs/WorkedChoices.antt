@@ -45,7 +45,8 @@ inside due =
 
 -- a board of zeros
 abbrev pub no_rows : Board
-no_rows = board_in (replicate count_places 0) (replicate length_places 0) (replicate moment_places 0)
+no_rows = board_in (replicate count_places 0) (replicate length_places 0)
+    (replicate moment_places 0)
 
 -- a board of two rows, each look in its places
 abbrev pub two_rows : Look → Look → Board

@@ -29,7 +29,8 @@ use Rattle.reading_bench.specs.WorkedCalls.{WorkedCalls}
 
 -- to open this is to open all that its line names
 unfoldable reading : ℕ
-unfolding computing number_at zero_load row_with row_from row_place load_in header_tests own_fault step_fault_in window_fault_in
+unfolding computing number_at zero_load row_with row_from row_place load_in header_tests own_fault step_fault_in
+    window_fault_in
     row_fault_at end_tests file_fault fresh starts_by schedule_by schedule_bytes
 reading = 0
 

@@ -24,7 +24,8 @@ pub record Numbered (finding : Checked) (answer out : List ℕ) (r : ℕ) (after
 -- what the file is refused for, 1 to 8 or 21, then 9, and the output as it was; or 0, and the
 -- answer for the load that the bytes spell at the output's front
 abbrev pub ForC : (View → List ℕ) → List ℕ → List ℕ → ℕ → List ℕ → Type 0
-ForC answer bs out r after = Numbered (file_for_bench bs) (answer (view_of (load_in bs))) out r after
+ForC answer bs out r after =
+    Numbered (file_for_bench bs) (answer (view_of (load_in bs))) out r after
 
 -- the bound: 4 bytes, little-endian
 abbrev pub bound_bytes : View → List ℕ

@@ -61,10 +61,12 @@ pub first_fault_to-next : (f : ℕ → Checked) (n : ℕ) → first_fault_to f (
 unfolding first_fault_to
 first_fault_to-next f n = rw add-one
 
-pub first_fault_to-ext : (f g : ℕ → Checked) (n : ℕ) → ((i : ℕ) → i < n → f i ≡ g i) → first_fault_to f n ≡ first_fault_to g n
+pub first_fault_to-ext : (f g : ℕ → Checked) (n : ℕ) → ((i : ℕ) → i < n → f i ≡ g i) → first_fault_to f n
+    ≡ first_fault_to g n
 unfolding first_fault_to
 first_fault_to-ext f g zero h = refl
-first_fault_to-ext f g (suc n) h = ap₂ and_then (first_fault_to-ext f g n (λ i l. h i (omega arith))) (h n (omega arith))
+first_fault_to-ext f g (suc n) h =
+    ap₂ and_then (first_fault_to-ext f g n (λ i l. h i (omega arith))) (h n (omega arith))
 
 pub first_fault_to-good : (f : ℕ → Checked) (n : ℕ) → first_fault_to f n ≡ Good → (i : ℕ) → i < n → f i ≡ Good
 unfolding first_fault_to
@@ -82,7 +84,8 @@ good-first_fault_to f (suc n) h =
     and_then-both (first_fault_to f n) (f n) (good-first_fault_to f n (λ i l. h i (omega arith))) (h n (omega arith))
 
 -- the first fault decides: Good up to i, and refused there
-pub first_fault_to-refused : (f : ℕ → Checked) (n i : ℕ) (r : Refusal) → i < n → first_fault_to f i ≡ Good → f i ≡ Refused r
+pub first_fault_to-refused : (f : ℕ → Checked) (n i : ℕ) (r : Refusal) → i < n → first_fault_to f i ≡ Good
+    → f i ≡ Refused r
     → first_fault_to f n ≡ Refused r
 unfolding first_fault_to
 first_fault_to-refused f zero i r l h q = absurd (omega arith)

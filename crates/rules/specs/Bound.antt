@@ -1,7 +1,8 @@
 -- "The bound and the margins", the four terms. What the other rows give while a wait lasts is a
 -- parameter: here it is the r smallest of their 2r costs. To be read after Cut. Rests on D17 to
 -- D20 and D35.
-use Rattle.std.specs.Prelude.{ℕ, suc, ◌+◌, ◌-◌, Bool, cond, ◌&&◌, not, List, [], ◌∷◌, eqb, leb, length, take}
+use Rattle.std.specs.Prelude.{ℕ, suc, ◌+◌, ◌-◌, Bool, cond, ◌&&◌, not, List, [], ◌∷◌, eqb, leb}
+use Rattle.std.specs.Prelude.{length, take}
 use Rattle.counting.specs.Sums.{sum_to, max_to}
 use Rattle.counting.specs.Lists.{join_in, numbers_where, sum_in}
 use Rattle.counting.specs.Sorting.{sorted}

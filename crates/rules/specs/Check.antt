@@ -1,7 +1,8 @@
 -- "Numbers given back", 12 to 17: the check of a schedule. It looks at the list alone: what came
 -- before a slot is read off the slots before it, and no state is kept. To be read after Slots.
 -- Rests on D21, D22 and D33.
-use Rattle.std.specs.Prelude.{ℕ, zero, suc, ◌+◌, Bool, false, ◌&&◌, ◌||◌, not, List, [], ◌∷◌, eqb, ltb, length}
+use Rattle.std.specs.Prelude.{ℕ, zero, suc, ◌+◌, Bool, false, ◌&&◌, ◌||◌, not, List, [], ◌∷◌, eqb}
+use Rattle.std.specs.Prelude.{ltb, length}
 use Rattle.counting.specs.Sums.{count_to}
 use Rattle.counting.specs.Lists.{any_in}
 use Rattle.refusals.specs.declared.Refusal.{Refusal}

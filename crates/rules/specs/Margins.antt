@@ -1,6 +1,7 @@
 -- "The bound and the margins": row bounds, margins, the verdict, and the margins' 96 bytes. To be
 -- read after Bound. Rests on D20.
-use Rattle.std.specs.Prelude.{ℕ, Bool, true, false, cond, not, List, ltb, ℤ, pos, negsuc, ◌-ℤ◌, get_or}
+use Rattle.std.specs.Prelude.{ℕ, Bool, true, false, cond, not, List, ltb, ℤ, pos, negsuc, ◌-ℤ◌}
+use Rattle.std.specs.Prelude.{get_or}
 use Rattle.counting.specs.Sums.{all_to}
 use Rattle.counting.specs.Lists.{join_to, list_to}
 use Rattle.words.specs.LittleEndian.{little_endian}

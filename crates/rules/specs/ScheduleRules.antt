@@ -37,7 +37,8 @@ pub record SlotRules (L : View) (slots : List Slot) : Type 0 where
   -- and once
   pub once : (k h : ℕ) → OneRow slots k h → (slot_at slots k).step ≡ (slot_at slots h).step → k ≡ h
   -- the steps of a row stand in order
-  pub in_order : (k h : ℕ) → OneRow slots k h → k < h → (slot_at slots k).step < (slot_at slots h).step
+  pub in_order : (k h : ℕ) → OneRow slots k h → k < h → (slot_at slots k).step
+      < (slot_at slots h).step
   -- no slot starts before the one before it ends
   pub no-overlap : (k : ℕ) → suc k < length slots
       → slot_end L (slot_at slots k) ≤ (slot_at slots (suc k)).start

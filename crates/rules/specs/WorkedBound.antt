@@ -96,7 +96,8 @@ pub record WorkedMargins : Type 0 where
   pub exact : margins (due_at 3 11) ≡ margins_from (pos 0) (pos 0)
   pub missing : margins (due_at 2 10) ≡ margins_from (negsuc 0) (negsuc 0)
   -- "yes when no margin is negative": at 0 and 0, and not at 0 and -1 or -1 and 0
-  pub judged : map verdict (due_at 3 11 ∷ due_at 3 10 ∷ due_at 2 11 ∷ []) ≡ true ∷ false ∷ false ∷ []
+  pub judged : map verdict (due_at 3 11 ∷ due_at 3 10 ∷ due_at 2 11 ∷ []) ≡ true
+      ∷ false ∷ false ∷ []
   -- "4 to a row, little-endian two's complement": 300 and -1, and zeros up to 96 bytes
   pub spelled : margin_bytes (due_at 303 10)
       ≡ padded 96 0 (44 ∷ 1 ∷ 0 ∷ 0 ∷ 255 ∷ 255 ∷ 255 ∷ 255 ∷ [])

@@ -64,10 +64,12 @@ pub record WorkedPlan : Type 0 where
   pub too-late : answer (load_of (double 1 1 5 1 7 ∷ single 2 6 ∷ [])) one ≡ Idle
   -- "and goes on with its waits and costs": 2 + 1 + 4 + 1 is in time, 3 + 1 + 4 + 1 not
   pub goes_on :
-      answer (load_of (row 1 (1 w 0 ∷ 1 w 4 ∷ 1 w 0 ∷ []) (window 1 3 8 ∷ []) ∷ single 2 1 ∷ [])) one
+      answer (load_of (row 1 (1 w 0 ∷ 1 w 4 ∷ 1 w 0 ∷ []) (window 1 3 8 ∷ [])
+      ∷ single 2 1 ∷ [])) one
       ≡ Start (slot 1 2 1)
   pub goes-on-late :
-      answer (load_of (row 1 (1 w 0 ∷ 1 w 4 ∷ 1 w 0 ∷ []) (window 1 3 8 ∷ []) ∷ single 2 2 ∷ [])) one
+      answer (load_of (row 1 (1 w 0 ∷ 1 w 4 ∷ 1 w 0 ∷ []) (window 1 3 8 ∷ [])
+      ∷ single 2 2 ∷ [])) one
       ≡ Start (slot 1 1 2)
   -- the window that is open is asked for, 2 + 9, and not the one before it, 2 + 2
   pub second-window : answer two_windows (state 4 (has 3 3 2 ∷ [])) ≡ Start (slot 4 2 1)

@@ -14,7 +14,8 @@ pub record WorkedReady : Type 0 where
   pub by-step :
       answers
       (load_of
-      (row_by 1 2 last_moment (1 w 0 ∷ 1 w 0 ∷ []) (window 1 2 9 ∷ []) ∷ row 2 (1 w 0 ∷ []) [] ∷ []))
+      (row_by 1 2 last_moment (1 w 0 ∷ 1 w 0 ∷ []) (window 1 2 9 ∷ [])
+      ∷ row 2 (1 w 0 ∷ []) [] ∷ []))
       (state 1 (has 1 1 0 ∷ []) ∷ state 2 [] ∷ [])
       ≡ Start (slot 1 2 1) ∷ Start (slot 2 1 1) ∷ []
   -- "when the clock has reached its phase": at 5, and not at 4

@@ -1,5 +1,2 @@
--- Laws of folds over lent slots; and what a walk by hand over lent slots rests on.
+-- Laws of folds over lent slots.
 pub mod FoldLaws
-pub mod SlotFields
-pub mod SlotCalls
-pub mod LentFront

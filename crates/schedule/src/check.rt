@@ -1,6 +1,6 @@
 // The check of a schedule against its load. The slots are lent as a slice of slot records, the form
-// that the scope asks for by name. Each of the three does little: one takes a slot apart, one is the
-// loop, and one lends the front of an array.
+// that the scope asks for by name. Each of the three does little: one takes a slot apart, one is
+// the loop, and one lends the front of an array.
 ghost use Rattle.std.specs.Prelude.{◌≡◌, ◌<◌, length, get_or};
 ghost use Rattle.rules.specs.Slots.{no_slot};
 ghost use Rattle.schedule.specs.inner.SeenFold.{seen_of};

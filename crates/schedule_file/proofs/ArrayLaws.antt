@@ -65,7 +65,11 @@ module _ (slots : List Slot) (all : length slots ≡ slot_places) (n : ℕ) wher
       let same : count_fault n ≡ count_fault (length firsts) =
       elim (dec_lt most_slots n) [
         | yes l ↦ rw (lt-ltb most_slots n l, lt-ltb most_slots (length firsts) (omega (arith, firsts-length)))
-        | no l ↦ rw (le-ltb most_slots n (omega arith), le-ltb most_slots (length firsts) (omega (arith, firsts-length)))
+        | no l ↦ rw (
+          le-ltb most_slots n (omega arith),
+          le-ltb most_slots (length firsts)
+              (omega (arith, firsts-length)),
+        )
       ] in
       subst (λ finding. Given finding (schedule_bytes firsts) out found after) same g
 
@@ -78,5 +82,6 @@ module _ (slots : List Slot) (all : length slots ≡ slot_places) (n : ℕ) wher
       let file : head_bytes n ++ records_of slots n ≡ schedule_bytes (take n slots) =
       subst (λ k. head_bytes k ++ records_of slots n ≡ schedule_bytes (take n slots)) so-many
       (file-is (take n slots)) in
-      sets_more out after-head after 0 header_size (head_bytes n) (records_of slots n) (omega (arith, head-length n)) p q
+      sets_more out after-head after 0 header_size (head_bytes n) (records_of slots n)
+      (omega (arith, head-length n)) p q
       ∙ ap (sets out 0) (file ∙ ap (λ k. schedule_bytes (take k slots)) (sym taken))

@@ -3,6 +3,5 @@ pub mod FileLaws
 pub mod RoomLaws
 pub mod ArrayLaws
 pub mod GatheredLaws
-pub mod LoopCalls
 pub mod CallLaws
 pub mod WorkedHold

@@ -66,7 +66,8 @@ pub record WorkedCases : Type 0 where
   -- 3 comes before 9: 193 slots into no room
   pub three-first : WriteSchedule (replicate 193 a_slot) [] (Refused OutOfRange) []
   -- what is refused with 3 leaves the output
-  pub three-leaves : WriteSchedule (replicate 193 a_slot) (room_of 5) (Refused OutOfRange) (room_of 5)
+  pub three-leaves : WriteSchedule (replicate 193 a_slot) (room_of 5)
+      (Refused OutOfRange) (room_of 5)
   -- a room of one byte less than the file is refused with 9, and stays
   pub short : WriteSchedule (a_slot ∷ []) (room_of 11) (Refused OutputShort) (room_of 11)
   -- a room of the file's length is enough

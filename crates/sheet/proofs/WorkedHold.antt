@@ -34,10 +34,14 @@ use Rattle.sheet.specs.WorkedUrgent.{WorkedUrgent}
 
 -- to open this is to open all that its line names
 unfoldable pub computing : ℕ
-unfolding join_to join_in sum_to all_to any_to first_to text decimal_to digits_at value_at plain_at first_fault_to chain zero_row
-    zero_load row_tests taken_tests step_tests window_tests check_parts row_fault check_load check_plain mark_among line_of
-    mark_bytes line_bytes field_place mark_at behind_mark is_line line_in next_line line_place lines_in line_tests line_fault
-    lines_fault steps_from dashes_behind windows_of row_of row_place rows_in load_in_sheet sheet_fault read_sheet row_lines
+unfolding join_to join_in sum_to all_to any_to first_to text decimal_to digits_at value_at plain_at first_fault_to
+    chain zero_row
+    zero_load row_tests taken_tests step_tests window_tests check_parts row_fault check_load check_plain
+    mark_among line_of
+    mark_bytes line_bytes field_place mark_at behind_mark is_line line_in next_line line_place lines_in
+    line_tests line_fault
+    lines_fault steps_from dashes_behind windows_of row_of row_place rows_in load_in_sheet sheet_fault
+    read_sheet row_lines
     sheet_bytes sheet_of numbers_read load_b rows_of_one
 computing = 0
 

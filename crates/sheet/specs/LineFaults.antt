@@ -1,7 +1,8 @@
 -- "18 malformed line, or a number of over ten digits; 19 a row's box, phase or deadline differs
 -- between lines; 20 a dash with no window before it or, found at the next line or the end, a window
 -- of one step; in line order, on one line in this order." To be read after Lines. Rests on D87.
-use Rattle.std.specs.Prelude.{ℕ, zero, suc, Bool, true, false, not, ◌&&◌, ◌||◌, List, [], ◌∷◌, eqb, ltb}
+use Rattle.std.specs.Prelude.{ℕ, zero, suc, Bool, true, false, not, ◌&&◌, ◌||◌, List, [], ◌∷◌, eqb}
+use Rattle.std.specs.Prelude.{ltb}
 use Rattle.refusals.specs.declared.Refusal.{Refusal}
 use Rattle.refusals.specs.declared.Refusal.TheVariants.{LineMalformed, RowDiffers, WindowDash}
 use Rattle.refusals.specs.declared.Checked.{Checked}
@@ -65,7 +66,8 @@ goes_on bs n = ltb 0 n && is_same_row (line_from bs 0 n) (line_before bs n)
 unfoldable pub line_fault : List ℕ → ℕ → Checked
 line_fault bs n =
     first_met
-    (line_tests (is_line bs (line_place bs 0 n)) (goes_on bs n) (line_before bs n) (line_from bs 0 n))
+    (line_tests (is_line bs (line_place bs 0 n)) (goes_on bs n) (line_before bs n)
+    (line_from bs 0 n))
 
 -- the end, behind the last line: a window of one step
 abbrev pub end_tests : Line → List (Bool × Refusal)

@@ -2,7 +2,8 @@
 -- numbers are those of the lines, also where they are wider than a load's fields. "Version 1 files
 -- and sheets go on being read, as class 0 and head 1" (2026-05). To be read after LineFaults. Rests
 -- on D87, D88 and D92.
-use Rattle.std.specs.Prelude.{ℕ, zero, suc, ◌+◌, ◌-◌, Bool, not, ◌||◌, List, [], ◌∷◌, ◌++◌, leb, length, replicate}
+use Rattle.std.specs.Prelude.{ℕ, zero, suc, ◌+◌, ◌-◌, Bool, not, ◌||◌, List, [], ◌∷◌, ◌++◌, leb}
+use Rattle.std.specs.Prelude.{length, replicate}
 use Rattle.counting.specs.Lists.{join_to, filled}
 use Rattle.counting.specs.Searches.{first_to}
 use Rattle.load.specs.declared.Step.{Step}

@@ -13,7 +13,8 @@ use Rattle.sheet.specs.WorkedCases.{opens, follows, alone}
 -- so many rows of one line
 unfoldable pub rows_of_one : ℕ → List ℕ
 rows_of_one n =
-    join_to (λ i. decimal (301 + i) ++ text "," ++ decimal (501 + i) ++ sheet_of (",0,9,1,0," ∷ [])) n
+    join_to (λ i. decimal (301 + i) ++ text "," ++ decimal (501 + i)
+    ++ sheet_of (",0,9,1,0," ∷ [])) n
 
 -- sheets that are refused for their load, and beside them what comes first, by their numbers
 pub record WorkedRanges : Type 0 where

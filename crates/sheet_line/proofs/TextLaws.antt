@@ -52,7 +52,8 @@ fields_text numbers n = join_to (λ k. field_bytes (member_at numbers k)) n
 pub fields_text-length-most : (numbers : List ℕ) (n : ℕ) → length (fields_text numbers n) ≤ n * 11
 fields_text-length-most numbers n =
     rw join_to-length
-    (sum_to-le (λ k. length (field_bytes (member_at numbers k))) n 11 (λ k l. field_bytes-length-most (member_at numbers k)))
+    (sum_to-le (λ k. length (field_bytes (member_at numbers k))) n 11
+    (λ k l. field_bytes-length-most (member_at numbers k)))
 
 -- one number more behind a text
 pub fields_text-next : (held so_far after : LineText) (numbers : List ℕ) (k : ℕ)

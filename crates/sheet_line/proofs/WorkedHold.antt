@@ -11,7 +11,8 @@ use Rattle.sheet_line.specs.WorkedCases.{WorkedCases}
 
 -- to open this is to open all that its line names
 unfoldable computing : ℕ
-unfolding all_to first_to text decimal_to digits_at value_at plain_at mark_among line_of mark_bytes line_bytes field_place mark_at
+unfolding all_to first_to text decimal_to digits_at value_at plain_at mark_among line_of mark_bytes line_bytes
+    field_place mark_at
     behind_mark is_line line_in next_line
 computing = 0
 

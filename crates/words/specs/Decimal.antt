@@ -1,6 +1,7 @@
 -- "It prints exactly this": texts as bytes, and whole numbers in plain decimal with no leading
 -- zero. Rests on D38.
-use Rattle.std.specs.Prelude.{ℕ, zero, suc, ◌+◌, ◌/◌, ◌%◌, true, false, List, [], ◌∷◌, ◌++◌, ltb, ℤ, pos, negsuc}
+use Rattle.std.specs.Prelude.{ℕ, zero, suc, ◌+◌, ◌/◌, ◌%◌, true, false, List, [], ◌∷◌, ◌++◌, ltb, ℤ}
+use Rattle.std.specs.Prelude.{pos, negsuc}
 use Prim.Native.Char.{code}
 use Prim.Native.String as quoted
 use Prim.Native.String.{String}

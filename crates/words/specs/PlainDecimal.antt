@@ -1,6 +1,7 @@
 -- "Plain decimal without leading zeros", as it is read: the number that stands at a place of a list
 -- of bytes, of at most ten digits. To be read after Decimal and LittleEndian.
-use Rattle.std.specs.Prelude.{ℕ, zero, suc, ◌+◌, ◌-◌, ◌*◌, Bool, not, cond, ◌&&◌, ◌||◌, List, eqb, leb}
+use Rattle.std.specs.Prelude.{ℕ, zero, suc, ◌+◌, ◌-◌, ◌*◌, Bool, not, cond, ◌&&◌, ◌||◌, List, eqb}
+use Rattle.std.specs.Prelude.{leb}
 use Rattle.counting.specs.Searches.{first_to}
 use Rattle.words.specs.LittleEndian.{byte_at}
 

@@ -130,7 +130,8 @@ module _ (load : Load) (bench : Bench) (board : Board) (shows : Shows load bench
         → handed_on bench (move L s) ≡ handed_with (bench_at bench (bench.clock + 1)) Idle board.opened load.rows
     idle-move q =
         ap (handed_on bench) (move-goes L.cost L s e d h ∙ ap (start_or_idle_by L.cost L s) q)
-        ∙ moved_by-ext Idle (bench_of (ticked s)) (bench_at bench (bench.clock + 1)) _ _ _ _ (sym (ticked-is bench size))
+        ∙ moved_by-ext Idle (bench_of (ticked s)) (bench_at bench (bench.clock + 1)) _ _ _ _
+        (sym (ticked-is bench size))
         (word-is L (ticked s) load.rows (rows_are load bench board shows) board.opened open-ticked)
         (count-is L (ticked s) load.rows (rows_are load bench board shows) board.opened open-ticked)
 

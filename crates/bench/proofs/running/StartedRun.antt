@@ -49,8 +49,10 @@ use Rattle.bench.proofs.running.RunningLaws.{Running, running-early, running_mor
 
 -- none of the numbers by which a row is looked up anew counts as less
 pub started-look : (row : Row) (board : Board) (clock i finished end opening : ℕ) → CanStart board clock i
-    → finished ≡ (look_in board i).finished + 1 → end ≡ clock + (look_in board i).cost → opening ≡ opening_in board clock i
-    → look_by row (min finished most_steps) (min end last_moment) (min opening last_moment) ≡ look_after row board clock i
+    → finished ≡ (look_in board i).finished + 1 → end ≡ clock + (look_in board i).cost → opening
+    ≡ opening_in board clock i
+    → look_by row (min finished most_steps) (min end last_moment) (min opening last_moment)
+    ≡ look_after row board clock i
 started-look row board clock i finished end opening can d e f =
     let look = look_in board i in
     let early : clock ≤ last_moment = omega (arith, can.ends) in

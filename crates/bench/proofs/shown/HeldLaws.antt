@@ -55,12 +55,14 @@ held-ends bench h i l =
     }
 
 -- what is stored in 24 places and read again
-member_at-list_to : (f : ℕ → ℕ) → ((i : ℕ) → most_rows ≤ i → f i ≡ 0) → (i : ℕ) → member_at (list_to f most_rows) i ≡ f i
+member_at-list_to : (f : ℕ → ℕ) → ((i : ℕ) → most_rows ≤ i → f i ≡ 0) → (i : ℕ)
+    → member_at (list_to f most_rows) i ≡ f i
 member_at-list_to f past i =
     elim (dec_lt i most_rows) [
       | yes l ↦ get_or-list_to f most_rows i 0 l
       | no l ↦
-          member_at-past (list_to f most_rows) i (omega (arith, list_to-length f most_rows)) ∙ sym (past i (omega arith))
+          member_at-past (list_to f most_rows) i (omega (arith, list_to-length f most_rows))
+          ∙ sym (past i (omega arith))
     ]
 
 pub state_of-bench_of : (s : State) → Ends s → state_of (bench_of s) ≡ s

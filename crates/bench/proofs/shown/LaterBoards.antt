@@ -35,7 +35,8 @@ look-same : (load : Load) (bench bench' : Bench) (k : ℕ) → get_or bench'.fin
     → look_of (view_of load) (state_of bench) k ≡ look_of (view_of load) (state_of bench') k
 look-same load bench bench' k e f g =
     sym (look-of-row load bench k)
-    ∙ sym (ap₂ (λ a b. look_by (row_at load k) a b (get_or bench'.opening k 0)) e f ∙ ap (look_by (row_at load k) _ _) g)
+    ∙ sym (ap₂ (λ a b. look_by (row_at load k) a b (get_or bench'.opening k 0)) e f
+    ∙ ap (look_by (row_at load k) _ _) g)
     ∙ look-of-row load bench' k
 
 module _ (load : Load) (bench : Bench) (board : Board) (shows : Shows load bench board) where

@@ -11,11 +11,15 @@ good : (c : In-Good) → check_load c.args.load ≡ Good
 good c = sym c.check_load-found.ensures ∙ c.in-Good.is
 
 pub place_waits-places-requires : goal.place_waits-places-requires
-place_waits-places-requires c = (check-acceptable c.args.load (good (goal.at.place_waits-places-requires c).In-Good), refl)
+place_waits-places-requires c =
+    (check-acceptable c.args.load (good (goal.at.place_waits-places-requires c).In-Good), refl)
 
 pub load_answers-answered-requires : goal.load_answers-answered-requires
-load_answers-answered-requires c =
-    (check-acceptable c.args.load (good (goal.at.load_answers-answered-requires c).In-Good), refl, c.place_waits-places.ensures)
+load_answers-answered-requires c = (
+  check-acceptable c.args.load (good (goal.at.load_answers-answered-requires c).In-Good),
+  refl,
+  c.place_waits-places.ensures,
+)
 
 pub returns-in-Good : goal.returns-in-Good
 returns-in-Good c =

@@ -14,7 +14,8 @@ place_waits-requires c = (check-acceptable c.args.load (good (goal.at.place_wait
 
 pub returns-in-Good : goal.returns-in-Good
 returns-in-Good c =
-    rw (good (goal.at.returns-in-Good c).In-Good) (ap (λ places. record { answer = Good; places = places }) c.place_waits.ensures)
+    rw (good (goal.at.returns-in-Good c).In-Good)
+    (ap (λ places. record { answer = Good; places = places }) c.place_waits.ensures)
 
 pub returns-in-Refused : goal.returns-in-Refused
 returns-in-Refused c = rw (sym c.check_load-found.ensures ∙ c.in-Refused.is)

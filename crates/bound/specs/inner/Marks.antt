@@ -1,6 +1,7 @@
 -- The rows marked at a place: those that have a free step there, and those whose costs there are
 -- taken; and what is left of the waits there.
-use Rattle.std.specs.Prelude.{ℕ, ◌-◌, ◌≤◌, ◌<◌, Bool, true, false, cond, ◌&&◌, not, List, ◌≡◌, eqb, ltb}
+use Rattle.std.specs.Prelude.{ℕ, ◌-◌, ◌≤◌, ◌<◌, Bool, true, false, cond, ◌&&◌, not, List, ◌≡◌, eqb}
+use Rattle.std.specs.Prelude.{ltb}
 use Rattle.counting.specs.Sums.{max_to}
 use Rattle.counting.specs.Lists.{filled, is_marked}
 use Rattle.counting.specs.Searches.{first_largest}

@@ -125,7 +125,8 @@ module _ (f g : ℕ → ℕ) (p : ℕ → Bool) where
       same a (no h) = rw (lt-ltb a (t + 1) (omega arith), le-leb a t (omega arith))
 
   -- where the first member of every pair is at most t, at least r are
-  pub count_to-pairs_up_to-le : (n t : ℕ) → ((k : ℕ) → k < n → p k ≡ true → f k ≤ t) → count_to p n ≤ pairs_up_to f g p n t
+  pub count_to-pairs_up_to-le : (n t : ℕ) → ((k : ℕ) → k < n → p k ≡ true → f k ≤ t) → count_to p n
+      ≤ pairs_up_to f g p n t
   unfolding pair_total
   count_to-pairs_up_to-le n t h =
       sum_to-mono (λ k. bit (p k)) (λ k. cond (p k) (bit (leb (f k) t) + bit (leb (g k) t)) 0) n

@@ -115,7 +115,8 @@ any_to-false p (suc n) h i l =
 pub false-any_to : (p : ℕ → Bool) (n : ℕ) → ((i : ℕ) → i < n → p i ≡ false) → any_to p n ≡ false
 unfolding any_to
 false-any_to p zero h = refl
-false-any_to p (suc n) h = or-neither (any_to p n) (p n) (false-any_to p n (λ i l. h i (omega arith))) (h n (omega arith))
+false-any_to p (suc n) h =
+    or-neither (any_to p n) (p n) (false-any_to p n (λ i l. h i (omega arith))) (h n (omega arith))
 
 -- one number that has p is enough
 pub true-any_to : (p : ℕ → Bool) (n k : ℕ) → k < n → p k ≡ true → any_to p n ≡ true

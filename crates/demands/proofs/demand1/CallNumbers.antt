@@ -152,7 +152,8 @@ load_gives load =
     (then-gives of_load _ _
     (faults_to-give of_load (λ i. row_fault load i (row_at load i)) (λ i. row_gives load i (row_at load i)) load.rows)
     (last-gives of_load _
-    (Gives-more of_range of_load refl _ (zeros-give (all_from (λ i. is_zero_row (row_at load i)) load.rows most_rows)))))
+    (Gives-more of_range of_load refl _
+    (zeros-give (all_from (λ i. is_zero_row (row_at load i)) load.rows most_rows)))))
 
 pub plain-gives : (load : Load) → Gives of_plain (check_plain load)
 unfolding check_plain any_in
@@ -174,7 +175,8 @@ file-row-gives bs i place =
     (steps_said bs place))
     (last-gives of_file _
     (faults_to-give of_file (window_fault_in bs place)
-    (λ k. tests-give of_file (due_tests window_kind bs (window_place bs place k) ++ window_tests (row_from bs place) k) refl)
+    (λ k. tests-give of_file (due_tests window_kind bs (window_place bs place k)
+    ++ window_tests (row_from bs place) k) refl)
     (windows_said bs place))))
 
 pub file-gives : (bs : List ℕ) → Gives of_file (read_load bs).answer

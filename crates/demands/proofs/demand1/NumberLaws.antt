@@ -46,7 +46,8 @@ module _ (numbers : List ℕ) where
   pub last-gives : (a : Checked) → Gives numbers a → Gives numbers (and_then a Good)
   last-gives = last-passes (gives numbers) good-gives
 
-  pub faults_to-give : (f : ℕ → Checked) → ((i : ℕ) → Gives numbers (f i)) → (n : ℕ) → Gives numbers (first_fault_to f n)
+  pub faults_to-give : (f : ℕ → Checked) → ((i : ℕ) → Gives numbers (f i)) → (n : ℕ)
+      → Gives numbers (first_fault_to f n)
   faults_to-give f each n = first_fault_to-passes (gives numbers) good-gives f n (λ i l. each i)
 
 -- numbers that are all among others

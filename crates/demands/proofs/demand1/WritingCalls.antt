@@ -57,7 +57,8 @@ given-gives numbers finding answer out found after nine f g =
     (tests-give numbers ((ltb (length out) (length answer), OutputShort) ∷ []) (rw nine)))).passes
 
 -- one of some numbers is one of them and 9
-with-nine : (numbers : List ℕ) (found : Checked) → each_among (numbers ++ of_output) numbers ≡ true → Gives numbers found
+with-nine : (numbers : List ℕ) (found : Checked) → each_among (numbers ++ of_output) numbers ≡ true
+    → Gives numbers found
     → Gives (numbers ++ of_output) found
 with-nine numbers found each g =
     record { passes = OneOf-more numbers (numbers ++ of_output) each (number_given found) g.passes }
@@ -97,7 +98,8 @@ pub slots-written-give : (slots : List Slot) (out : List ℕ) (r : Checked) (aft
     → WriteSchedule slots out r after → OneOf of_slot_writing (number_given r)
 unfolding any_in
 slots-written-give slots out r after g =
-    given-gives of_slot_writing (slots_fault slots) (schedule_bytes slots) out r after refl (count_gives (length slots)) g
+    given-gives of_slot_writing (slots_fault slots) (schedule_bytes slots) out r after refl
+    (count_gives (length slots)) g
 
 pub c-gives : (answer : View → List ℕ) (bs out : List ℕ) (r : ℕ) (after : List ℕ) → ForC answer bs out r after
     → OneOf of_c r

@@ -37,7 +37,9 @@ use Rattle.demands.specs.Notation.{pairs, hex, bytes_of, lines_of}
 -- to open this is to open all that its line names
 unfoldable pub computing : ℕ
 unfolding computing_rules number_at text decimal_to zero_load row_bytes load_bytes row_with row_from row_place load_in
-    header_tests step_fault_in window_fault_in own_fault row_fault_at end_tests file_fault read_load fresh state_after_by starts_by
-    schedule_by last_end schedule_bytes spaced first_line_of load_line row_line_of row_line slot_line load_lines refused_line
+    header_tests step_fault_in window_fault_in own_fault row_fault_at end_tests file_fault read_load fresh
+    state_after_by starts_by
+    schedule_by last_end schedule_bytes spaced first_line_of load_line row_line_of row_line slot_line
+    load_lines refused_line
     printed_by pairs hex bytes_of lines_of
 computing = 0

@@ -10,7 +10,8 @@ use Rattle.demands.specs.SheetsToTry.{sheet_a, SheetsToTry}
 use Rattle.demands.proofs.loads.Computing.{computing}
 
 pub sheets-hold : SheetsToTry
-unfolding computing computing_sheets load_a load_b load_b9 load_phase8 load_phase7 load_unequal load_waits0 load_empty sheet_a
+unfolding computing computing_sheets load_a load_b load_b9 load_phase8 load_phase7 load_unequal load_waits0
+    load_empty sheet_a
 sheets-hold =
     record {
       a = record { exports = refl; reads = refl };

@@ -48,7 +48,8 @@ module _ (load : Load) (accepted : check_load load ≡ Good) (bench : Bench) (he
       (record {
         state-is =
             after_is bench mine.outcome mine.then
-            (move-ends (view_of load) (state_of bench) (check-acceptable load accepted).rows-most (held-ends bench held))
+            (move-ends (view_of load) (state_of bench) (check-acceptable load accepted).rows-most
+            (held-ends bench held))
             (λ refusal e. ap (λ (m : Move). m.then) (move-alone (view_of load) (state_of bench) refusal e));
         outcome-is = refl;
         lamps-are = refl;

@@ -104,7 +104,8 @@ module _ (bs : List ℕ) (i at : ℕ) where
       (due-good (row_kind (version_said bs)) bs at r.due)
       r.fields-good in
       let own =
-      append-good-both (due_tests (row_kind (version_said bs)) bs at ++ row_tests row) (taken_tests (load_in bs) i row) fields
+      append-good-both (due_tests (row_kind (version_said bs)) bs at ++ row_tests row)
+      (taken_tests (load_in bs) i row) fields
       r.taken-good in
       let steps =
       good-first_fault_to (step_fault_in bs at) (steps_said bs at)
@@ -151,7 +152,8 @@ module _ (bs : List ℕ) where
         each_row = λ i l. row_fault_at-good bs i (row_place bs i) (row i l);
         end-due =
             good-due end_kind bs (end_place bs)
-            (append-good-first (due_tests end_kind bs (end_place bs)) (drop 3 (end_tests bs (end_place bs))) (finding 2));
+            (append-good-first (due_tests end_kind bs (end_place bs)) (drop 3 (end_tests bs (end_place bs)))
+            (finding 2));
         count-is = differs_false said count (tail 3);
         no_more = ltb-false (end_place bs + 4) (length bs) (tail 4);
       }

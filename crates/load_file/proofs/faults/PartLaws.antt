@@ -30,7 +30,8 @@ use Rattle.load_file.specs.inner.ReadingSteps.{steps_from, windows_from, own_fie
 module _ (bs : List ℕ) (at : ℕ) where
   -- of a row whose steps are read, the tests of a step and of a window are those of the row
   pub step_tests-read : (j : ℕ) → j < steps_said bs at
-      → step_tests (row_from bs at) j ≡ step_numbers (step_in bs (step_place bs at j)) (eqb (shown j) (steps_said bs at))
+      → step_tests (row_from bs at) j
+      ≡ step_numbers (step_in bs (step_place bs at j)) (eqb (shown j) (steps_said bs at))
   unfolding step_tests row_from row_with
   step_tests-read j l =
       ap (λ s. step_numbers s (eqb (shown j) (steps_said bs at)))
@@ -75,7 +76,8 @@ module _ (bs : List ℕ) (at : ℕ) where
   -- what is found of a step's record is the fault of that step
   pub step_fault-read : (from count j : ℕ) → from ≡ at + (row_kind (version_said bs)).size → count ≡ steps_said bs at
       → j < count
-      → first_met (due_tests step_kind bs (from + 6 * j) ++ step_numbers (step_in bs (from + 6 * j)) (eqb (shown j) count))
+      → first_met (due_tests step_kind bs (from + 6 * j)
+      ++ step_numbers (step_in bs (from + 6 * j)) (eqb (shown j) count))
       ≡ step_fault_in bs at j
   unfolding step_fault_in
   step_fault-read from count j place said l =
@@ -99,14 +101,16 @@ module _ (bs : List ℕ) (at : ℕ) where
   unfolding window_tests row_from row_with
   window_tests-read from k place l =
       ap₂ (window_numbers (row_from bs at))
-      (get_or-filled (λ k. window_in bs (window_place bs at k)) (windows_said bs at) most_windows k no_window no_window l)
+      (get_or-filled (λ k. window_in bs (window_place bs at k))
+      (windows_said bs at) most_windows k no_window no_window l)
       (last_before-read from k place l)
 
   -- what is found of a window's record is the fault of that window
   pub window_fault-read : (from k before : ℕ) → from ≡ step_place bs at (steps_said bs at) → k < windows_said bs at
       → before ≡ last_in bs from k
       → first_met
-      (due_tests window_kind bs (from + 6 * k) ++ window_numbers (with_steps bs at) (window_in bs (from + 6 * k)) before)
+      (due_tests window_kind bs (from + 6 * k)
+      ++ window_numbers (with_steps bs at) (window_in bs (from + 6 * k)) before)
       ≡ window_fault_in bs at k
   unfolding window_fault_in
   window_fault-read from k before place l e =

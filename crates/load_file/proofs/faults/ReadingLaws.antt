@@ -96,7 +96,8 @@ module _ (bs : List ℕ) (i : ℕ) (identifiers : List Identifier) (boxes : List
       (any_to-ext _ _ i
       (λ k l.
       ap (λ x. eqb x.0 identifier.0)
-      (get_or-filled (λ k. (row_from bs (row_place bs k)).identifier) i most_rows k (record { 0 = 0 }) (record { 0 = 0 }) l
+      (get_or-filled (λ k. (row_from bs (row_place bs k)).identifier) i most_rows k (record { 0 = 0 })
+      (record { 0 = 0 }) l
       ∙ sym (ap (λ row. row.identifier) (row_at-read bs k (omega arith))))))
 
   pub box_taken-before : (box : BoxNumber)
@@ -106,7 +107,8 @@ module _ (bs : List ℕ) (i : ℕ) (identifiers : List Identifier) (boxes : List
       (any_to-ext _ _ i
       (λ k l.
       ap (λ x. eqb x.0 box.0)
-      (get_or-filled (λ k. (row_from bs (row_place bs k)).box_number) i most_rows k (record { 0 = 0 }) (record { 0 = 0 }) l
+      (get_or-filled (λ k. (row_from bs (row_place bs k)).box_number) i most_rows k (record { 0 = 0 })
+      (record { 0 = 0 }) l
       ∙ sym (ap (λ row. row.box_number) (row_at-read bs k (omega arith))))))
 
 module _ (bs : List ℕ) (at : ℕ) where

@@ -43,7 +43,8 @@ use Rattle.load_file.specs.Places.{
   load_in,
   row_with,
 }
-use Rattle.load_file.specs.Reading.{header_tests, row_fault_at, row_fault_in, end_tests, file_fault, read_load, own_fault}
+use Rattle.load_file.specs.Reading.{header_tests, row_fault_at, row_fault_in, end_tests, file_fault, read_load}
+use Rattle.load_file.specs.Reading.{own_fault}
 use Rattle.load_file.specs.inner.ReadingSteps.{RowsBefore, read_row, rows_fault, read_rows}
 use Rattle.load_file.proofs.faults.ReadingLaws.{row_fault_at-parts, own-steps-le, own-windows-le, steps_in_all-read}
 
@@ -202,7 +203,8 @@ module _ {bs : List ℕ} {i : ℕ} {identifiers : List Identifier} {boxes : List
     pub end-decides : {c : Checked} → c ≡ first_met (end_tests bs at) → c ≡ rows_fault bs
     end-decides found =
         found ∙ ap (λ at. first_met (end_tests bs at)) end-place
-        ∙ sym (rows_fault-parts bs ∙ rw rows-good (and_then-last (first_met (end_tests bs (row_place bs (rows_said bs))))))
+        ∙ sym (rows_fault-parts bs
+        ∙ rw rows-good (and_then-last (first_met (end_tests bs (row_place bs (rows_said bs))))))
 
     -- and where it is Good, the rows are those of the file
     pub reading-good : {answer : Checked} (count : ℕ) → count ≡ rows_said bs → answer ≡ rows_fault bs → answer ≡ Good

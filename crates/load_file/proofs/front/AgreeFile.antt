@@ -101,7 +101,8 @@ module _ (bs cs : List ℕ) (a : Agree (most_file_bytes + 1) bs cs) where
       (and_then-good-second (first_fault_to (row_fault_in bs) i) (row_fault_in bs i) good)
 
   -- row i of both files, where the rows before it are Good
-  module _ (i : ℕ) (l : i < rows_said bs) (few : rows_said bs ≤ most_rows) (before : first_fault_to (row_fault_in bs) i ≡ Good)
+  module _ (i : ℕ) (l : i < rows_said bs) (few : rows_said bs ≤ most_rows)
+      (before : first_fault_to (row_fault_in bs) i ≡ Good)
     where
       at : ℕ
       at = row_place bs i
@@ -112,7 +113,8 @@ module _ (bs cs : List ℕ) (a : Agree (most_file_bytes + 1) bs cs) where
       earlier : (k : ℕ) → k < i → Placed bs cs k
       earlier k h =
           placed k (omega arith)
-          (good-first_fault_to (row_fault_in bs) k (λ j m. first_fault_to-good (row_fault_in bs) i before j (omega arith)))
+          (good-first_fault_to (row_fault_in bs) k
+          (λ j m. first_fault_to-good (row_fault_in bs) i before j (omega arith)))
 
       -- what earlier rows hold
       identifier-earlier : (k : ℕ) → k < i → (row_at (load_in bs) k).identifier ≡ (row_at (load_in cs) k).identifier
@@ -199,7 +201,8 @@ module _ (bs cs : List ℕ) (a : Agree (most_file_bytes + 1) bs cs) where
             first_fault_to-ext (window_fault_in bs at) (window_fault_in cs at) (windows_said bs at)
             (λ k h.
             ap₂ (λ d row. first_met (d ++ window_tests row k))
-            (due_tests-agree _ bs cs a window_kind (window_place bs at k) (omega (arith, row_kind-most (version_said bs)))
+            (due_tests-agree _ bs cs a window_kind (window_place bs at k)
+            (omega (arith, row_kind-most (version_said bs)))
             (omega arith)
             ∙ ap (due_tests window_kind cs) (window_place-agree _ bs cs a at whole steps-most windows-most k))
             row-agree)

@@ -132,15 +132,18 @@ module _ (n : ℕ) (bs cs : List ℕ) (a : Agree n bs cs) where
     steps-agree : filled (λ j. step_in bs (step_place bs at j)) (steps_said bs at) most_steps no_step
         ≡ filled (λ j. step_in cs (step_place cs at j)) (steps_said cs at) most_steps no_step
     steps-agree =
-        filled-ext (λ j. step_in bs (step_place bs at j)) (λ j. step_in cs (step_place cs at j)) (steps_said bs at) most_steps
+        filled-ext (λ j. step_in bs (step_place bs at j)) (λ j. step_in cs (step_place cs at j))
+        (steps_said bs at) most_steps
         no_step
         (λ j l. step_in-agree (step_place bs at j) (omega (arith, size-most)) ∙ ap (step_in cs) (step_place-agree j))
-        ∙ ap (λ m. filled (λ j. step_in cs (step_place cs at j)) m most_steps no_step) (steps_said-agree at (omega arith))
+        ∙ ap (λ m. filled (λ j. step_in cs (step_place cs at j)) m most_steps no_step)
+        (steps_said-agree at (omega arith))
 
     windows-agree : filled (λ k. window_in bs (window_place bs at k)) (windows_said bs at) most_windows no_window
         ≡ filled (λ k. window_in cs (window_place cs at k)) (windows_said cs at) most_windows no_window
     windows-agree =
-        filled-ext (λ k. window_in bs (window_place bs at k)) (λ k. window_in cs (window_place cs at k)) (windows_said bs at)
+        filled-ext (λ k. window_in bs (window_place bs at k)) (λ k. window_in cs (window_place cs at k))
+        (windows_said bs at)
         most_windows no_window
         (λ k l.
         window_in-agree (window_place bs at k) (omega (arith, size-most)) ∙ ap (window_in cs) (window_place-agree k))

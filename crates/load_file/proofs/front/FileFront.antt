@@ -39,7 +39,8 @@ module _ (bs cs : List ℕ) (a : Agree (most_file_bytes + 1) bs cs) where
   header-agree : header_tests bs ≡ header_tests cs
   unfolding header_tests
   header-agree =
-      ap (λ due. due ++ (not (is_version (version_said bs)), MarkDiffers) ∷ (ltb most_rows (rows_said bs), OutOfRange) ∷ [])
+      ap (λ due. due ++ (not (is_version (version_said bs)), MarkDiffers)
+      ∷ (ltb most_rows (rows_said bs), OutOfRange) ∷ [])
       (due_tests-agree _ bs cs a header_kind 0 (omega arith) (omega arith))
       ∙ ap₂
       (λ v r. due_tests header_kind cs 0 ++ (not (is_version v), MarkDiffers) ∷ (ltb most_rows r, OutOfRange) ∷ [])
@@ -95,7 +96,8 @@ module _ (bs cs : List ℕ) (a : Agree (most_file_bytes + 1) bs cs) where
   file-agree =
       and_then-agree (first_met (header_tests bs)) (first_met (header_tests cs)) _ _ (ap first_met header-agree)
       (λ head.
-      and_then-agree (first_fault_to (row_fault_in bs) (rows_said bs)) (first_fault_to (row_fault_in cs) (rows_said cs)) _ _
+      and_then-agree (first_fault_to (row_fault_in bs) (rows_said bs))
+      (first_fault_to (row_fault_in cs) (rows_said cs)) _ _
       (rows_agree (header-rows-le bs head))
       (λ rows. ap (λ ts. and_then (first_met ts) Good) (ends-agree (header-rows-le bs head) rows)))
 

@@ -161,7 +161,12 @@ module _ (bs : List ℕ) (load : Load) where
       let at-end =
       end-place (joined-place (λ i. row_bytes (version_said bs) (row_at load i)) (row_place bs) load.rows behind) in
       stands-whole (head ++ rows_bytes ++ tail) bs
-      (omega (arith, f.no_more, length-append (head ++ rows_bytes) tail, end_record-length (steps_in_all (view_of load))))
+      (omega (
+        arith,
+        f.no_more,
+        length-append (head ++ rows_bytes) tail,
+        end_record-length (steps_in_all (view_of load)),
+      ))
       (append-stands (head ++ rows_bytes) tail bs 0 (row_place bs load.rows) at-end
       (append-stands head rows_bytes bs 0 4 refl f.header
       (joined-stands (λ i. row_bytes (version_said bs) (row_at load i)) (row_place bs) bs load.rows behind

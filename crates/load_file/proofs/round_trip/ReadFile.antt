@@ -82,7 +82,8 @@ module _ (bs : List ℕ) (b : Bytes bs) (f : FileAccepted bs) where
       check : check_load (load_in bs) ≡ Good
       check = good-check_load (load_in bs) read-good
 
-      go : (b : Bool) → carries (version_said bs) ≡ b → cond b (check_load (load_in bs)) (check_plain (load_in bs)) ≡ Good
+      go : (b : Bool) → carries (version_said bs) ≡ b
+          → cond b (check_load (load_in bs)) (check_plain (load_in bs)) ≡ Good
       go true e = check
       go false e =
           good-check_plain (load_in bs)

@@ -79,7 +79,8 @@ module _ (bs : List ℕ) (at : ℕ) where
   window-unused : (k : ℕ) → windows_said bs at ≤ k → k < most_windows → window_at (row_from bs at) k ≡ no_window
   unfolding row_from row_with
   window-unused k from l =
-      get_or-unfilled (λ k. window_in bs (window_place bs at k)) (windows_said bs at) most_windows k no_window no_window from l
+      get_or-unfilled (λ k. window_in bs (window_place bs at k)) (windows_said bs at) most_windows k no_window
+      no_window from l
 
   window-used : (k : ℕ) → k < windows_said bs at → window_at (row_from bs at) k ≡ window_in bs (window_place bs at k)
   unfolding row_from row_with

@@ -1,6 +1,7 @@
 -- What the parts of the reading call give: definitions that its private functions cite, and no
 -- public contract. To be read after Reading.
-use Rattle.std.specs.Prelude.{ℕ, zero, suc, ◌+◌, ◌*◌, ◌≤◌, List, [], ◌∷◌, ◌++◌, ◌≡◌, get_or, replicate}
+use Rattle.std.specs.Prelude.{ℕ, zero, suc, ◌+◌, ◌*◌, ◌≤◌, List, [], ◌∷◌, ◌++◌, ◌≡◌, get_or}
+use Rattle.std.specs.Prelude.{replicate}
 use Rattle.counting.specs.Lists.{filled}
 use Rattle.refusals.specs.declared.Checked.{Checked}
 use Rattle.refusals.specs.FirstMet.{first_met, first_fault, first_fault_to}
@@ -10,7 +11,8 @@ use Rattle.load.specs.declared.BoxNumber.{BoxNumber}
 use Rattle.load.specs.declared.Step.{Step}
 use Rattle.load.specs.declared.Window.{Window}
 use Rattle.load.specs.declared.Row.{Row}
-use Rattle.load.specs.Load.{most_rows, most_steps, most_windows, no_step, no_window, zero_row, zero_load}
+use Rattle.load.specs.Load.{most_rows, most_steps, most_windows, no_step, no_window, zero_row}
+use Rattle.load.specs.Load.{zero_load}
 use Rattle.load.specs.Faults.{row_tests, taken_tests}
 use Rattle.load_records.specs.Records.{Kind, row_kind, step_kind, window_kind}
 use Rattle.load_file.specs.declared.Reading.{Reading}
@@ -79,7 +81,11 @@ parts_fault bs at = first_fault (steps_fault bs at ∷ windows_fault bs at ∷ [
 -- what reading the parts of the row at a place gives: a refused row is the row of zeros
 unfoldable pub read_parts : List ℕ → ℕ → RowReading
 read_parts bs at =
-    record { answer = parts_fault bs at; row = if_good (parts_fault bs at) (row_from bs at) zero_row }
+    record {
+      answer = parts_fault bs at;
+      row =
+          if_good (parts_fault bs at) (row_from bs at) zero_row;
+    }
 
 -- what reading row i at a place gives: a refused row is the row of zeros
 unfoldable pub read_row : List ℕ → ℕ → ℕ → RowReading
@@ -99,4 +105,8 @@ rows_fault bs =
 
 -- what reading a file behind its header gives
 unfoldable pub read_rows : List ℕ → Reading
-read_rows bs = record { answer = rows_fault bs; load = if_good (rows_fault bs) (load_in bs) zero_load }
+read_rows bs = record {
+  answer = rows_fault bs;
+  load =
+      if_good (rows_fault bs) (load_in bs) zero_load;
+}

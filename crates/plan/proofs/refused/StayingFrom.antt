@@ -63,7 +63,8 @@ module _ (board : Board) (rows i : ℕ) (below : i < rows) (long : PlaceIn board
   walked =
       walk_in (asked_in board) i (own_at board i clock) (stack_of board rows) 0 (clock + (look_in board i).cost) 0
 
-  came : Came (asked_in board) i (own_at board i clock) (stack_of board rows) 0 (clock + (look_in board i).cost) 0 walked
+  came : Came (asked_in board) i (own_at board i clock) (stack_of board rows) 0 (clock
+      + (look_in board i).cost) 0 walked
   came =
       walk-came (asked_in board) i (own_at board i clock) (stack_of board rows) 0 (clock + (look_in board i).cost) 0
 
@@ -96,7 +97,8 @@ module _ (board : Board) (rows i : ℕ) (below : i < rows) (long : PlaceIn board
   module _ (e : walked.late ≡ false) where
     end_is : end ≡ finished
     end_is =
-        ap (λ t. max t (clock + (look_in board i).cost + (look_in board i).wait) + (look_in board i).rest) (came.time-is e)
+        ap (λ t. max t (clock + (look_in board i).cost + (look_in board i).wait) + (look_in board i).rest)
+        (came.time-is e)
 
     behind : FirstBehind (asked_in board) i (own_at board i clock) (others_in i (drop gone (stack_of board rows)))
     behind = stands-behind (asked_in board) i (own_at board i clock) (drop gone (stack_of board rows)) (came.behind e)
@@ -184,7 +186,8 @@ module _ (board : Board) (rows i : ℕ) (below : i < rows) (long : PlaceIn board
       go false e =
           elim (dec_lt (own_at board i clock) end) [
             | yes h ↦
-                rw (stays_until-own (asked_in board) (stack_of board rows) i (stay_in board i clock) walked refl e end refl
+                rw (stays_until-own (asked_in board) (stack_of board rows) i
+                (stay_in board i clock) walked refl e end refl
                 h)
                 (own-from e h (look_in board i).opened refl
                 (ltb (look_in board i).limit ((look_in board i).cost + (look_in board i).rest + walked.work)) refl)

@@ -106,7 +106,8 @@ module _ (board : Board) (rows i : ℕ) (below : i < rows) (long : PlaceIn board
           held-refused board rows i below long clock most stays held
           (sym from_zero
           ∙ refused-before (asked_in board) (jobs_after board clock i) i 0 0 (clock + cost) wait rest
-          (own_at board i clock) (own_at board i clock) (opens-from board rows i below long clock) (omega arith) pre post
+          (own_at board i clock) (own_at board i clock) (opens-from board rows i below long clock)
+          (omega arith) pre post
           apart ahead-zero (rw (zero-add (clock + cost)) late))
 
       pub held-own : own_at board i clock < end → PassesFrom board clock rows i never
@@ -114,7 +115,8 @@ module _ (board : Board) (rows i : ℕ) (below : i < rows) (long : PlaceIn board
           held-refused board rows i below long clock most stays held
           (sym from_zero
           ∙ refused-own (asked_in board) (jobs_after board clock i) i 0 0 (clock + cost) wait rest
-          (own_at board i clock) (own_at board i clock) (opens-from board rows i below long clock) (omega arith) pre post
+          (own_at board i clock) (own_at board i clock) (opens-from board rows i below long clock)
+          (omega arith) pre post
           apart ahead-zero (rw (zero-add (clock + cost), zero-add (own_at board i clock)) late))
 
       pub held-behind : FirstBehind (asked_in board) i (own_at board i clock) post
@@ -123,7 +125,8 @@ module _ (board : Board) (rows i : ℕ) (below : i < rows) (long : PlaceIn board
           held-refused board rows i below long clock most stays held
           (sym from_zero
           ∙ refused-behind (asked_in board) (jobs_after board clock i) i 0 0 (clock + cost) wait rest
-          (own_at board i clock) (own_at board i clock) (opens-from board rows i below long clock) (omega arith) pre post
+          (own_at board i clock) (own_at board i clock) (opens-from board rows i below long clock)
+          (omega arith) pre post
           apart ahead-zero apart-behind (rw (zero-add (own_at board i clock)) first)
           (rw (zero-add (clock + cost)) late))
 

@@ -1,6 +1,7 @@
 -- The search for the next start: the lowest unfinished step, the step numbers that are tried, and
 -- until when each row is known to be refused. To be read after Passing.
-use Rattle.std.specs.Prelude.{ℕ, ◌+◌, min, ◌≤◌, ◌<◌, Bool, true, false, ◌&&◌, ◌||◌, List, ◌≡◌, eqb, leb, ltb, length}
+use Rattle.std.specs.Prelude.{ℕ, ◌+◌, min, ◌≤◌, ◌<◌, Bool, true, false, ◌&&◌, ◌||◌, List, ◌≡◌, eqb}
+use Rattle.std.specs.Prelude.{leb, ltb, length}
 use Rattle.counting.specs.Sums.{all_to}
 use Rattle.counting.specs.Lists.{member_at, is_marked}
 use Rattle.load.specs.Load.{most_rows, most_steps, last_moment}

@@ -1,6 +1,7 @@
 -- The open rows in the stack's order, gone over one after the other, but for the row whose step is
 -- tried. To be read after Passing.
-use Rattle.std.specs.Prelude.{ℕ, ◌+◌, ◌≤◌, ◌<◌, Bool, true, false, cond, not, ◌&&◌, ◌||◌, List, [], ◌∷◌, ◌≡◌, eqb, leb, ltb, length, take, drop}
+use Rattle.std.specs.Prelude.{ℕ, ◌+◌, ◌≤◌, ◌<◌, Bool, true, false, cond, not, ◌&&◌, ◌||◌, List, []}
+use Rattle.std.specs.Prelude.{◌∷◌, ◌≡◌, eqb, leb, ltb, length, take, drop}
 use Rattle.counting.specs.Lists.{member_at, keep_in}
 use Rattle.load.specs.Load.{most_rows}
 use Rattle.rules.specs.Plan.{Jobs, finish}

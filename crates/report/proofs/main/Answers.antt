@@ -13,7 +13,8 @@ there : (c : After-answer-text) → c.answer-text.result.length ≤ length c.ans
 there c =
     let file = c.read_full-size.new.buffer in
     let size = c.read_full-size.result in
-    text-length-le (printed (take size file)) _ (c.answer-text.ensures _ (first-whole file size c.read_full-size.ensures))
+    text-length-le (printed (take size file)) _
+    (c.answer-text.ensures _ (first-whole file size c.read_full-size.ensures))
 
 pub slice_bounds-bytes-end : goal.slice_bounds-bytes-end
 slice_bounds-bytes-end c = there (goal.at.slice_bounds-bytes-end c).After-answer-text

@@ -80,7 +80,8 @@ module _ (f g : ℕ → LargestW) (n : ℕ) (same : (j : ℕ) → j < n → f j 
       (first_largest-ext (λ j. (f j).left) (λ j. (g j).left) n (λ j l. ap (λ (w : LargestW). w.left) (same j l)))
 
   -- places from n on that have no W
-  pub blame_among-shorter : (k : ℕ) → n ≤ k → ((j : ℕ) → n ≤ j → j < k → (f j).left ≡ 0) → blame_among f k ≡ blame_among g n
+  pub blame_among-shorter : (k : ℕ) → n ≤ k → ((j : ℕ) → n ≤ j → j < k → (f j).left ≡ 0) → blame_among f k
+      ≡ blame_among g n
   blame_among-shorter k h zeros =
       alike k
       (first_largest-shorter (λ j. (f j).left) (λ j. (g j).left) n k h (λ j l. ap (λ (w : LargestW). w.left) (same j l))

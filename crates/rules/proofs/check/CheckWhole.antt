@@ -127,10 +127,12 @@ module _ (L : View) (slots : List Slot) (e : check_slots L slots ≡ Good) where
       (met k l).early in
       subst (λ r. release L r j (slot_end L (slot_for slots (shown i) j)) ≤ x.start) er
       (subst (λ t. release L (row_of x) t (slot_end L (slot_for slots (shown i) t)) ≤ x.start) ej
-      (subst (λ row. release L (row_of x) (step_of x) (slot_end L (slot_for slots row (step_of x))) ≤ x.start) is.its-row
+      (subst (λ row. release L (row_of x) (step_of x) (slot_end L (slot_for slots row (step_of x)))
+      ≤ x.start) is.its-row
       from))
 
-  met-wait : (k h i j : ℕ) → k < length slots → h < k → IsSlot i j (slot_at slots h) → IsSlot i (suc j) (slot_at slots k)
+  met-wait : (k h i j : ℕ) → k < length slots → h < k → IsSlot i j (slot_at slots h)
+      → IsSlot i (suc j) (slot_at slots k)
       → slot_end L (slot_at slots h) + L.wait i j ≤ (slot_at slots k).start
   met-wait k h i j l lh a b =
       let q : slot_for slots (shown i) (suc j) ≡ slot_at slots h =
@@ -140,7 +142,8 @@ module _ (L : View) (slots : List Slot) (e : check_slots L slots ≡ Good) where
   -- a window that slot k ends
   met-last : (k i p : ℕ) → k < length slots → (slot_at slots k).row ≡ shown i → p < length (L.windows i)
       → (slot_at slots k).step ≡ (window_at L i p).last
-      → slot_end L (slot_at slots k) ≤ (slot_for slots (shown i) (window_at L i p).first).start + (window_at L i p).limit
+      → slot_end L (slot_at slots k) ≤ (slot_for slots (shown i) (window_at L i p).first).start
+      + (window_at L i p).limit
   met-last k i p l row lp last =
       ltb-false ((slot_for slots (shown i) (window_at L i p).first).start + (window_at L i p).limit) (slot_end L x)
       (sym (ap (λ b. b && late (window_at L i p)) (eq-eqb x.step (window_at L i p).last last)) ∙ unmet)
@@ -164,7 +167,8 @@ module _ (L : View) (slots : List Slot) (e : check_slots L slots ≡ Good) where
       unmet : (eqb (slot_at slots k).step (window_at L i p).last && late (window_at L i p)) ≡ false
       unmet =
           any_in-false (late_in L slots (slot_at slots k) (shown i)) no_window (L.windows i)
-          (subst (λ r. any_in (late_in L slots (slot_at slots k) (shown i)) (L.windows r) ≡ false) er (own (shown i) row))
+          (subst (λ r. any_in (late_in L slots (slot_at slots k) (shown i)) (L.windows r) ≡ false) er
+          (own (shown i) row))
           p lp
 
   met-window : (k h i p : ℕ) → k < length slots → h < k → p < length (L.windows i) → (slot_at slots h).row ≡ shown i
@@ -178,7 +182,8 @@ module _ (L : View) (slots : List Slot) (e : check_slots L slots ≡ Good) where
       let q : slot_for slots (shown i) (window_at L i p).first ≡ slot_at slots h =
       ap (slot_for slots (shown i)) opens
       ∙ found-is h i ((slot_at slots h).step - 1) lower (record { its-row = a; its-step = first ∙ opens }) in
-      subst (λ (y : Slot). slot_end L (slot_at slots k) ≤ y.start + (window_at L i p).limit) q (met-last k i p l b lp last)
+      subst (λ (y : Slot). slot_end L (slot_at slots k) ≤ y.start + (window_at L i p).limit) q
+      (met-last k i p l b lp last)
 
   pub check-whole : Whole L slots
   check-whole =

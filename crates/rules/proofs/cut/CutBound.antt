@@ -84,7 +84,8 @@ module _ (L : View) (m : ℕ) (within : (i : ℕ) → i < L.rows → Within L i)
         max_to-ext (wait_left gives (cut L m) j) (wait_left gives L j) L.rows (λ i l. wait_left-of-cut j i h l)
 
     pub bound_by-of-cut : m ≤ most_steps
-        → bound_by gives (cut L m) ≡ kept_costs L m + largest_phase L + kept_waits L m + sum_to (largest_w gives L) (m - 1)
+        → bound_by gives (cut L m) ≡ kept_costs L m + largest_phase L + kept_waits L m
+        + sum_to (largest_w gives L) (m - 1)
     unfolding bound_by all_costs largest_phase cut
     bound_by-of-cut h =
         ap₂ (λ a b. kept_costs L m + largest_phase L + a + b) all_embedded_waits-of-cut

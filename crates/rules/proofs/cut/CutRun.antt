@@ -112,7 +112,8 @@ module _ (L : View) {long : Long} {gives : Gives} {charged : Charge} (g : Settin
   record Race (t : ℕ) : Type 0 where
     still : (state_after_by long L t fresh).finished z < L.steps z
         → state_after_by long K t fresh ≡ state_after_by long L t fresh
-    over : L.steps z ≤ (state_after_by long L t fresh).finished z → (state_after_by long L t fresh).end z ≤ bound_by gives K
+    over : L.steps z ≤ (state_after_by long L t fresh).finished z → (state_after_by long L t fresh).end z
+        ≤ bound_by gives K
 
   start-race : Race 0
   unfolding state_after_by fresh
@@ -125,7 +126,8 @@ module _ (L : View) {long : Long} {gives : Gives} {charged : Charge} (g : Settin
         | yes late ↦
             (let same : state_after_by long K (suc t) fresh ≡ state_after_by long L (suc t) fresh =
             state_after-next long K t fresh
-            ∙ (ap (λ x. (move_by long K x).then) (r.still late) ∙ (alike late ∙ sym (state_after-next long L t fresh))) in
+            ∙ (ap (λ x. (move_by long K x).then) (r.still late)
+            ∙ (alike late ∙ sym (state_after-next long L t fresh))) in
             let v = run-accounted K g_k (suc t) in
             record {
               still = λ _. same;

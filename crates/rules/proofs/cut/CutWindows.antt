@@ -99,7 +99,8 @@ module _ (L : View) (m : ℕ) (g : Runnable L) where
       go w begun (whole q) = q
       go w begun (dropped q) = absurd (omega (arith, c.below))
 
-  left_at-by : (i f : ℕ) → open_at K i f ≡ open_at L i f → (open_at L i f).last ≤ kept L m i → left_at K i f ≡ left_at L i f
+  left_at-by : (i f : ℕ) → open_at K i f ≡ open_at L i f → (open_at L i f).last ≤ kept L m i → left_at K i f
+      ≡ left_at L i f
   unfolding left_at cut
   left_at-by i f e h =
       ap (λ (w : Window). chain (L.cost i) (K.wait i) f w.last) e

@@ -1,6 +1,6 @@
 -- The invariant of a run from fresh, over three ghost counts of idle ticks: with some window open, with none open and a
--- first step due, and with none open and step p + 1 due (`wait_ticks p`). What matters is `charge`: a free wait's ticks,
--- and what the run is charged with since it began, fit between its beginning and now.
+-- first step due, and with none open and step p + 1 due (`wait_ticks p`). What matters is `charge`: a free wait's
+-- ticks, and what the run is charged with since it began, fit between its beginning and now.
 use Prim.Native.Nat.{ℕ, zero, suc, ◌+◌, ◌-◌, ◌≤◌, ◌<◌, min}
 use mathlib.Core.Bool.{true, false, cond, not}
 use mathlib.Core.Path.{◌≡◌}

@@ -13,7 +13,8 @@ use Rattle.counting.specs.Searches.{Found, at, none}
 use Rattle.counting.specs.Sorting.{by_keys}
 use Rattle.counting.proofs.tests.TestLaws.{and_left, and_right, true-false}
 use Rattle.counting.proofs.sorting.SortLaws.{Every-sorted}
-use Rattle.counting.proofs.lists.EveryLaws.{every-numbers_where, numbers_where-every, sorted-every, found_at, found_none}
+use Rattle.counting.proofs.lists.EveryLaws.{every-numbers_where, numbers_where-every, sorted-every, found_at}
+use Rattle.counting.proofs.lists.EveryLaws.{found_none}
 use Rattle.counting.proofs.sums.ChangeLaws.{changed-same, changed-other}
 use Rattle.refusals.specs.declared.Refusal.TheVariants.{StateShape, ClockFull}
 use Rattle.load.specs.Load.{last_moment}

@@ -51,7 +51,8 @@ module _ (L : View) (s : State) where
     finished-end i l = and_left (leb (s.finished i) (L.steps i) && end_fits s i) (opening_fits L s i) (row-shaped i l)
 
     end_fits-true : (i : ℕ) → i < L.rows → s.end i ≤ cond (eqb (s.finished i) 0) 0 s.clock
-    end_fits-true i l = leb-true (s.end i) _ (and_right (leb (s.finished i) (L.steps i)) (end_fits s i) (finished-end i l))
+    end_fits-true i l = leb-true (s.end i) _
+        (and_right (leb (s.finished i) (L.steps i)) (end_fits s i) (finished-end i l))
 
     opening-fits : (i : ℕ) → i < L.rows → s.opening i ≤ cond (is_open L s i) (s.end i) 0
     opening-fits i l =

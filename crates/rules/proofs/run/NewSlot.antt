@@ -98,7 +98,8 @@ module _ (L : View) (s : State) (i : ℕ) (slots : List Slot) (g : Runnable L) (
       → slot_end L x ≤ (slot_at slots h).start + (window_at L r p).limit
   new-window h r p l lr lp a b first last =
       subst
-      (λ q. p < length (L.windows q) → (slot_at slots h).row ≡ shown q → (slot_at slots h).step ≡ (window_at L q p).first
+      (λ q. p < length (L.windows q) → (slot_at slots h).row ≡ shown q → (slot_at slots h).step
+      ≡ (window_at L q p).first
       → x.step ≡ (window_at L q p).last → slot_end L x ≤ (slot_at slots h).start + (window_at L q p).limit)
       er (own-window h p l) lp a first last
     where

@@ -209,7 +209,8 @@ module _ (L : View) {long : Long} {gives : Gives} {charged : Charge} (g : Settin
       (ap (λ (o : Outcome). (told_by o).starts) (run-done (n + d) (omega arith)))
       ∙ (append-nil (starts_by long L (n + d) fresh) ∙ starts-enough d n h)))
 
-  starts-from-bound : (n : ℕ) → bound_by gives L ≤ n → starts_by long L n fresh ≡ starts_by long L (bound_by gives L) fresh
+  starts-from-bound : (n : ℕ) → bound_by gives L ≤ n → starts_by long L n fresh
+      ≡ starts_by long L (bound_by gives L) fresh
   starts-from-bound n h =
       let e : bound_by gives L + (n - bound_by gives L) ≡ n = omega arith in
       ap (λ m. starts_by long L m fresh) (sym e) ∙ starts-enough (n - bound_by gives L) (bound_by gives L) (omega arith)

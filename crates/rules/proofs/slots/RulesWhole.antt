@@ -98,7 +98,8 @@ module _ (L : View) (slots : List Slot) (rules : SlotRules L slots) where
           (of_row-step j i a.place li a.below (record { its-row = a.its-row; its-step = a.its-step }))
 
   rules-window : (k h i p : ℕ) → k < length slots → h < k → i < L.rows → p < length (L.windows i)
-      → (slot_at slots h).row ≡ shown i → (slot_at slots k).row ≡ shown i → (slot_at slots h).step ≡ (window_at L i p).first
+      → (slot_at slots h).row ≡ shown i → (slot_at slots k).row ≡ shown i → (slot_at slots h).step
+      ≡ (window_at L i p).first
       → (slot_at slots k).step ≡ (window_at L i p).last
       → slot_end L (slot_at slots k) ≤ (slot_at slots h).start + (window_at L i p).limit
   rules-window k h i p l lh li lp a b first last =

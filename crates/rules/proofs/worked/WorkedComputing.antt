@@ -34,11 +34,13 @@ use Rattle.rules.specs.Check.{slot_tests, check_slots, check_schedule}
 
 -- to open this is to open all that its line names
 unfoldable pub computing : ℕ
-unfolding sum_to max_to all_to any_to join_to join_in any_in keep_in first_in sum_in changed first_to first_largest found
+unfolding sum_to max_to all_to any_to join_to join_in any_in keep_in first_in sum_in changed first_to
+    first_largest found
     inserted sorted little_endian first_fault_to zero_row view_of chain embedded row_tests taken_tests step_tests
     window_tests check_parts row_fault check_load kept cut all_costs largest_phase all_embedded_waits largest_w bound_by
     partners pair_costs smallest_costs bound row_bound margin verdict margins bytes_of_margins blame_among place_waits
-    row_blame blames opens_at open_at shaped is_allowed is_candidate candidates due in_time_by stack_by window_left lamp_word
+    row_blame blames opens_at open_at shaped is_allowed is_candidate candidates due in_time_by stack_by
+    window_left lamp_word
     lamp_count started ticked passes chosen all_finished shaped_move_with move_with move_by slot_for slot_tests
     check_slots check_schedule
 computing = 0

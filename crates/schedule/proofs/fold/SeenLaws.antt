@@ -65,7 +65,8 @@ any_in-take p z l n h = go (any_in p (take n l)) refl
         true-any_to (λ k. p (get_or l k z)) n f.place b (ap p (sym (get_or-take n l f.place z b)) ∙ f.has)
     go false e =
         false-any_to (λ k. p (get_or l k z)) n
-        (λ k b. ap p (sym (get_or-take n l k z b)) ∙ any_in-false p z (take n l) e k (omega (arith, length-take-le n l h)))
+        (λ k b. ap p (sym (get_or-take n l k z b))
+        ∙ any_in-false p z (take n l) e k (omega (arith, length-take-le n l h)))
 
 -- the end of the slot before place k, and 0 where there is none
 abbrev pub end_before : View → List Slot → ℕ → ℕ

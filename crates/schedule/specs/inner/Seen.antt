@@ -1,6 +1,7 @@
 -- What the code of the check keeps from one slot to the next, and what it does with a slot. Nothing
 -- here is to be believed: check_schedule's own contract cites check_schedule, which keeps no state.
-use Rattle.std.specs.Prelude.{ℕ, ◌+◌, ◌-◌, ◌*◌, Bool, cond, ◌&&◌, not, List, [], ◌∷◌, eqb, leb, ltb, get_or, replicate, set}
+use Rattle.std.specs.Prelude.{ℕ, ◌+◌, ◌-◌, ◌*◌, Bool, cond, ◌&&◌, not, List, [], ◌∷◌, eqb, leb, ltb}
+use Rattle.std.specs.Prelude.{get_or, replicate, set}
 use Rattle.counting.specs.Sums.{any_to}
 use Rattle.refusals.specs.declared.Refusal.{Refusal}
 use Rattle.refusals.specs.declared.Refusal.TheVariants.{

@@ -42,7 +42,8 @@ use Rattle.sheet.proofs.marks.MarkLaws.{marks-back, marked-windows, windows-back
 module _ (line : ℕ → Line) (steps : ℕ) (h : RowLines line steps) (j : ℕ) (l : j < steps) where
   step_back : ◌≡◌ {A = Step} (step_at (row_of line steps) j) (record { cost = (line j).cost; wait = (line j).wait })
   unfolding row_of
-  step_back = get_or-filled (λ j. record { cost = (line j).cost; wait = (line j).wait }) steps most_steps j no_step no_step l
+  step_back = get_or-filled (λ j. record { cost = (line j).cost; wait = (line j).wait }) steps most_steps j
+      no_step no_step l
 
   mark-back : mark_among j (row_windows (row_of line steps)) ≡ (line j).mark
   unfolding row_of
@@ -83,7 +84,8 @@ padded n last z list h e unused =
 pub used-window : (row : Row) (k : ℕ) → k < length (row_windows row) → k < row.windows
 used-window row k l = omega (arith, length-take row.windows row.window)
 
-pub window-is : (row : Row) (k : ℕ) → k < length (row_windows row) → get_or (row_windows row) k no_window ≡ window_at row k
+pub window-is : (row : Row) (k : ℕ) → k < length (row_windows row) → get_or (row_windows row) k no_window
+    ≡ window_at row k
 window-is row k l = get_or-take row.windows row.window k no_window (used-window row k l)
 
 module _ (load : Load) (i : ℕ) (row : Row) (good : RowGood load i row) where

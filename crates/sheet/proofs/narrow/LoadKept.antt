@@ -69,7 +69,8 @@ module _ (load kept : Load) (i : ℕ) (earlier : (k : ℕ) → k < i → row_at 
   row_fault-long : most_steps < row.steps → row_fault kept i zero_row ≡ row_fault load i row
   unfolding row_fault row_tests zero_row
   row_fault-long l =
-      sym (ap (λ c. and_then c (and_then (check_taken load i row) (and_then (check_parts row) Good))) (fields-long row l))
+      sym (ap (λ c. and_then c (and_then (check_taken load i row) (and_then (check_parts row) Good)))
+      (fields-long row l))
 
   pub row_fault-kept : (k : Row) → Kept row k → row_fault kept i k ≡ row_fault load i row
   row_fault-kept k (cut rest e) = ap (row_fault kept i) e ∙ row_fault-cut rest

@@ -36,7 +36,8 @@ use Rattle.load.specs.Load.{
   window_at,
 }
 use Rattle.load.specs.View.{chain_between}
-use Rattle.load.specs.Faults.{outside, most_wait, step_numbers, last_before, chain_of, row_tests, step_tests, window_tests}
+use Rattle.load.specs.Faults.{outside, most_wait, step_numbers, last_before, chain_of, row_tests, step_tests}
+use Rattle.load.specs.Faults.{window_tests}
 use Rattle.load.specs.Check.{
   is_zero_step,
   is_zero_window,
@@ -128,7 +129,8 @@ module _ (row : Row) where
 
   pub steps-cut : first_fault_to (check_step (narrow_row row)) row.steps ≡ first_fault_to (check_step row) row.steps
   steps-cut =
-      first_fault_to-ext (check_step (narrow_row row)) (check_step row) row.steps (λ j l. ap first_met (step_tests-cut j))
+      first_fault_to-ext (check_step (narrow_row row)) (check_step row) row.steps
+      (λ j l. ap first_met (step_tests-cut j))
 
   module _ (rest : Unused row) where
     pub no-steps-cut : zero_steps_from (narrow_row row) row.steps ≡ zero_steps_from row row.steps

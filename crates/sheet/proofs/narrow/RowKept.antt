@@ -82,7 +82,8 @@ module _ (row : Row) (rest : Unused row) where
           elim (dec_lt k row.windows) [
             | yes l ↦
                 narrow_window-fits (window_at row k)
-                (outside-most 1 largest_limit (window_at row k).limit (first_met-good (window_tests row k) (passed k l) 2))
+                (outside-most 1 largest_limit (window_at row k).limit
+                (first_met-good (window_tests row k) (passed k l) 2))
             | no l ↦
                 ap narrow_window (rest.no-window k (omega arith)) ∙ sym (rest.no-window k (omega arith))
           ]

@@ -70,7 +70,8 @@ module _ (bs : List ℕ) where
       let at = row_place bs i in
       rw (row_at-sheet i l, row_at-kept i l) (kept_row-kept (line_from bs at) (steps_from bs at))
 
-  unused-kept : (i : ℕ) → (load_in_sheet bs).rows ≤ i → i < most_rows → row_at (kept_load bs) i ≡ row_at (load_in_sheet bs) i
+  unused-kept : (i : ℕ) → (load_in_sheet bs).rows ≤ i → i < most_rows → row_at (kept_load bs) i
+      ≡ row_at (load_in_sheet bs) i
   unfolding load_in_sheet kept_load
   unused-kept i h l =
       get_or-unfilled (λ i. kept_from bs (row_place bs i)) (rows_in bs) most_rows i zero_row no_row h l
@@ -84,7 +85,8 @@ module _ (bs : List ℕ) where
   unfolding load_in_sheet kept_load
   kept-good good =
       ap (λ l. record { rows = rows_in bs; row = l })
-      (filled-ext (λ i. kept_from bs (row_place bs i)) (λ i. row_from bs (row_place bs i)) (rows_in bs) most_rows zero_row
+      (filled-ext (λ i. kept_from bs (row_place bs i)) (λ i. row_from bs (row_place bs i))
+      (rows_in bs) most_rows zero_row
       (λ i l.
       sym (row_at-kept i l)
       ∙ narrow_good (load_in_sheet bs) (kept_load bs) each-kept good i l

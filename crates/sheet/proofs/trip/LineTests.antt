@@ -36,7 +36,8 @@ and-not : (a b : Bool) → (a && not b) ≡ false → a ≡ true → b ≡ true
 and-not true b e h = not-false b e
 and-not false b e h = absurd (true-false false h refl)
 
-module _ (is_there on : Bool) (before line : Line) (h : (k : ℕ) → test_at (line_tests is_there on before line) k ≡ false)
+module _ (is_there on : Bool) (before line : Line) (h : (k : ℕ)
+    → test_at (line_tests is_there on before line) k ≡ false)
   where
     pub tests-there : is_there ≡ true
     unfolding line_tests

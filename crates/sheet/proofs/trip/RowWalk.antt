@@ -74,7 +74,8 @@ module _ (bs : List ℕ) (h : lines_fault bs ≡ Good) where
   found = first_fault-good (findings bs) h
 
   line-tests : (n : ℕ) → n < lines_in bs → (k : ℕ)
-      → test_at (line_tests (is_line bs (line_place bs 0 n)) (goes_on bs n) (line_before bs n) (line_from bs 0 n)) k ≡ false
+      → test_at (line_tests (is_line bs (line_place bs 0 n)) (goes_on bs n) (line_before bs n) (line_from bs 0 n)) k
+      ≡ false
   unfolding line_fault
   line-tests n l =
       first_met-good (line_tests (is_line bs (line_place bs 0 n)) (goes_on bs n) (line_before bs n) (line_from bs 0 n))
@@ -108,7 +109,8 @@ module _ (bs : List ℕ) (h : lines_fault bs ≡ Good) where
   -- the last row ends there too
   pub rows_end : row_place bs (rows_in bs) ≡ length bs
   rows_end =
-      let last = line_place-mono bs 0 (row_line bs (rows_in bs)) (lines_in bs) (row_line-le bs (rows_in bs) (omega arith)) in
+      let last = line_place-mono bs 0 (row_line bs (rows_in bs)) (lines_in bs)
+      (row_line-le bs (rows_in bs) (omega arith)) in
       omega (arith, last, lines_end, rows_in-end bs, row_place-line bs (rows_in bs))
 
   pub row_line-last : row_line bs (rows_in bs) ≡ lines_in bs

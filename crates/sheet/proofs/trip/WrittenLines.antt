@@ -73,7 +73,8 @@ module _ (bs : List ℕ) (load : Load) (x : ExportedLoad load bs) where
         let q : row_line bs i + suc j ≡ suc n = omega arith in
         let before = line-is j (omega arith) in
         let line : line_from bs 0 (suc n) ≡ line_of (row_at load i) (suc j) = rw q at (line-is (suc j) m) in
-        next-tests (is_line bs (line_place bs 0 (suc n))) (goes_on bs (suc n)) (line_from bs 0 n) (line_from bs 0 (suc n))
+        next-tests (is_line bs (line_place bs 0 (suc n))) (goes_on bs (suc n)) (line_from bs 0 n)
+        (line_from bs 0 (suc n))
         (rw q at (is-line (suc j) m)) (row-goes-on bs i j (omega (arith, steps-are)))
         (rw (before, line)
         (record {

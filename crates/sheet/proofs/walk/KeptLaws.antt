@@ -62,8 +62,10 @@ module _ (line : ℕ → Line) (steps : ℕ) where
       ≡ narrow_row (row_of line steps)
   unfolding narrow_row row_of
   narrow_row-is =
-      ap₂ (λ count step. row_with count step (window_places (map narrow_window windows))) (length-map windows narrow_window)
-      (sym (map-filled narrow_step (λ j. record { cost = (line j).cost; wait = (line j).wait }) steps most_steps no_step))
+      ap₂ (λ count step. row_with count step (window_places (map narrow_window windows)))
+      (length-map windows narrow_window)
+      (sym (map-filled narrow_step (λ j. record { cost = (line j).cost; wait = (line j).wait }) steps
+      most_steps no_step))
       ∙ ap (row_with (length windows) _) (sym (map-windows windows))
 
 -- a row as it is kept: one of at most eight lines, and one of more

@@ -81,7 +81,8 @@ module _ {bs : List ℕ} {row : List Row} {rows next : ℕ} (so_far : RowsKept b
     pub row-stands-next : lines_fault bs ≡ Good → RowStands bs next
     row-stands-next good = rw so_far.next-is (row-there bs good rows rows-lt)
 
-    pub rows_next : (kept : Row) (behind : ℕ) → kept ≡ kept_from bs next → behind ≡ line_place bs next (steps_from bs next)
+    pub rows_next : (kept : Row) (behind : ℕ) → kept ≡ kept_from bs next → behind
+        ≡ line_place bs next (steps_from bs next)
         → rows < most_rows → RowsKept bs (set row rows kept) (rows + 1) behind
     rows_next kept behind e q few =
         record {
@@ -174,7 +175,8 @@ module _ (bs : List ℕ) where
       found : check_load load ≡ check_load (load_in_sheet bs)
       found = ap check_load load_is ∙ kept-check bs
 
-      pub load-refused : (refusal : Refusal) → check_load load ≡ Refused refusal → refused_reading refusal ≡ read_sheet bs
+      pub load-refused : (refusal : Refusal) → check_load load ≡ Refused refusal → refused_reading refusal
+          ≡ read_sheet bs
       load-refused refusal r = read_sheet-refused refusal (by-load ∙ sym found ∙ r)
 
       pub load-good : check_load load ≡ Good → record { answer = Good; load = load } ≡ read_sheet bs

@@ -98,7 +98,8 @@ module _ (bs : List ℕ) (from count : ℕ) where
   windows_to-next : (j : ℕ) → windows_to (j + 1) ≡ windows_to j ++ map narrow_window (windows_at j)
   unfolding windows_to
   windows_to-next j =
-      ap (map narrow_window) (join_to-next windows_at j) ∙ map-append narrow_window (join_to windows_at j) (windows_at j)
+      ap (map narrow_window) (join_to-next windows_at j)
+      ∙ map-append narrow_window (join_to windows_at j) (windows_at j)
 
   pub windows_to-none : (j : ℕ) → is_limit (mark j) ≡ false → windows_to (j + 1) ≡ windows_to j
   unfolding windows_at
@@ -163,7 +164,8 @@ module _ (bs : List ℕ) (from count : ℕ) where
         )
 
   -- one is stored
-  pub stored : (j : ℕ) → length (windows_to j) < most_windows → is_limit (mark j) ≡ true → {n : ℕ} {window : List Window}
+  pub stored : (j : ℕ) → length (windows_to j) < most_windows → is_limit (mark j) ≡ true
+      → {n : ℕ} {window : List Window}
       {w : Window} → n ≡ length (windows_to j) → window ≡ window_places (windows_to j) → w ≡ window_from j
       → (n + 1 ≡ length (windows_to (j + 1))) × (set window n w ≡ window_places (windows_to (j + 1)))
   stored j l h {n} {window} {w} count windows window-is = (

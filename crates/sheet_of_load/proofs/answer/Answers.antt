@@ -28,7 +28,8 @@ use Rattle.sheet_of_load.proofs.answer.Goals as goal
 use Rattle.sheet_of_load.proofs.answer.Goals.{After-shared_slice_known-1}
 
 -- a load that passes its check is refused with 22 or not at all
-carried-left : (load : Load) → check_load load ≡ Good → check_plain load ≡ first_fault (first_met (carried_tests load) ∷ [])
+carried-left : (load : Load) → check_load load ≡ Good → check_plain load
+    ≡ first_fault (first_met (carried_tests load) ∷ [])
 unfolding check_plain
 carried-left load good = rw good
 
@@ -68,7 +69,8 @@ bytes c at = omega (arith, c.shared_slice_known-1.given at)
 
 pub returns-in-Good : goal.returns-in-Good
 returns-in-Good c =
-    is-written _ _ _ c.read_load-reading.ensures (bytes (goal.at.returns-in-Good c).After-shared_slice_known-1) c.in-Good.is
+    is-written _ _ _ c.read_load-reading.ensures
+    (bytes (goal.at.returns-in-Good c).After-shared_slice_known-1) c.in-Good.is
     (search rules) _ _ c.write_sheet.ensures
 
 pub returns-in-Refused : goal.returns-in-Refused

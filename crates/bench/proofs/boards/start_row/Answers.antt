@@ -54,5 +54,9 @@ pub end_of-end-requires : goal.end_of-end-requires
 end_of-end-requires c = omega (arith, c.requires.can_start.ends)
 
 pub overflow_add-look : goal.overflow_add-look
-overflow_add-look c = omega (arith, c.requires.can_start.more, finished-is (goal.at.overflow_add-look
-    c).After-look_at-look)
+overflow_add-look c = omega (
+  arith,
+  c.requires.can_start.more,
+  finished-is (goal.at.overflow_add-look
+      c).After-look_at-look,
+)

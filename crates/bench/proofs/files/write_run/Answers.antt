@@ -69,7 +69,7 @@ loop-i-preserved c =
       omega (arith, c.loop-i-test.true),
       put-placed _ _ _ i look _ _ _ put place inv.1,
       shown-next file (bench_of fresh) _ _ i look place (put-renewed _ _ _ i look _ _ _ put place inv.1 look
-      refl) inv.2
+          refl) inv.2
           (fresh-looked file i steps) (fresh-steps file i steps) (fresh-opening file i steps),
       length-set c.loop-i.classes i _ ∙ inv.3,
       classes-next file c.loop-i.classes i (omega (arith, place, inv.3)) inv.4,

@@ -12,5 +12,8 @@ returns-then-not-has_shape c =
     (sym c.has_shape.ensures ∙ c.if-not-has_shape.true))
 
 pub move_shaped-requires : goal.move_shaped-requires
-move_shaped-requires c = record { load_value = c.requires; bench_value = sym c.has_shape.ensures ∙
-    c.if-not-has_shape.false }
+move_shaped-requires c = record {
+  load_value = c.requires;
+  bench_value = sym c.has_shape.ensures ∙
+      c.if-not-has_shape.false;
+}

@@ -7,7 +7,8 @@ use Rattle.bench.specs.Held.{state_of}
 use Rattle.bench.proofs.shape.unused_from.Given as goal
 
 abbrev pub invariant-loop-i : goal.invariant-loop-i
-invariant-loop-i l = all_from (row_unused (state_of l.bench)) l.rows 24 ≡ all_from (row_unused (state_of l.bench)) l.i 24
+invariant-loop-i l = all_from (row_unused (state_of l.bench)) l.rows 24
+    ≡ all_from (row_unused (state_of l.bench)) l.i 24
 
 abbrev pub decreases-loop-i : goal.decreases-loop-i
 decreases-loop-i l = 24 - l.i

@@ -10,7 +10,8 @@ good : (c : In-Good) → check_load c.args.load ≡ Good
 good c = sym c.check_load-found.ensures ∙ c.in-Good.is
 
 pub place_waits-places-requires : goal.place_waits-places-requires
-place_waits-places-requires c = (check-acceptable c.args.load (good (goal.at.place_waits-places-requires c).In-Good), refl)
+place_waits-places-requires c =
+    (check-acceptable c.args.load (good (goal.at.place_waits-places-requires c).In-Good), refl)
 
 pub load_answers-requires : goal.load_answers-requires
 load_answers-requires c =

@@ -51,7 +51,8 @@ loop-i-preserved c =
     let loop = c.loop-i in (
       search rules,
       search rules,
-      filled-stored (row_blame (view_of (load (goal.at.loop-i-preserved c).In-loop-i))) loop.i 24 nobody _ loop.blames loop.invariant.2 (read (goal.at.loop-i-preserved c).In-loop-i)
+      filled-stored (row_blame (view_of (load (goal.at.loop-i-preserved c).In-loop-i))) loop.i 24 nobody _ loop.blames
+          loop.invariant.2 (read (goal.at.loop-i-preserved c).In-loop-i)
           (omega arith),
     )
 

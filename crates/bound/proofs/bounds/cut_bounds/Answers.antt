@@ -46,7 +46,8 @@ loop-k-preserved c =
     let L = view_of c.args.load in (
       search rules,
       loop.invariant.1,
-      filled-stored (bound_at L) loop.k 8 0 _ loop.bounds loop.invariant.2 (total (goal.at.loop-k-preserved c).After-kept_ticks) (omega arith),
+      filled-stored (bound_at L) loop.k 8 0 _ loop.bounds loop.invariant.2
+          (total (goal.at.loop-k-preserved c).After-kept_ticks) (omega arith),
     )
 
 pub returns : goal.returns
@@ -62,4 +63,9 @@ pub overflow_add-bounds : goal.overflow_add-bounds
 overflow_add-bounds c = omega (arith, total c, small c)
 
 pub overflow_add-bounds-in-loop-k : goal.overflow_add-bounds-in-loop-k
-overflow_add-bounds-in-loop-k c = omega (arith, total (goal.at.overflow_add-bounds-in-loop-k c).After-kept_ticks, small (goal.at.overflow_add-bounds-in-loop-k c).After-kept_ticks)
+overflow_add-bounds-in-loop-k c =
+    omega (
+      arith,
+      total (goal.at.overflow_add-bounds-in-loop-k c).After-kept_ticks,
+      small (goal.at.overflow_add-bounds-in-loop-k c).After-kept_ticks,
+    )

@@ -82,4 +82,5 @@ pub slice_bounds-overwrite-end : goal.slice_bounds-overwrite-end
 slice_bounds-overwrite-end c = sym c.loop-i.invariant.1
 
 pub slice_bounds-overwrite-end-in-loop-i : goal.slice_bounds-overwrite-end-in-loop-i
-slice_bounds-overwrite-end-in-loop-i c = sym (written-length (goal.at.slice_bounds-overwrite-end-in-loop-i c).After-bytes32-four)
+slice_bounds-overwrite-end-in-loop-i c =
+    sym (written-length (goal.at.slice_bounds-overwrite-end-in-loop-i c).After-bytes32-four)

@@ -24,14 +24,16 @@ pub returns-then-is_negative : goal.returns-then-is_negative
 returns-then-is_negative c =
     sym
     (false-all_to (passes c.args.margins) c.args.n c.loop-i.i c.loop-i-test.true
-    (ap not (sym (c.is_negative.ensures ∙ ap is_negative (to_z-of_z (fits (goal.at.returns-then-is_negative c).In-loop-i))) ∙ c.if-is_negative.true)))
+    (ap not (sym (c.is_negative.ensures
+    ∙ ap is_negative (to_z-of_z (fits (goal.at.returns-then-is_negative c).In-loop-i))) ∙ c.if-is_negative.true)))
 
 pub loop-i-preserved : goal.loop-i-preserved
 loop-i-preserved c = (
   search rules,
   rw all_to-next
       (and_both _ _ c.loop-i.invariant.1
-      (ap not (sym (c.is_negative.ensures ∙ ap is_negative (to_z-of_z (fits (goal.at.loop-i-preserved c).In-loop-i))) ∙ c.if-is_negative.false))),
+      (ap not (sym (c.is_negative.ensures ∙ ap is_negative (to_z-of_z (fits (goal.at.loop-i-preserved c).In-loop-i)))
+      ∙ c.if-is_negative.false))),
 )
 
 pub returns : goal.returns

@@ -22,7 +22,11 @@ two-le a b = omega (arith, bool_byte-bit a, bool_byte-bit b, bit_le a, bit_le b)
 
 pub overflow_add-result : goal.overflow_add-result
 overflow_add-result c =
-    omega (arith, two-le (here-test (goal.at.overflow_add-result c).Start) (next-test (goal.at.overflow_add-result c).Start))
+    omega (
+      arith,
+      two-le (here-test (goal.at.overflow_add-result c).Start)
+          (next-test (goal.at.overflow_add-result c).Start),
+    )
 
 pub returns : goal.returns
 returns c =

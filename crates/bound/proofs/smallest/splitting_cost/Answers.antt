@@ -5,7 +5,8 @@ use mathlib.Core.Path.{◌≡◌, sym, ◌∙◌, ap}
 use native.Mathlib.Omega.{arith}
 use borrow.Author.Rules.{rules}
 use Rattle.counting.specs.Lists.{is_marked}
-use Rattle.counting.proofs.sorting.PairLaws.{pair_total-zero, pair_total-next, pairs_below-none, pairs_below-next, count_to-pairs_up_to-le}
+use Rattle.counting.proofs.sorting.PairLaws.{pair_total-zero, pair_total-next, pairs_below-none, pairs_below-next}
+use Rattle.counting.proofs.sorting.PairLaws.{count_to-pairs_up_to-le}
 use Rattle.bound.specs.inner.Marks.{cost_at}
 use Rattle.bound.proofs.MarkLaws.{costs_below}
 use Rattle.bound.proofs.smallest.splitting_cost.Goals as goal
@@ -23,7 +24,10 @@ pub loop-k-preserved : goal.loop-k-preserved
 loop-k-preserved c = (
   search rules,
   rw pair_total-next
-      (elim c.if-marks-k.branch [ then-marks-k w ↦ rw w.if-marks-k.true (omega arith) | else-marks-k w ↦ rw w.if-marks-k.false (omega arith) ]),
+      (elim c.if-marks-k.branch [
+        | then-marks-k w ↦ rw w.if-marks-k.true (omega arith)
+        | else-marks-k w ↦ rw w.if-marks-k.false (omega arith)
+      ]),
   elim c.if-marks-k.branch [ then-marks-k w ↦ omega arith | else-marks-k w ↦ omega arith ],
 )
 
@@ -41,8 +45,12 @@ counted c =
 
 pub loop-low-preserved-then-r-up_to : goal.loop-low-preserved-then-r-up_to
 loop-low-preserved-then-r-up_to c =
-    let loop = c.loop-low in
-    (omega arith, omega arith, loop.invariant.2, omega (arith, counted (goal.at.loop-low-preserved-then-r-up_to c).After-loop-k))
+    let loop = c.loop-low in (
+      omega arith,
+      omega arith,
+      loop.invariant.2,
+      omega (arith, counted (goal.at.loop-low-preserved-then-r-up_to c).After-loop-k),
+    )
 
 pub loop-low-preserved : goal.loop-low-preserved
 loop-low-preserved c =

@@ -17,9 +17,15 @@ pub loop-k-preserved : goal.loop-k-preserved
 loop-k-preserved c = (
   search rules,
   rw pair_total-next
-      (elim c.if-marks-k.branch [ then-marks-k w ↦ rw w.if-marks-k.true (omega arith) | else-marks-k w ↦ rw w.if-marks-k.false (omega arith) ]),
+      (elim c.if-marks-k.branch [
+        | then-marks-k w ↦ rw w.if-marks-k.true (omega arith)
+        | else-marks-k w ↦ rw w.if-marks-k.false (omega arith)
+      ]),
   rw pair_total-next
-      (elim c.if-marks-k.branch [ then-marks-k w ↦ rw w.if-marks-k.true (omega arith) | else-marks-k w ↦ rw w.if-marks-k.false (omega arith) ]),
+      (elim c.if-marks-k.branch [
+        | then-marks-k w ↦ rw w.if-marks-k.true (omega arith)
+        | else-marks-k w ↦ rw w.if-marks-k.false (omega arith)
+      ]),
   elim c.if-marks-k.branch [ then-marks-k w ↦ omega arith | else-marks-k w ↦ omega arith ],
   elim c.if-marks-k.branch [ then-marks-k w ↦ omega arith | else-marks-k w ↦ omega arith ],
 )

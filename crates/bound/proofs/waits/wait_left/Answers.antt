@@ -27,7 +27,9 @@ given_is c =
     c.smallest_sum-given.ensures (pairs_smallest-others a.pairs a.i _ _ a.n)
 
 pub returns-then-given-wait : goal.returns-then-given-wait
-returns-then-given-wait c = ap₂ ◌-◌ c.wait_at-wait.ensures (given_is (goal.at.returns-then-given-wait c).After-smallest_sum-given)
+returns-then-given-wait c =
+    ap₂ ◌-◌ c.wait_at-wait.ensures (given_is (goal.at.returns-then-given-wait c).After-smallest_sum-given)
 
 pub returns-else-given-wait : goal.returns-else-given-wait
-returns-else-given-wait c = omega (arith, given_is (goal.at.returns-else-given-wait c).After-smallest_sum-given, c.wait_at-wait.ensures)
+returns-else-given-wait c =
+    omega (arith, given_is (goal.at.returns-else-given-wait c).After-smallest_sum-given, c.wait_at-wait.ensures)

@@ -7,7 +7,8 @@ use borrow.Author.Rules.{rules}
 use lib.Dec.{eqb}
 use Rattle.counting.proofs.lists.ListLaws.{filled_none, set-filled}
 use Rattle.refusals.specs.FirstMet.{first_fault_to}
-use Rattle.refusals.proofs.FirstMetLaws.{and_then-both, first_fault_to-zero, first_fault_to-next, first_fault_to-refused}
+use Rattle.refusals.proofs.FirstMetLaws.{and_then-both, first_fault_to-zero, first_fault_to-next}
+use Rattle.refusals.proofs.FirstMetLaws.{first_fault_to-refused}
 use Rattle.load.proofs.TakenLaws.{any_to-filled}
 use Rattle.load.proofs.check.check_rows.Goals as goal
 use Rattle.load.proofs.check.check_rows.Goals.{After-check_row-found}

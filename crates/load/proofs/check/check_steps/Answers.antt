@@ -3,7 +3,8 @@ use mathlib.Core.Path.{◌≡◌, sym, ◌∙◌, ap}
 use native.Mathlib.Omega.{arith}
 use borrow.Author.Rules.{rules}
 use Rattle.refusals.specs.FirstMet.{first_fault_to}
-use Rattle.refusals.proofs.FirstMetLaws.{and_then-both, first_fault_to-zero, first_fault_to-next, first_fault_to-refused}
+use Rattle.refusals.proofs.FirstMetLaws.{and_then-both, first_fault_to-zero, first_fault_to-next}
+use Rattle.refusals.proofs.FirstMetLaws.{first_fault_to-refused}
 use Rattle.load.specs.Check.{check_step}
 use Rattle.load.proofs.check.check_steps.Goals as goal
 

@@ -7,7 +7,9 @@ use borrow.Author.Tests.{eq-eqb, ne_eqb, lt-ltb, le-ltb}
 use Rattle.refusals.specs.FirstMet.{first_met}
 use Rattle.load.specs.Faults.{row_tests}
 use Rattle.load.proofs.faults.check_fields.Goals as goal
-use Rattle.load.proofs.faults.check_fields.Goals.{Start, Else-is_outside, Else-is_outside-2, Else-row-gt-LATEST_PHASE, Else-is_outside-3, Else-is_outside-4, Else-row-gt-MOST_WINDOWS, Else-row-gt-MOST_CLASS, Else-row-ne-ONLY_HEAD}
+use Rattle.load.proofs.faults.check_fields.Goals.{Start, Else-is_outside, Else-is_outside-2, Else-row-gt-LATEST_PHASE}
+use Rattle.load.proofs.faults.check_fields.Goals.{Else-is_outside-3, Else-is_outside-4, Else-row-gt-MOST_WINDOWS}
+use Rattle.load.proofs.faults.check_fields.Goals.{Else-row-gt-MOST_CLASS, Else-row-ne-ONLY_HEAD}
 
 -- the call, from behind a test
 abbrev call1 : Else-is_outside → Start

@@ -7,7 +7,8 @@ use borrow.Author.Tests.{eq-eqb, ne_eqb, lt-ltb, le-ltb, le-leb, lt-leb}
 use Rattle.refusals.specs.FirstMet.{first_met}
 use Rattle.load.specs.Faults.{window_numbers}
 use Rattle.load.proofs.faults.check_window.Goals as goal
-use Rattle.load.proofs.faults.check_window.Goals.{Start, Else-window-eq0, Else-window-eq0-2, Else-is_outside, Else-window, Else-row-window, Else-window-before}
+use Rattle.load.proofs.faults.check_window.Goals.{Start, Else-window-eq0, Else-window-eq0-2, Else-is_outside}
+use Rattle.load.proofs.faults.check_window.Goals.{Else-window, Else-row-window, Else-window-before}
 
 -- the call, from behind a test
 abbrev call1 : Else-window-eq0 → Start

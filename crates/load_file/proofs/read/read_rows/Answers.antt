@@ -9,9 +9,11 @@ use Rattle.refusals.specs.declared.Checked.TheVariants.{Good, Refused}
 use Rattle.refusals.proofs.FirstMetLaws.{good-refused}
 use Rattle.load_file.specs.Places.{rows_said}
 use Rattle.load_file.specs.inner.ReadingSteps.{rows_fault}
-use Rattle.load_file.proofs.faults.ReadingRowsLaws.{rows_none, rows-refused, few-steps, rows_next, steps-counted, end-decides, reading-refused, reading-good}
+use Rattle.load_file.proofs.faults.ReadingRowsLaws.{rows_none, rows-refused, few-steps, rows_next, steps-counted}
+use Rattle.load_file.proofs.faults.ReadingRowsLaws.{end-decides, reading-refused, reading-good}
 use Rattle.load_file.proofs.read.read_rows.Goals as goal
-use Rattle.load_file.proofs.read.read_rows.Goals.{Left-loop-i, Joined-answer-2, else-loop-i-test, then-loop-i-test+in-Refused, in-Good, in_default-answer}
+use Rattle.load_file.proofs.read.read_rows.Goals.{Left-loop-i, Joined-answer-2, else-loop-i-test}
+use Rattle.load_file.proofs.read.read_rows.Goals.{then-loop-i-test+in-Refused, in-Good, in_default-answer}
 
 pub loop-i-init : goal.loop-i-init
 loop-i-init c = (search rules, rows_none c.args.bytes.now _ c.zero_row-kept.ensures, refl)

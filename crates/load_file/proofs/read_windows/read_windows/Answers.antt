@@ -9,7 +9,8 @@ use borrow.Author.Rules.{rules}
 use Rattle.counting.proofs.lists.ListLaws.{filled_none, filled-stored}
 use Rattle.refusals.specs.declared.Checked.TheVariants.{Good}
 use Rattle.refusals.specs.FirstMet.{first_met, first_fault_to}
-use Rattle.refusals.proofs.FirstMetLaws.{good-refused, first_fault_to-zero, first_fault_to-next, first_fault_to-refused, and_then-both}
+use Rattle.refusals.proofs.FirstMetLaws.{good-refused, first_fault_to-zero, first_fault_to-next, first_fault_to-refused}
+use Rattle.refusals.proofs.FirstMetLaws.{and_then-both}
 use Rattle.load.specs.Load.{most_windows, no_window}
 use Rattle.load.specs.Faults.{window_numbers}
 use Rattle.load_records.specs.Records.{window_kind}

@@ -11,7 +11,8 @@ use Rattle.load_records.specs.Records.{newest, row_kind, most_row_bytes}
 use Rattle.load_records.specs.Writing.{row_bytes}
 use Rattle.load_records.specs.Calls.{records_holding}
 use Rattle.load_records.proofs.LengthLaws.{row_kind-most}
-use Rattle.load_records.proofs.RowLaws.{row_written, records_holding-is, counted-steps-le, counted-windows-le, counted-length-le}
+use Rattle.load_records.proofs.RowLaws.{row_written, records_holding-is, counted-steps-le, counted-windows-le}
+use Rattle.load_records.proofs.RowLaws.{counted-length-le}
 use Rattle.load_records.proofs.rows.records_in.Goals as goal
 use Rattle.load_records.proofs.rows.records_in.Goals.{After-counted_row-counted, After-row_size-size}
 

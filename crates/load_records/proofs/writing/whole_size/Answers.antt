@@ -3,7 +3,8 @@
 use mathlib.Core.Path.{◌≡◌}
 use native.Mathlib.Omega.{arith}
 use borrow.Author.Rules.{rules}
-use Rattle.load_records.proofs.WritingLaws.{rows_bytes-length-zero, rows_bytes-length-next, rows_bytes-length-le, row_bytes-length-le, load_bytes-length-rows, rows-le}
+use Rattle.load_records.proofs.WritingLaws.{rows_bytes-length-zero, rows_bytes-length-next, rows_bytes-length-le}
+use Rattle.load_records.proofs.WritingLaws.{row_bytes-length-le, load_bytes-length-rows, rows-le}
 use Rattle.load_records.proofs.writing.whole_size.Goals as goal
 
 pub loop-i-init : goal.loop-i-init

@@ -12,7 +12,8 @@ use Rattle.load.specs.declared.Row.{Row}
 use Rattle.load.specs.Load.{row_at}
 use Rattle.load_records.specs.Writing.{row_bytes, counted_row}
 use Rattle.load_records.proofs.RowLaws.{records-length, records-inside, records-taken}
-use Rattle.load_records.proofs.WritingLaws.{rows_bytes-length-zero, rows_bytes-length-next, rows_bytes-length-le, row_bytes-length-le, rows-le, counted_same}
+use Rattle.load_records.proofs.WritingLaws.{rows_bytes-length-zero, rows_bytes-length-next, rows_bytes-length-le}
+use Rattle.load_records.proofs.WritingLaws.{row_bytes-length-le, rows-le, counted_same}
 use Rattle.load_records.proofs.writing.write_rows.Goals as goal
 use Rattle.load_records.proofs.writing.write_rows.Goals.{After-records_in-records}
 

@@ -9,7 +9,8 @@ use Rattle.plan.proofs.numbers.lowest_step.Given as goal
 
 abbrev pub invariant-loop-k : goal.invariant-loop-k
 invariant-loop-k l =
-    (l.k ≤ l.rows) × (l.lowest ≤ 8) × ((j : ℕ) → j ≤ 8 → all_to (below_by (numbers_from l.counts 0) (numbers_from l.counts 24) j)
+    (l.k ≤ l.rows) × (l.lowest ≤ 8)
+    × ((j : ℕ) → j ≤ 8 → all_to (below_by (numbers_from l.counts 0) (numbers_from l.counts 24) j)
     l.k ≡ leb j l.lowest)
 
 abbrev pub decreases-loop-k : goal.decreases-loop-k

@@ -13,7 +13,8 @@ use Rattle.plan.specs.Boards.{numbers_from, marks_from}
 use Rattle.plan.specs.inner.Searching.{NumbersIn}
 use Rattle.plan.proofs.NumberLaws.{numbers-first, numbers-all, numbers-kept, numbers-marked}
 use Rattle.plan.proofs.numbers.numbers_of.Goals as goal
-use Rattle.plan.proofs.numbers.numbers_of.Goals.{then-lowest, else-lowest, then-is_marked+then-number, then-is_marked+else-number, else-is_marked}
+use Rattle.plan.proofs.numbers.numbers_of.Goals.{then-lowest, else-lowest, then-is_marked+then-number}
+use Rattle.plan.proofs.numbers.numbers_of.Goals.{then-is_marked+else-number, else-is_marked}
 use Rattle.plan.proofs.numbers.numbers_of.Goals.{Joined-lowest}
 
 -- the lowest unfinished step is marked
@@ -23,7 +24,8 @@ first : (c : Joined-lowest)
 first c =
     elim c.if-lowest.branch [
       | then-lowest w ↦
-          let e : c.if-lowest.numbers ≡ set (replicate 8 false) c.args.lowest true = w.numbers-is ∙ w.mark_number.ensures in
+          let e : c.if-lowest.numbers ≡ set (replicate 8 false) c.args.lowest true = w.numbers-is
+          ∙ w.mark_number.ensures in
           numbers-first _ _ _ _ (ap length e ∙ length-set (replicate 8 false) c.args.lowest true)
           (λ l. ap (λ m. is_marked m c.args.lowest) e
           ∙ get_or-set_same (replicate 8 false) c.args.lowest true false l)
@@ -32,7 +34,8 @@ first c =
 
 pub returns-then-none_open : goal.returns-then-none_open
 returns-then-none_open c =
-    numbers-all _ _ _ _ _ (not-true _ (sym c.none_open.ensures ∙ c.if-none_open.true)) (first (goal.at.returns-then-none_open c).Joined-lowest)
+    numbers-all _ _ _ _ _ (not-true _ (sym c.none_open.ensures ∙ c.if-none_open.true))
+    (first (goal.at.returns-then-none_open c).Joined-lowest)
 
 pub loop-i-init : goal.loop-i-init
 loop-i-init c = (search rules, first (goal.at.loop-i-init c).Joined-lowest)
@@ -47,7 +50,8 @@ loop-i-preserved c =
         rw (w.numbers-is ∙ w.mark_number-then-number.ensures)
             (subst (λ n. NumbersIn (numbers_from counts 0) (marks_from counts 48) c.args.lowest (loop.i + 1)
             (set loop.numbers n true)) (sym w.count_at-number.ensures)
-            (numbers-marked _ _ _ _ _ loop.invariant.1 (subst (λ n. n < 8) w.count_at-number.ensures w.if-number.true))),
+            (numbers-marked _ _ _ _ _ loop.invariant.1
+            (subst (λ n. n < 8) w.count_at-number.ensures w.if-number.true))),
       )
       | then-is_marked+else-number w ↦ (
         search rules,

@@ -58,12 +58,14 @@ module _ (c : Start) where
 
 pub returns-then-are_in_time : goal.returns-then-are_in_time
 returns-then-are_in_time c =
-    closed (goal.at.returns-then-are_in_time c).Start c.length_at-cost.result c.is_marked.result true c.are_in_time.result
+    closed (goal.at.returns-then-are_in_time c).Start c.length_at-cost.result c.is_marked.result true
+    c.are_in_time.result
     c.length_at-cost.ensures c.is_marked.ensures c.if-not-is_marked.true c.are_in_time.ensures c.if-are_in_time.true
 
 pub returns-then-not-is_marked : goal.returns-then-not-is_marked
 returns-then-not-is_marked c =
-    closed (goal.at.returns-then-not-is_marked c).Start c.length_at-cost.result c.is_marked.result false c.are_in_time.result
+    closed (goal.at.returns-then-not-is_marked c).Start c.length_at-cost.result c.is_marked.result false
+    c.are_in_time.result
     c.length_at-cost.ensures c.is_marked.ensures c.if-not-is_marked.true c.are_in_time.ensures c.if-are_in_time.false
 
 pub returns : goal.returns

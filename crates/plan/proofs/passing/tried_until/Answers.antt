@@ -42,11 +42,22 @@ ends c b e =
 
 pub returns-then-ends_late : goal.returns-then-ends_late
 returns-then-ends_late c =
-    late _ _ _ _ c.requires.rows_le_most_rows.2 (ltb-true _ _ (ends (goal.at.returns-then-ends_late c).After-ends_late true c.if-ends_late.true))
+    late _ _ _ _ c.requires.rows_le_most_rows.2
+    (ltb-true _ _ (ends (goal.at.returns-then-ends_late c).After-ends_late true c.if-ends_late.true))
 
 pub passing_moment-requires : goal.passing_moment-requires
-passing_moment-requires c = record { rows_le_most_rows = (c.requires.rows_le_most_rows.0, c.requires.rows_le_most_rows.1, ltb-false _ _ (ends (goal.at.passing_moment-requires c).After-ends_late false c.if-ends_late.false)); stack_in = c.requires.stack_in }
+passing_moment-requires c =
+    record {
+      rows_le_most_rows = (
+        c.requires.rows_le_most_rows.0,
+        c.requires.rows_le_most_rows.1,
+        ltb-false _ _ (ends (goal.at.passing_moment-requires c).After-ends_late false c.if-ends_late.false),
+      );
+      stack_in =
+          c.requires.stack_in;
+    }
 
 pub returns : goal.returns
 returns c =
-    asked _ _ _ _ _ (ltb-false _ _ (ends (goal.at.returns c).After-ends_late false c.if-ends_late.false)) c.passing_moment.ensures
+    asked _ _ _ _ _ (ltb-false _ _ (ends (goal.at.returns c).After-ends_late false c.if-ends_late.false))
+    c.passing_moment.ensures

@@ -19,7 +19,8 @@ use Rattle.plan.proofs.SweepLaws.{tried-candidate, candidate-tried, refused-more
 use Rattle.plan.proofs.SweepLaws.{passed_on, passed_over, passed-turn, passed-number, passed-unmarked}
 use Rattle.plan.proofs.SweepLaws.{passed_none, next-later, passed_first, passed-begin, passed-none-yet}
 use Rattle.plan.proofs.searching.search.Goals as goal
-use Rattle.plan.proofs.searching.search.Goals.{Start, then-is_ready+then-here-turn, then-is_ready+else-here-turn+else-moment-clock, else-is_ready}
+use Rattle.plan.proofs.searching.search.Goals.{Start, then-is_ready+then-here-turn}
+use Rattle.plan.proofs.searching.search.Goals.{then-is_ready+else-here-turn+else-moment-clock, else-is_ready}
 use Rattle.plan.proofs.searching.search.Goals.{then-numbers-number+else-loop-turn-test, else-numbers-number}
 
 abbrev board : Start → Board
@@ -42,13 +43,21 @@ not-ready board rows lowest known number from most i clock ready is e same candi
     e)
 
 pub search-init : goal.search-init
-search-init c =
-    (refl, omega arith, c.requires.search_fits.known, passed_first (board (goal.at.search-init c).Start) _ _ c.requires.search_fits.lowest-is _ c.args.clock)
+search-init c = (
+  refl,
+  omega arith,
+  c.requires.search_fits.known,
+  passed_first (board (goal.at.search-init c).Start) _ _ c.requires.search_fits.lowest-is _ c.args.clock,
+)
 
 pub loop-turn-init : goal.loop-turn-init
 loop-turn-init c =
-    let inv = c.search.invariant in
-    (inv.0, inv.2, passed-begin (board (goal.at.loop-turn-init c).Start) _ _ _ _ _ c.requires.first_turn c.requires.search_fits.rows-most inv.3)
+    let inv = c.search.invariant in (
+      inv.0,
+      inv.2,
+      passed-begin (board (goal.at.loop-turn-init c).Start) _ _ _ _ _ c.requires.first_turn
+          c.requires.search_fits.rows-most inv.3,
+    )
 
 pub loop-i-init : goal.loop-i-init
 loop-i-init c =
@@ -69,7 +78,8 @@ loop-i-preserved c =
       | then-is_ready+then-here-turn w ↦
           let other : turn_in c.args.classes.now i ≢ tried =
           λ e. omega (arith, w.if-here-turn.true, w.turn_at-here.ensures, e) in
-          let lower = w.next-is ∙ (w.next_turn-next.ensures ∙ ap (λ n. cond (ltb tried n) (min n next) next) w.turn_at-here.ensures) in (
+          let lower = w.next-is
+          ∙ (w.next_turn-next.ensures ∙ ap (λ n. cond (ltb tried n) (min n next) next) w.turn_at-here.ensures) in (
             inv.0,
             next-later tried _ next _ other inv.1 lower,
             rw w.until-is inv.2,
@@ -93,7 +103,8 @@ loop-i-preserved c =
         rw w.until-is inv.2,
         rw w.next-is
             (pass
-            (not-ready board c.args.rows c.args.lowest fits.lowest-is c.search.number c.search.invariant.1 c.search-test.true i
+            (not-ready board c.args.rows c.args.lowest fits.lowest-is c.search.number c.search.invariant.1
+            c.search-test.true i
             c.args.clock c.is_ready.result c.is_ready.ensures w.if-is_ready.false)
             inv.3),
       )
@@ -157,7 +168,8 @@ returns-then-moment-clock c =
       chosen_row = chosen_is board _ _ _ c.requires.search_fits.rows-most (at i)
           (first-chosen board _ _ _ number _ _ i inv.3 inv.1
           c.loop-i-test.true same
-          (omega (arith, c.turn_at-here.ensures, c.if-here-turn.false)) candidate (until.passes c.if-moment-clock.true));
+          (omega (arith, c.turn_at-here.ensures, c.if-here-turn.false)) candidate
+          (until.passes c.if-moment-clock.true));
       refused_to = inv.2;
     }
 

@@ -4,7 +4,15 @@ use native.Mathlib.Omega.{arith}
 use Rattle.plan.proofs.soonest.first_passing.Goals as goal
 
 pub tried_until-until-requires : goal.tried_until-until-requires
-tried_until-until-requires c = record { rows_le_most_rows = (c.requires.rows_le_most_rows.0, c.requires.rows_le_most_rows.1, omega (arith, c.loop-moment-test.true, c.requires.rows_le_most_rows.2)); stack_in = c.requires.stack_in }
+tried_until-until-requires c =
+    record {
+      rows_le_most_rows = (
+        c.requires.rows_le_most_rows.0,
+        c.requires.rows_le_most_rows.1,
+        omega (arith, c.loop-moment-test.true, c.requires.rows_le_most_rows.2),
+      );
+      stack_in = c.requires.stack_in;
+    }
 
 pub returns-then-until-moment : goal.returns-then-until-moment
 returns-then-until-moment c =
@@ -18,7 +26,8 @@ returns-then-until-moment c =
     }
 
 pub loop-moment-smaller : goal.loop-moment-smaller
-loop-moment-smaller c = omega (arith, c.tried_until-until.ensures.from, c.if-until-moment.false, c.loop-moment-test.true)
+loop-moment-smaller c =
+    omega (arith, c.tried_until-until.ensures.from, c.if-until-moment.false, c.loop-moment-test.true)
 
 pub loop-moment-preserved : goal.loop-moment-preserved
 loop-moment-preserved c =

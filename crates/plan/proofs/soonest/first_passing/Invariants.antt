@@ -10,7 +10,8 @@ use Rattle.plan.proofs.soonest.first_passing.Given as goal
 abbrev pub invariant-loop-moment : goal.invariant-loop-moment
 invariant-loop-moment l =
     (l.from ≤ l.moment)
-    × ((t : ℕ) → l.from ≤ t → t < l.moment → t + (look_in (board_in l.counts l.lengths l.moments) l.i).cost ≤ last_moment
+    × ((t : ℕ) → l.from ≤ t → t < l.moment → t + (look_in (board_in l.counts l.lengths l.moments) l.i).cost
+    ≤ last_moment
     → passes_in (board_in l.counts l.lengths l.moments) t l.rows l.i ≡ false)
 
 abbrev pub decreases-loop-moment : goal.decreases-loop-moment

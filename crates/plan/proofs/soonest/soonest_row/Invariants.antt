@@ -6,7 +6,8 @@ use Rattle.plan.proofs.soonest.soonest_row.Given as goal
 
 abbrev pub invariant-loop-i : goal.invariant-loop-i
 invariant-loop-i l =
-    l.row < l.rows → TriedRow (numbers_from l.counts 0) (numbers_from l.counts 24) (marks_from l.counts 48) l.lowest l.row
+    l.row < l.rows → TriedRow (numbers_from l.counts 0) (numbers_from l.counts 24)
+    (marks_from l.counts 48) l.lowest l.row
 
 abbrev pub decreases-loop-i : goal.decreases-loop-i
 decreases-loop-i l = l.rows - l.i

@@ -20,7 +20,8 @@ pub row_from-from-requires : goal.row_from-from-requires
 row_from-from-requires c = omega (arith, c.if-rows-i.false, c.requires.rows-most)
 
 pub first_passing-moment-requires : goal.first_passing-moment-requires
-first_passing-moment-requires c = record { rows_le_most_rows = (c.requires.rows-most, c.if-rows-i.false, omega arith); stack_in = c.requires.stack }
+first_passing-moment-requires c =
+    record { rows_le_most_rows = (c.requires.rows-most, c.if-rows-i.false, omega arith); stack_in = c.requires.stack }
 
 pub overflow_add-result-2 : goal.overflow_add-result-2
 overflow_add-result-2 c = omega (arith, c.first_passing-moment.ensures.most)

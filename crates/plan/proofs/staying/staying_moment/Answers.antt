@@ -75,7 +75,8 @@ pub returns : goal.returns
 returns c =
     let stay = stay_of c.args.opened c.args.clock c.args.cost c.args.wait c.args.rest c.args.limit c.args.own in
     let there =
-    get_or-take c.args.count c.args.order.now c.rows_before-walked.result.place 0 (placed (goal.at.returns c).Else-are_in_time) in
+    get_or-take c.args.count c.args.order.now c.rows_before-walked.result.place 0
+    (placed (goal.at.returns c).Else-are_in_time) in
     c.behind_moment.ensures
     ∙ ap (behind_until c.args.i stay _) c.moment_at.ensures
     ∙ sym

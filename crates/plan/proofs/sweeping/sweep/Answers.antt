@@ -14,8 +14,11 @@ abbrev board : Start → Board
 board c = board_in c.args.counts.now c.args.lengths.now c.args.moments.now
 
 pub loop-number-init : goal.loop-number-init
-loop-number-init c =
-    (omega arith, c.requires.search_fits.lowest-is.most, swept-first (board c) _ _ _ _ c.args.lowest c.requires.search_fits.lowest-is)
+loop-number-init c = (
+  omega arith,
+  c.requires.search_fits.lowest-is.most,
+  swept-first (board c) _ _ _ _ c.args.lowest c.requires.search_fits.lowest-is,
+)
 
 pub loop-turn-init : goal.loop-turn-init
 loop-turn-init c =
@@ -45,7 +48,8 @@ loop-number-preserved c =
         | then-numbers-number+else-loop-turn-test w ↦
             rw (w.row-is, w.soonest-is)
             (swept-to board _ _ _ _ _ _ _ _
-            (λ t a b. passed-number board _ _ loop.number t _ (omega (arith, w.loop-turn-test.false))) w.loop-turn.invariant)
+            (λ t a b. passed-number board _ _ loop.number t _ (omega (arith, w.loop-turn-test.false)))
+            w.loop-turn.invariant)
         | else-numbers-number w ↦
             rw (w.row-is, w.soonest-is)
             (swept-to board _ _ _ _ _ _ _ _

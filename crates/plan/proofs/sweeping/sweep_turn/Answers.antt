@@ -14,7 +14,10 @@ use Rattle.plan.specs.inner.Searching.{tried_in}
 use Rattle.plan.proofs.SweepLaws.{candidate-tried, passed_on, passed_over, passed-turn, passed-none-yet, next-later}
 use Rattle.plan.proofs.SweptLaws.{from-quiet, first-quiet, first-candidate, swept-to, swept-sooner}
 use Rattle.plan.proofs.sweeping.sweep_turn.Goals as goal
-use Rattle.plan.proofs.sweeping.sweep_turn.Goals.{then-is_tried+then-from-soonest+then-here-turn, then-is_tried+then-from-soonest+else-here-turn+then-moment-soonest, then-is_tried+then-from-soonest+else-here-turn+else-moment-soonest, then-is_tried+else-from-soonest, else-is_tried}
+use Rattle.plan.proofs.sweeping.sweep_turn.Goals.{then-is_tried+then-from-soonest+then-here-turn}
+use Rattle.plan.proofs.sweeping.sweep_turn.Goals.{then-is_tried+then-from-soonest+else-here-turn+then-moment-soonest}
+use Rattle.plan.proofs.sweeping.sweep_turn.Goals.{then-is_tried+then-from-soonest+else-here-turn+else-moment-soonest}
+use Rattle.plan.proofs.sweeping.sweep_turn.Goals.{then-is_tried+else-from-soonest, else-is_tried}
 
 pub loop-i-init : goal.loop-i-init
 loop-i-init c =
@@ -75,7 +78,8 @@ loop-i-preserved c =
         λ last s. rw (w.row-is, w.soonest-is, w.next-is)
             (swept-to board _ _ _ _ _ _ _ _
             (λ t a b. passed_on board _ _ number t turn next i
-            (λ same. first-quiet board _ _ _ fits.known i l _ w.row_from-from.ensures _ _ w.first_passing-moment.ensures t a
+            (λ same. first-quiet board _ _ _ fits.known i l _ w.row_from-from.ensures _ _
+            w.first_passing-moment.ensures t a
             (omega (arith, w.if-moment-soonest.false))))
             (inv.2 last s)),
       )
@@ -85,7 +89,8 @@ loop-i-preserved c =
         λ last s. rw (w.row-is, w.soonest-is, w.next-is)
             (swept-to board _ _ _ _ _ _ _ _
             (λ t a b. passed_on board _ _ number t turn next i
-            (λ same. from-quiet board _ _ _ fits.known i l _ w.row_from-from.ensures t a (omega (arith, w.if-from-soonest.false))))
+            (λ same. from-quiet board _ _ _ fits.known i l _ w.row_from-from.ensures t a
+            (omega (arith, w.if-from-soonest.false))))
             (inv.2 last s)),
       )
       | else-is_tried w ↦ (

@@ -5,7 +5,8 @@ use native.Mathlib.Omega.{arith}
 use borrow.Author.Rules.{rules}
 use borrow.Author.Tests.{ltb-true, ltb-false}
 use Rattle.plan.specs.inner.Passing.{jobs_of}
-use Rattle.plan.proofs.refused.WalkLaws.{finished, in_time_from, in_time_from-none, in_time_from-own, in_time_from-next, in_time_from-late}
+use Rattle.plan.proofs.refused.WalkLaws.{finished, in_time_from, in_time_from-none, in_time_from-own, in_time_from-next}
+use Rattle.plan.proofs.refused.WalkLaws.{in_time_from-late}
 use Rattle.plan.proofs.walking.are_in_time.Goals as goal
 use Rattle.plan.proofs.walking.are_in_time.Goals.{then-row-i+else-is_late, else-row-i}
 

@@ -7,7 +7,8 @@ use borrow.Author.Rules.{rules}
 use borrow.Author.Tests.{ltb-true, ltb-false}
 use Rattle.counting.proofs.tests.TestLaws.{true-false}
 use Rattle.plan.specs.inner.Passing.{jobs_of}
-use Rattle.plan.proofs.refused.WalkLaws.{walk_from, walk_from-none, walk_from-own, walk_from-stands, walk_from-late, walk_from-next, walked_whole, finished, stood}
+use Rattle.plan.proofs.refused.WalkLaws.{walk_from, walk_from-none, walk_from-own, walk_from-stands, walk_from-late}
+use Rattle.plan.proofs.refused.WalkLaws.{walk_from-next, walked_whole, finished, stood}
 use Rattle.plan.proofs.walking.rows_before.Goals as goal
 use Rattle.plan.proofs.walking.rows_before.Goals.{then-row-i+else-stands_before+else-is_late, else-row-i}
 
@@ -76,7 +77,8 @@ returns c =
     let loop = c.loop-place in
     let e : loop.place ≡ c.args.count = omega (arith, loop.invariant.0, c.loop-place-test.false) in
     let told = walked_whole _ _ _ _ _ _ _ c.walked_to-2.ensures
-    (loop.invariant.3 ∙ walk_from-none (jobs_of c.args.moments.now) _ _ _ _ c.requires.long _ _ _ c.loop-place-test.false ∙ rw e)
+    (loop.invariant.3
+    ∙ walk_from-none (jobs_of c.args.moments.now) _ _ _ _ c.requires.long _ _ _ c.loop-place-test.false ∙ rw e)
     c.requires.most (omega arith) (λ _. loop.invariant.1) (omega (arith, loop.invariant.2, e)) in
     record { value = told.0; walk_fits = told.1 }
 

@@ -11,7 +11,8 @@ use Rattle.schedule_file.proofs.array.write_array.Given as goal
 
 abbrev pub invariant-loop-k : goal.invariant-loop-k
 invariant-loop-k l =
-    (l.k ≤ l.n) × (l.n ≤ most_slots) × (length l.out ≡ length l.initial.out) × (l.out ≡ sets l.initial.out header_size (records_of l.slots l.k))
+    (l.k ≤ l.n) × (l.n ≤ most_slots) × (length l.out ≡ length l.initial.out)
+    × (l.out ≡ sets l.initial.out header_size (records_of l.slots l.k))
 
 abbrev pub decreases-loop-k : goal.decreases-loop-k
 decreases-loop-k l = l.n - l.k

@@ -26,5 +26,6 @@ returns c =
     sym (fold_end gathered_of slots c.loop-i.i c.loop-i.file c.loop-i-test.false) ∙ c.loop-i.invariant in
     gathered-given slots c.args.out.now c.flush.result c.flush.new.out
     (subst
-    (λ (file : Gathered). Given (count_fault n) (take (slot_place n) file.bytes) c.args.out.now c.flush.result c.flush.new.out)
+    (λ (file : Gathered). Given (count_fault n) (take (slot_place n) file.bytes) c.args.out.now c.flush.result
+    c.flush.new.out)
     whole c.flush.ensures)

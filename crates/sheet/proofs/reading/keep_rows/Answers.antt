@@ -4,7 +4,8 @@ use mathlib.Core.Path.{◌≡◌, ap, ap₂}
 use native.Mathlib.Omega.{arith}
 use borrow.Author.Rules.{rules}
 use Rattle.sheet.specs.inner.Walk.{rows_kept}
-use Rattle.sheet.proofs.walk.SheetWalk.{rows_none, row-stands-next, rows_next, kept-load, kept_next, rows-full, rows-ended}
+use Rattle.sheet.proofs.walk.SheetWalk.{rows_none, row-stands-next, rows_next, kept-load, kept_next, rows-full}
+use Rattle.sheet.proofs.walk.SheetWalk.{rows-ended}
 use Rattle.sheet.proofs.reading.keep_rows.Goals as goal
 use Rattle.sheet.proofs.reading.keep_rows.Goals.{else-loop-rows-test, then-loop-rows-test+then-bytes-next}
 

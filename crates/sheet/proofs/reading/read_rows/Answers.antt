@@ -8,7 +8,7 @@ use Rattle.sheet.specs.SheetRows.{row_place}
 use Rattle.sheet.specs.inner.Walk.{rows_kept}
 use Rattle.sheet.proofs.walk.SheetWalk.{rows-refused, load-refused, load-good}
 use Rattle.sheet.proofs.reading.read_rows.Goals as goal
-use Rattle.sheet.proofs.reading.read_rows.Goals.{After-keep_rows-kept, After-check_load}
+use Rattle.sheet.proofs.reading.read_rows.Goals.{After-check_load}
 
 pub returns-then-kept-bytes : goal.returns-then-kept-bytes
 returns-then-kept-bytes c =

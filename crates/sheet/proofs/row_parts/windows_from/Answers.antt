@@ -15,7 +15,8 @@ use Rattle.sheet.specs.inner.Narrow.{narrow_window}
 use Rattle.sheet.specs.inner.Walk.{limit_of, dashes_from}
 use Rattle.sheet.proofs.trip.PlaceLaws.{line_place-zero}
 use Rattle.sheet.proofs.walk.ReadLaws.{line-says, line-next}
-use Rattle.sheet.proofs.walk.WindowWalk.{dashes_from-le, lines-behind, windows_to, windows_to-zero, windows_to-all, windows_to-none, windows_to-le, windows_to-lt, window_from, stored}
+use Rattle.sheet.proofs.walk.WindowWalk.{dashes_from-le, lines-behind, windows_to, windows_to-zero, windows_to-all}
+use Rattle.sheet.proofs.walk.WindowWalk.{windows_to-none, windows_to-le, windows_to-lt, window_from, stored}
 use Rattle.sheet.proofs.row_parts.windows_from.Goals as goal
 use Rattle.sheet.proofs.row_parts.windows_from.Goals.{After-is_limit, then-is_limit, else-is_limit}
 

@@ -7,7 +7,8 @@ use borrow.Author.Rules.{rules}
 use lib.ListN.{length-set, set}
 use lib.Seq.{sets}
 use Rattle.words.specs.Decimal.{decimal}
-use Rattle.words.proofs.DecimalLaws.{decimal-small, decimal-length-next, decimal-length-le, decimal-length-lt, last-digit}
+use Rattle.words.proofs.DecimalLaws.{decimal-small, decimal-length-next, decimal-length-le, decimal-length-lt}
+use Rattle.words.proofs.DecimalLaws.{last-digit}
 use Rattle.words.proofs.decimal.with_digits.Goals as goal
 
 pub overflow_add-length : goal.overflow_add-length
