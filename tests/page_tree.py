@@ -98,6 +98,8 @@ def sentence_findings(page, text, sentences):
 
 # What declares a name: in antt, in Rattle, in C. What a law declares for itself alone, and what C only calls, does not.
 MARKS = r'(?:(?:abbrev|unfoldable)\s+)*'
+# The files of a function's own proof.
+OWN_PROOF = ('Answers.antt', 'Invariants.antt', 'Proof.antt')
 # An answer to a goal, or an invariant, bears the name that the toolchain gives it.
 ASKED = r'(?!\s*goal\.)'
 PUBLIC = re.compile(rf'^\s*{MARKS}pub\s+({NAME})\s+:\s{ASKED}', re.M)
@@ -119,7 +121,10 @@ def names_in(path, text):
 
 
 def laws_in(path, text):
-    """The public laws of a proof, and the promises of a statement: the fields of its records."""
+    """The public laws of a proof, and the promises of a statement: the fields of its records. What a function's own proof
+    says is no law."""
+    if os.path.basename(path) in OWN_PROOF:
+        return []
     pattern = PUBLIC if '/proofs/' in path else FIELD
     return pattern.findall(blanked(COMMENT, text)) if path.endswith('.antt') else []
 
