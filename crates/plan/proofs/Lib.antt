@@ -4,6 +4,7 @@ pub mod LookLaws
 pub mod BoardLaws
 pub mod OrderLaws
 pub mod refused
+pub mod ReadyLaws
 pub mod SearchLaws
 pub mod NumberLaws
 pub mod SweepLaws

@@ -107,16 +107,15 @@ loop-k-init c =
     )
 
 -- the next start is looked for
-module _ (c : After-next_start-next) (ok : check_load c.read_load-read.result.load ≡ Good)
-    (all : Shows c.read_load-read.result.load (bench_of fresh)
-    (board_in c.loop-i.counts c.loop-i.lengths c.loop-i.moments)) where
+module _ (c : After-next_start-next) where
+  ok : check_load c.read_load-read.result.load ≡ Good
+  ok = ReadLoad-accepted _ _ c.read_load-read.ensures (λ at. grind arith) c.in_default.is
+
   less : c.loop-k.k < length (schedule (view_of c.read_load-read.result.load))
   less =
-      omega (
-        arith,
-        c.loop-k-test.true,
-        c.steps_of-steps.ensures ∙ steps-counted _ ok (checked-rows _ ok) _ _ all,
-      )
+      let all = shows-all _ _ _ (board_in-wide _ _ _)
+      (λ k l. c.loop-i.invariant.2 k (omega (arith, c.loop-i-test.false))) in
+      omega (arith, c.loop-k-test.true, c.steps_of-steps.ensures ∙ steps-counted _ ok (checked-rows _ ok) _ _ all)
 
   up : NextUp c.read_load-read.result.load (board_in c.loop-k.counts c.loop-k.lengths c.loop-k.moments) c.loop-k.k
       c.next_start-next.result
@@ -127,50 +126,40 @@ module _ (c : After-next_start-next) (ok : check_load c.read_load-read.result.lo
 
 pub offset_bounds-load-i-in-loop-k : goal.offset_bounds-load-i-in-loop-k
 offset_bounds-load-i-in-loop-k c =
-    let at = goal.at.offset_bounds-load-i-in-loop-k c in
-    let ok = accepted at.In_default in
-    omega (arith, (up at.After-next_start-next ok (shows at.After-loop-i)).row_is, checked-rows _ ok)
+    let at = (goal.at.offset_bounds-load-i-in-loop-k c).After-next_start-next in
+    omega (arith, (up at).row_is, checked-rows _ (ok at))
 
 pub bounds-load-i-in-loop-k : goal.bounds-load-i-in-loop-k
 bounds-load-i-in-loop-k c =
-    let at = goal.at.bounds-load-i-in-loop-k c in
-    let ok = accepted at.In_default in
-    omega (arith, (up at.After-next_start-next ok (shows at.After-loop-i)).row_is, checked-rows _ ok)
+    let at = (goal.at.bounds-load-i-in-loop-k c).After-next_start-next in
+    omega (arith, (up at).row_is, checked-rows _ (ok at))
 
 pub start_row-started-requires : goal.start_row-started-requires
 start_row-started-requires c =
-    let at = goal.at.start_row-started-requires c in
     record {
-      can_start = (up at.After-next_start-next (accepted at.In_default) (shows at.After-loop-i)).can;
+      can_start = (up (goal.at.start_row-started-requires c).After-next_start-next).can;
       placed = c.loop-k.invariant.3;
     }
 
 pub overflow_mul-k : goal.overflow_mul-k
-overflow_mul-k c =
-    let at = goal.at.overflow_mul-k c in
-    omega (arith, (up at.After-next_start-next (accepted at.In_default) (shows at.After-loop-i)).room)
+overflow_mul-k c = omega (arith, (up (goal.at.overflow_mul-k c).After-next_start-next).room)
 
 pub overflow_add-k : goal.overflow_add-k
-overflow_add-k c =
-    let at = goal.at.overflow_add-k c in
-    omega (arith, (up at.After-next_start-next (accepted at.In_default) (shows at.After-loop-i)).room)
+overflow_add-k c = omega (arith, (up (goal.at.overflow_add-k c).After-next_start-next).room)
 
 pub overflow_step-k : goal.overflow_step-k
-overflow_step-k c =
-    let at = goal.at.overflow_step-k c in
-    omega (arith, (up at.After-next_start-next (accepted at.In_default) (shows at.After-loop-i)).room)
+overflow_step-k c = omega (arith, (up (goal.at.overflow_step-k c).After-next_start-next).room)
 
 pub loop-k-preserved : goal.loop-k-preserved
 loop-k-preserved c =
-    let at = goal.at.loop-k-preserved c in
-    let ok = accepted at.In_default in
-    let next = up at.After-next_start-next ok (shows at.After-loop-i) in
+    let at = (goal.at.loop-k-preserved c).After-next_start-next in
+    let next = up at in
     let started = c.start_row-started.ensures in
     let inv = c.loop-k.invariant in (
       omega (arith, c.loop-k-test.true),
       c.overwrite-in-loop-k.auto.out ∙ inv.1,
       records-next (schedule (view_of c.read_load-read.result.load)) _ _ _ _ c.loop-k.k
-          (less at.After-next_start-next ok (shows at.After-loop-i)) inv.2
+          (less at) inv.2
           (c.slot_record-record.ensures ∙ ap slot_record (started.row_started.slot_is ∙ next.slot_is))
           c.overwrite-in-loop-k.ensures,
       started.placed_2,

@@ -1,21 +1,21 @@
 -- `search` passes over one row after the other, and goes one class further a turn and one step number further a round,
 -- until a candidate passes.
-use Prim.Native.Nat.{ℕ, min, ◌≤◌, ◌<◌}
-use mathlib.Core.Bool.{Bool, true, false, cond, ◌&&◌}
+use Prim.Native.Nat.{min}
+use mathlib.Core.Bool.{true, false, cond, ◌&&◌}
 use mathlib.Core.Logic.{◌≢◌}
 use mathlib.Core.Path.{◌≡◌, refl, ap, sym, ◌∙◌, subst}
 use native.Mathlib.Omega.{arith}
-use borrow.Author.Tests.{eqb-true, leb-true, le-leb}
+use borrow.Author.Tests.{eqb-true, leb-true}
 use lib.Dec.{eqb, leb, ltb}
 use Rattle.counting.specs.Searches.{at, none}
-use Rattle.counting.proofs.tests.TestLaws.{and_left, and_right, true-false}
-use Rattle.load.specs.Load.{most_steps}
+use Rattle.counting.proofs.tests.TestLaws.{and_left, and_right}
 use Rattle.plan.specs.Boards.{Board, board_in, look_in}
-use Rattle.plan.specs.Choices.{turn_in, candidate_in, passes_in}
+use Rattle.plan.specs.Choices.{turn_in}
 use Rattle.plan.specs.Calls.{ChosenRow}
-use Rattle.plan.specs.inner.Searching.{LowestStep, tried_in}
-use Rattle.plan.proofs.SearchLaws.{candidate-ends, candidate-ready, first-chosen}
-use Rattle.plan.proofs.SweepLaws.{tried-candidate, candidate-tried, refused-more, chosen_is}
+use Rattle.plan.specs.inner.Searching.{tried_in}
+use Rattle.plan.proofs.ReadyLaws.{not-ready}
+use Rattle.plan.proofs.SearchLaws.{candidate-ends, first-chosen}
+use Rattle.plan.proofs.SweepLaws.{tried-candidate, refused-more, chosen_is}
 use Rattle.plan.proofs.SweepLaws.{passed_on, passed_over, passed-turn, passed-number, passed-unmarked}
 use Rattle.plan.proofs.SweepLaws.{passed_none, next-later, passed_first, passed-begin, passed-none-yet}
 use Rattle.plan.proofs.searching.search.Goals as goal
@@ -25,22 +25,6 @@ use Rattle.plan.proofs.searching.search.Goals.{then-numbers-number+else-loop-tur
 
 abbrev board : Start → Board
 board c = board_in c.args.counts.now c.args.lengths.now c.args.moments.now
-
--- a row is no candidate where it is not ready
-not-ready : (board : Board) (rows lowest : ℕ) → LowestStep board.finished board.steps rows lowest
-    → (number : ℕ) → lowest ≤ number → number < most_steps → (i clock : ℕ) (ready : Bool)
-    → ready ≡ (tried_in board number lowest i && leb (look_in board i).release clock) → ready ≡ false
-    → (look_in board i).finished ≡ number → candidate_in board clock rows i ≡ true
-    → passes_in board clock rows i ≡ false
-not-ready board rows lowest known number from most i clock ready is e same candidate =
-    absurd
-    (true-false ready
-    (is
-    ∙ rw (
-      candidate-tried board rows lowest known number from most i clock same candidate,
-      le-leb (look_in board i).release clock (candidate-ready (look_in board i) clock _ candidate),
-    ))
-    e)
 
 pub search-init : goal.search-init
 search-init c = (
