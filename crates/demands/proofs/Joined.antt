@@ -1,7 +1,7 @@
 -- "Each public call's contract decides the result and every lent byte and slot afterwards, for all inputs and each
 -- refusal": each public call's contract is its relation in PublicCalls, at the call's own parameters, and asks nothing.
--- This is a statement, and JoinedHolds proves it. It stands here since a contract is generated under its crate's
--- proofs, which no specs file cites; a file a layer in contracts has a field a call. A call's parameters are `a.0`,
+-- This is a statement, and JoinedHolds proves it. It stands beside its witness: contracts were once generated under
+-- proofs, which no specs file cites. A file a layer in contracts has a field a call. A call's parameters are `a.0`,
 -- `a.1.0` and so on, and `.now` is what is lent; tests/contracts compares each field with the line of its function.
 -- To be read after JoinedContract.
 use Rattle.demands.specs.PublicCalls.{EveryCall}
