@@ -6,8 +6,8 @@ import re
 from typing import NamedTuple
 
 PAGES = ('README.md', 'docs/*.md', 'docs/landings/*.md', 'examples/README.md', 'second/*.md')
-# The page that has names and texts of the older language beside today's, and so is not looked up.
-MOVED = 'docs/PORT.md'
+# The pages that have names and texts of an older commit beside today's, and so are not looked up.
+MOVED = ('docs/PORT.md', 'docs/DESIGN-PASS.md')
 # The folders that are made, and those that a page announces.
 MADE = ('.git', 'dist', 'second/build')
 OUT = re.compile(r'crates/\w+/out(/|$)')
@@ -62,7 +62,7 @@ def blocks(text):
 
 def page_texts(root):
     paths = [path for pattern in PAGES for path in sorted(glob.glob(os.path.join(root, pattern)))]
-    names = [name for name in (os.path.relpath(path, root) for path in paths) if name != MOVED]
+    names = [name for name in (os.path.relpath(path, root) for path in paths) if name not in MOVED]
     return {name: read(root, name) for name in names}
 
 

@@ -2,7 +2,9 @@
 use Prim.Native.Nat.{ℕ}
 use mathlib.Core.List.{List}
 use mathlib.Core.Path.{◌≡◌, sym, ◌∙◌}
-use Rattle.refusals.specs.declared.Checked.{Checked}
+use Rattle.std.specs.Prelude.{Result}
+use Rattle.refusals.specs.declared.Refusal.{Refusal}
+use Rattle.refusals.specs.Checked.{Checked}
 use Rattle.refusals.proofs.CallLaws.{Given-unique-finding, Given-unique-output}
 use Rattle.load.specs.declared.Load.{Load}
 use Rattle.bench.specs.declared.Bench.{Bench}
@@ -17,7 +19,7 @@ pub NextMove-unique : (load : Load) (bench : Bench) (r s : Moved) → NextMove l
     → r ≡ s
 NextMove-unique load bench r s p q = p ∙ sym q
 
-pub Runs-unique : (load : Load) (r s : Ran) → Runs load r → Runs load s → r ≡ s
+pub Runs-unique : (load : Load) (r s : Result Ran Refusal) → Runs load r → Runs load s → r ≡ s
 Runs-unique load r s p q = p ∙ sym q
 
 -- the same finding, and the same output afterwards

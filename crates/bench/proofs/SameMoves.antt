@@ -1,7 +1,7 @@
 -- Two accepted loads that differ only in identifiers and boxes have the same moves: no wait is kept under an
 -- identifier.
 use mathlib.Core.Path.{◌≡◌, ap, sym, ◌∙◌}
-use Rattle.refusals.specs.declared.Checked.TheVariants.{Good}
+use Rattle.std.specs.Prelude.{Ok}
 use Rattle.load.specs.declared.Load.{Load}
 use Rattle.load.specs.Check.{check_load}
 use Rattle.load.specs.View.{View}
@@ -12,7 +12,7 @@ use Rattle.bench.specs.declared.Bench.{Bench}
 use Rattle.bench.specs.Held.{state_of, handed_on, next_move}
 use Rattle.bench.proofs.choice.NextLaws.{next_move-good}
 
-pub next_move-same : (a b : Load) → SameLoad a b → check_load a ≡ Good → check_load b ≡ Good → (bench : Bench)
+pub next_move-same : (a b : Load) → SameLoad a b → check_load a ≡ Ok tt → check_load b ≡ Ok tt → (bench : Bench)
     → next_move a bench ≡ next_move b bench
 next_move-same a b same ga gb bench =
     next_move-good a bench ga

@@ -1,8 +1,9 @@
 -- What each public call's contract says: one relation a call, over what it takes and what it gives.
 -- To be read after Held and Runs.
-use Rattle.std.specs.Prelude.{ℕ, List, ◌≡◌}
-use Rattle.refusals.specs.declared.Checked.{Checked}
-use Rattle.refusals.specs.Given.{Given}
+use Rattle.std.specs.Prelude.{ℕ, List, ◌≡◌, Result}
+use Rattle.refusals.specs.declared.Refusal.{Refusal}
+use Rattle.refusals.specs.Checked.{Checked}
+use Rattle.refusals.specs.Given.{given, Given}
 use Rattle.load.specs.declared.Load.{Load}
 use Rattle.load.specs.View.{view_of}
 use Rattle.load.specs.Check.{for_bench}
@@ -15,7 +16,7 @@ use Rattle.bench.specs.declared.Bench.{Bench}
 use Rattle.bench.specs.declared.Moved.{Moved}
 use Rattle.bench.specs.declared.Ran.{Ran}
 use Rattle.bench.specs.Held.{bench_of, next_move}
-use Rattle.bench.specs.Runs.{schedule_or, ran_with}
+use Rattle.bench.specs.Runs.{ran_with}
 
 -- fresh(): fresh is all zero
 abbrev pub Fresh : Bench → Type 0
@@ -25,12 +26,12 @@ Fresh r = r ≡ bench_of fresh
 abbrev pub NextMove : Load → Bench → Moved → Type 0
 NextMove load bench r = r ≡ next_move load bench
 
--- run(load): the load's number and no slot, or Good with the schedule
-abbrev pub Runs : Load → Ran → Type 0
-Runs load r = r ≡ ran_with (for_bench load) (schedule_or load)
+-- run(load): the load's own number, or the schedule
+abbrev pub Runs : Load → Result Ran Refusal → Type 0
+Runs load r = r ≡ given (for_bench load) (ran_with (schedule (view_of load)))
 
--- write_run(bytes, out): the file's own numbers, then 9, or Good with the schedule file of the run
--- in the output
+-- write_run(bytes, out): the file's own numbers, then 9, or the schedule file of the run in the
+-- output
 abbrev pub WriteRun : List ℕ → List ℕ → Checked → List ℕ → Type 0
 WriteRun bs out r after =
     Given (file_for_bench bs) (schedule_bytes (schedule (view_of (load_in bs)))) out r after

@@ -1,9 +1,8 @@
 -- "One move of the bench": "Each move takes the bench state and hands the next one back". The
 -- bridge between a bench held in memory, 24 places to a field, and the state of the rules.
-use Rattle.std.specs.Prelude.{ℕ, ◌≡◌, length}
+use Rattle.std.specs.Prelude.{ℕ, ◌≡◌, length, Ok, Err}
 use Rattle.counting.specs.Lists.{list_to, member_at}
 use Rattle.refusals.specs.declared.Refusal.{Refusal}
-use Rattle.refusals.specs.declared.Checked.TheVariants.{Good, Refused as Faulty}
 use Rattle.load.specs.declared.Load.{Load}
 use Rattle.load.specs.Load.{most_rows}
 use Rattle.load.specs.View.{view_of}
@@ -72,6 +71,6 @@ refused_with bench refusal =
 unfoldable pub next_move : Load → Bench → Moved
 next_move load bench =
     elim (for_bench load) [
-      | Good ↦ handed_on bench (move (view_of load) (state_of bench))
-      | Faulty refusal ↦ refused_with bench refusal
+      | Ok tt ↦ handed_on bench (move (view_of load) (state_of bench))
+      | Err refusal ↦ refused_with bench refusal
     ]

@@ -15,13 +15,13 @@ mod state;
 pub use files::write_run;
 use load::MOST_ROWS;
 pub use moves::next_move;
-use refusals::Checked;
 use rules::{Outcome, SLOT_PLACES, Slot};
 pub use runs::run;
 pub use state::fresh;
 
 // A bench state: its clock, and per row the steps finished, the moment the last of them ended, and
 // the start of an open window's first step. Places for rows that the load does not have are 0.
+// Three arrays, and 0 for no opening: NextMove takes every such bench, and hands one back.
 #[derive(Clone, Copy)]
 pub struct Bench {
     pub clock: u32,
@@ -39,11 +39,11 @@ pub struct Moved {
     pub count: u32,
 }
 
-// What a run hands back: the finding on the load, how many slots there are, and the slots in order.
-// Places past the last slot are zero.
+// What a run hands back: how many slots there are, and the slots in order. Places past the last
+// slot are zero.
+// An array and a count, as the crate has no heap: check_array takes the two as they are (D52).
 #[derive(Clone, Copy)]
 pub struct Ran {
-    pub answer: Checked,
     pub count: usize,
     pub slots: [Slot; SLOT_PLACES],
 }

@@ -1,15 +1,13 @@
 // One move of the bench: Start, Idle, Done, or a refusal, each with the lamps of the windows that
 // are open after it.
-ghost use Rattle.std.specs.Prelude.{◌≡◌, true, ◌≤◌};
-ghost use Rattle.refusals.specs.declared.Checked.TheVariants.{Good};
+ghost use Rattle.std.specs.Prelude.{◌≡◌, true, ◌≤◌, Ok};
 ghost use Rattle.load.specs.Load.{most_rows};
 ghost use Rattle.load.specs.Check.{check_load};
 ghost use Rattle.load.specs.View.{view_of};
 ghost use Rattle.rules.specs.State.{shaped};
 ghost use Rattle.rules.specs.Move.{move};
-ghost use Rattle.plan.specs.Boards.{numbers_from, marks_from};
 ghost use Rattle.bench.specs.Held.{state_of, handed_on, refused_with};
-ghost use Rattle.bench.specs.inner.Moves.{finished_by, handed_with};
+ghost use Rattle.bench.specs.inner.Moves.{finished_in, handed_with};
 ghost use Rattle.bench.specs.Calls.{NextMove};
 
 use crate::boards::{fill_board, slot_of};
@@ -17,21 +15,17 @@ use crate::lamps::lamp_word;
 use crate::shape::has_shape;
 use crate::{Bench, Moved};
 use load::{LAST_MOMENT, Load, MOST_ROWS, check_load};
-use plan::{
-    COUNT_PLACES, FINISHED, LENGTH_PLACES, MOMENT_PLACES, OPENED, STEPS, chosen_row, look_at,
-    opening_after,
-};
-use refusals::{Checked, Refusal};
+use plan::{Board, chosen_row, look_at, opening_after};
+use refusals::Refusal;
 use rules::Outcome;
 
 // Says whether all steps are finished.
-fn all_finished(counts: &[u8; COUNT_PLACES], rows: usize) -> bool
+fn all_finished(board: &Board, rows: usize) -> bool
     requires { rows ≤ most_rows }
-    ensures { result ≡ finished_by (numbers_from counts.now 0)
-        (numbers_from counts.now 24) rows }
+    ensures { result ≡ finished_in board.now rows }
 {
-    for i in 0..rows {
-        if counts[FINISHED + i] < counts[STEPS + i] {
+    for (i, finished) in board.finished[..rows].iter().enumerate() {
+        if *finished < board.steps[i] {
             return false;
         }
     }
@@ -51,11 +45,11 @@ fn refused(bench: Bench, refusal: Refusal) -> Moved
 }
 
 // Hands a bench back with the lamps of the rows that have an open window, and their count.
-fn handed(bench: Bench, outcome: Outcome, counts: &[u8; COUNT_PLACES], rows: usize) -> Moved
+fn handed(bench: Bench, outcome: Outcome, board: &Board, rows: usize) -> Moved
     requires { rows ≤ most_rows }
-    ensures { result ≡ handed_with bench outcome (marks_from counts.now 48) rows }
+    ensures { result ≡ handed_with bench outcome board.now.opened rows }
 {
-    let lamps = lamp_word(counts, rows);
+    let lamps = lamp_word(board, rows);
     Moved {
         bench,
         outcome,
@@ -68,46 +62,37 @@ fn handed(bench: Bench, outcome: Outcome, counts: &[u8; COUNT_PLACES], rows: usi
 // are finished, which changes nothing; a full clock with work left is refused (11); else the first
 // candidate that passes starts, or the clock moves one tick.
 fn move_shaped(load: Load, bench: Bench) -> Moved
-    requires load_value { check_load load ≡ Good }
+    requires load_value { check_load load ≡ Ok tt }
     requires bench_value { shaped (view_of load) (state_of bench) ≡ true }
     ensures { result ≡ handed_on bench (move (view_of load) (state_of bench)) }
 {
-    let mut counts = [0; COUNT_PLACES];
-    let mut lengths = [0; LENGTH_PLACES];
-    let mut moments = [0; MOMENT_PLACES];
+    let mut board = Board::default();
     let mut classes = [0; MOST_ROWS];
-    fill_board(
-        load,
-        bench,
-        &mut counts,
-        &mut lengths,
-        &mut moments,
-        &mut classes,
-    );
+    fill_board(&load, &bench, &mut board, &mut classes);
     let rows = load.rows as usize;
     let clock = bench.clock;
-    if all_finished(&counts, rows) {
-        return handed(bench, Outcome::Done, &counts, rows);
+    if all_finished(&board, rows) {
+        return handed(bench, Outcome::Done, &board, rows);
     }
     if LAST_MOMENT <= clock {
         return refused(bench, Refusal::ClockFull);
     }
-    let i = chosen_row(&counts, &lengths, &moments, &classes, clock, rows);
+    let i = chosen_row(&board, &classes, clock, rows);
     if rows <= i {
-        return handed(bench.idle(), Outcome::Idle, &counts, rows);
+        return handed(bench.idle(), Outcome::Idle, &board, rows);
     }
-    let look = look_at(&counts, &lengths, &moments, i);
+    let look = look_at(&board, i);
     let opening = opening_after(look.stays, look.opened, look.opening, clock);
-    counts[OPENED + i] = look.stays as u8;
+    board.opened[i] = look.stays;
     let slot = slot_of(i, look.finished, clock);
     let next = bench.start(i, look.cost, opening);
-    handed(next, Outcome::Start(slot), &counts, rows)
+    handed(next, Outcome::Start(slot), &board, rows)
 }
 
 // Makes one move of a bench with a load that was checked; a state that does not have the load's
 // shape is refused (10).
 fn move_checked(load: Load, bench: Bench) -> Moved
-    requires { check_load load ≡ Good }
+    requires { check_load load ≡ Ok tt }
     ensures { result ≡ handed_on bench (move (view_of load) (state_of bench)) }
 {
     if !has_shape(load, bench) {
@@ -121,9 +106,8 @@ fn move_checked(load: Load, bench: Bench) -> Moved
 pub fn next_move(load: Load, bench: Bench) -> Moved
     ensures { NextMove load bench result }
 {
-    let checked = check_load(load);
-    match checked {
-        Checked::Good => move_checked(load, bench),
-        Checked::Refused(refusal) => refused(bench, refusal),
+    match check_load(load) {
+        Ok(()) => move_checked(load, bench),
+        Err(refusal) => refused(bench, refusal),
     }
 }

@@ -1,8 +1,7 @@
 // The shape of a bench state (10): the clock, each row of the load, and the places of the rows that
 // the load does not have.
-ghost use Rattle.std.specs.Prelude.{◌≡◌, cond, eqb, ltb};
+ghost use Rattle.std.specs.Prelude.{◌≡◌, cond, eqb, ltb, Ok};
 ghost use Rattle.counting.specs.Sums.{all_to, all_from};
-ghost use Rattle.refusals.specs.declared.Checked.TheVariants.{Good};
 ghost use Rattle.load.specs.Load.{most_rows};
 ghost use Rattle.load.specs.Check.{check_load};
 ghost use Rattle.load.specs.View.{view_of};
@@ -44,14 +43,13 @@ fn row_shaped(row: Row, clock: u32, finished: u8, end: u32, opening: u32) -> boo
 
 // Says whether every row of a load that was checked has its shape.
 fn rows_shaped(load: Load, bench: Bench) -> bool
-    requires { check_load load ≡ Good }
+    requires { check_load load ≡ Ok tt }
     ensures { result ≡ all_to (row_shaped (view_of load) (state_of bench)) load.rows }
 {
     let rows = load.rows as usize;
-    for i in 0..rows {
-        let row = load.row[i];
+    for (i, row) in load.row[..rows].iter().enumerate() {
         let fits = row_shaped(
-            row,
+            *row,
             bench.clock,
             bench.finished[i],
             bench.end[i],
@@ -81,6 +79,7 @@ fn is_unused(finished: u8, end: u32, opening: u32) -> bool
 fn unused_from(bench: Bench, rows: usize) -> bool
     ensures { result ≡ all_from (row_unused (state_of bench)) rows most_rows }
 {
+    // Counted, as three arrays are read at one place.
     for i in rows..MOST_ROWS {
         if !is_unused(bench.finished[i], bench.end[i], bench.opening[i]) {
             return false;
@@ -91,7 +90,7 @@ fn unused_from(bench: Bench, rows: usize) -> bool
 
 // Says whether a bench state has the shape of a load that was checked.
 pub fn has_shape(load: Load, bench: Bench) -> bool
-    requires { check_load load ≡ Good }
+    requires { check_load load ≡ Ok tt }
     ensures { result ≡ shaped (view_of load) (state_of bench) }
 {
     if LAST_MOMENT < bench.clock {

@@ -1,75 +1,68 @@
 -- What the calls give of a load that is not refused: bound, margins, verdict and blames as the rules define them. What
--- one call gives together is what four give one by one.
-use mathlib.Core.Bool.{false}
-use mathlib.Core.Path.{◌≡◌, ap, sym, ◌∙◌}
-use lib.IntN.{pos}
-use lib.ListN.{replicate}
-use Rattle.refusals.specs.declared.Checked.TheVariants.{Good}
-use Rattle.refusals.proofs.GivenLaws.{if_good-good}
+-- one call gives together is what four give one by one, and what one refuses all refuse alike.
+use Rattle.std.proofs.Common.{ℕ, Bool, List, ◌≡◌, ap}
+use Rattle.std.specs.Prelude.{ℤ, Ok, Err}
+use Rattle.refusals.specs.declared.Refusal.{Refusal}
+use Rattle.refusals.proofs.GivenParts.{given-told, given-part, given-refused}
 use Rattle.load.specs.declared.Load.{Load}
-use Rattle.load.specs.Load.{most_rows}
 use Rattle.load.specs.View.{view_of}
-use Rattle.load.specs.Check.{check_load}
-use Rattle.rules.specs.Bound.{most_places, bound}
+use Rattle.load.specs.Check.{for_bench}
+use Rattle.rules.specs.declared.LargestW.{LargestW}
+use Rattle.rules.specs.Bound.{bound}
 use Rattle.rules.specs.Margins.{margins, verdict}
-use Rattle.rules.specs.Blame.{none_left, nobody, place_waits, blames}
+use Rattle.rules.specs.Blame.{place_waits, blames}
 use Rattle.bound.specs.declared.Answered.{Answered}
 use Rattle.bound.specs.declared.Blamed.{Blamed}
-use Rattle.bound.specs.declared.Bounded.{Bounded}
-use Rattle.bound.specs.declared.Margined.{Margined}
-use Rattle.bound.specs.declared.Judged.{Judged}
-use Rattle.bound.specs.declared.PlaceWaits.{PlaceWaits}
 use Rattle.bound.specs.Calls.{AnswersOf, BoundOf, MarginsOf, VerdictOf, BlamesOf, PlaceWaitsOf}
 
 module _ (load : Load) where
-  pub BoundOf-good : (r : Bounded) → BoundOf load r → r.answer ≡ Good → r.bound ≡ bound (view_of load)
-  BoundOf-good r e g =
-      ap (λ (x : Bounded). x.bound) e
-      ∙ if_good-good (check_load load) (bound (view_of load)) 0 (ap (λ (x : Bounded). x.answer) (sym e) ∙ g)
+  pub BoundOf-good : (n : ℕ) → BoundOf load (Ok n) → n ≡ bound (view_of load)
+  BoundOf-good n e = given-told (for_bench load) _ _ e
 
-  pub MarginsOf-good : (r : Margined) → MarginsOf load r → r.answer ≡ Good → r.margins ≡ margins (view_of load)
-  MarginsOf-good r e g =
-      ap (λ (x : Margined). x.margins) e
-      ∙ if_good-good (check_load load) (margins (view_of load)) (replicate most_rows (pos 0))
-      (ap (λ (x : Margined). x.answer) (sym e) ∙ g)
+  pub MarginsOf-good : (zs : List ℤ) → MarginsOf load (Ok zs) → zs ≡ margins (view_of load)
+  MarginsOf-good zs e = given-told (for_bench load) _ _ e
 
-  pub VerdictOf-good : (r : Judged) → VerdictOf load r → r.answer ≡ Good → r.verdict ≡ verdict (view_of load)
-  VerdictOf-good r e g =
-      ap (λ (x : Judged). x.verdict) e
-      ∙ if_good-good (check_load load) (verdict (view_of load)) false (ap (λ (x : Judged). x.answer) (sym e) ∙ g)
+  pub VerdictOf-good : (passes : Bool) → VerdictOf load (Ok passes) → passes ≡ verdict (view_of load)
+  VerdictOf-good passes e = given-told (for_bench load) _ _ e
 
   -- the margins beside the blames are the margins
-  pub BlamesOf-margins : (r : Blamed) → BlamesOf load r
-      → MarginsOf load (record { answer = r.answer; margins = r.margins })
-  BlamesOf-margins r e = ap (λ (x : Blamed). record { answer = x.answer; margins = x.margins }) e
+  pub BlamesOf-margins : (r : Blamed) → BlamesOf load (Ok r) → MarginsOf load (Ok r.margins)
+  BlamesOf-margins r e = given-part (λ (x : Blamed). x.margins) (for_bench load) _ _ e
 
-  pub BlamesOf-good : (r : Blamed) → BlamesOf load r → r.answer ≡ Good → r.blames ≡ blames (view_of load)
-  BlamesOf-good r e g =
-      ap (λ (x : Blamed). x.blames) e
-      ∙ if_good-good (check_load load) (blames (view_of load)) (replicate most_rows nobody)
-      (ap (λ (x : Blamed). x.answer) (sym e) ∙ g)
+  pub BlamesOf-good : (r : Blamed) → BlamesOf load (Ok r) → r.blames ≡ blames (view_of load)
+  BlamesOf-good r e = ap (λ (x : Blamed). x.blames) (given-told (for_bench load) _ _ e)
 
-  pub PlaceWaitsOf-good : (r : PlaceWaits) → PlaceWaitsOf load r → r.answer ≡ Good
-      → r.places ≡ place_waits (view_of load)
-  PlaceWaitsOf-good r e g =
-      ap (λ (x : PlaceWaits). x.places) e
-      ∙ if_good-good (check_load load) (place_waits (view_of load)) (replicate most_places none_left)
-      (ap (λ (x : PlaceWaits). x.answer) (sym e) ∙ g)
+  pub PlaceWaitsOf-good : (places : List LargestW) → PlaceWaitsOf load (Ok places) → places ≡ place_waits (view_of load)
+  PlaceWaitsOf-good places e = given-told (for_bench load) _ _ e
 
   -- the parts of what one call gives
-  pub AnswersOf-bound : (r : Answered) → AnswersOf load r
-      → BoundOf load (record { answer = r.answer; bound = r.bound })
-  AnswersOf-bound r e = ap (λ (x : Answered). record { answer = x.answer; bound = x.bound }) e
+  module _ (r : Answered) (e : AnswersOf load (Ok r)) where
+    pub AnswersOf-bound : BoundOf load (Ok r.bound)
+    AnswersOf-bound = given-part (λ (x : Answered). x.bound) (for_bench load) _ _ e
 
-  pub AnswersOf-margins : (r : Answered) → AnswersOf load r
-      → MarginsOf load (record { answer = r.answer; margins = r.margins })
-  AnswersOf-margins r e = ap (λ (x : Answered). record { answer = x.answer; margins = x.margins }) e
+    pub AnswersOf-margins : MarginsOf load (Ok r.margins)
+    AnswersOf-margins = given-part (λ (x : Answered). x.margins) (for_bench load) _ _ e
 
-  pub AnswersOf-verdict : (r : Answered) → AnswersOf load r
-      → VerdictOf load (record { answer = r.answer; verdict = r.verdict })
-  AnswersOf-verdict r e = ap (λ (x : Answered). record { answer = x.answer; verdict = x.verdict }) e
+    pub AnswersOf-verdict : VerdictOf load (Ok r.verdict)
+    AnswersOf-verdict = given-part (λ (x : Answered). x.verdict) (for_bench load) _ _ e
 
-  pub AnswersOf-blames : (r : Answered) → AnswersOf load r
-      → BlamesOf load (record { answer = r.answer; margins = r.margins; blames = r.blames })
-  AnswersOf-blames r e =
-      ap (λ (x : Answered). record { answer = x.answer; margins = x.margins; blames = x.blames }) e
+    pub AnswersOf-blames : BlamesOf load (Ok (record { margins = r.margins; blames = r.blames }))
+    AnswersOf-blames =
+        given-part (λ (x : Answered). record { margins = x.margins; blames = x.blames }) (for_bench load) _ _ e
+
+  -- and what it refuses
+  module _ (refusal : Refusal) where
+    pub BlamesOf-margins-refused : BlamesOf load (Err refusal) → MarginsOf load (Err refusal)
+    BlamesOf-margins-refused e = given-refused (for_bench load) refusal _ _ e
+
+    pub AnswersOf-bound-refused : AnswersOf load (Err refusal) → BoundOf load (Err refusal)
+    AnswersOf-bound-refused e = given-refused (for_bench load) refusal _ _ e
+
+    pub AnswersOf-margins-refused : AnswersOf load (Err refusal) → MarginsOf load (Err refusal)
+    AnswersOf-margins-refused e = given-refused (for_bench load) refusal _ _ e
+
+    pub AnswersOf-verdict-refused : AnswersOf load (Err refusal) → VerdictOf load (Err refusal)
+    AnswersOf-verdict-refused e = given-refused (for_bench load) refusal _ _ e
+
+    pub AnswersOf-blames-refused : AnswersOf load (Err refusal) → BlamesOf load (Err refusal)
+    AnswersOf-blames-refused e = given-refused (for_bench load) refusal _ _ e

@@ -28,18 +28,18 @@ smallest_costs-is L j i = pairs_smallest-is (λ k. L.cost k j) (λ k. L.cost k (
 
 -- the marks of place j
 pub record AtPlace (L : View) (j : ℕ) (pairs frees : List Bool) : Type 0 where
-  pub pairs_is : pairs ≡ filled (λ i. is_free L i j && is_free L i (j + 1)) L.rows most_rows false
+  pub pairs_is : (k : ℕ) → k < L.rows → is_marked pairs k ≡ (is_free L k j && is_free L k (j + 1))
   pub frees-is : frees ≡ filled (λ i. is_free L i (j + 1)) L.rows most_rows false
 
 -- what stands in a filled array
-read : {A : Type 0} (f : ℕ → A) (n last : ℕ) (z : A) (l : List A) → l ≡ filled f n last z → (k : ℕ) → k < n
+pub read : {A : Type 0} (f : ℕ → A) (n last : ℕ) (z : A) (l : List A) → l ≡ filled f n last z → (k : ℕ) → k < n
     → get_or l k z ≡ f k
 read f n last z l e k h = ap (λ l. get_or l k z) e ∙ get_or-filled f n last k z z h
 
 module _ (L : View) (j : ℕ) (pairs frees : List Bool) (h : AtPlace L j pairs frees) where
   paired : (k : ℕ) → k < L.rows → is_marked pairs k ≡ (is_free L k j && is_free L k (suc j))
   paired k l =
-      read _ _ most_rows false pairs h.pairs_is k l ∙ ap (λ next. is_free L k j && is_free L k next) (add-one j)
+      h.pairs_is k l ∙ ap (λ next. is_free L k j && is_free L k next) (add-one j)
 
   -- a row that is marked has a step there, whose cost is within its range
   pub paired-cost : Acceptable L → (k : ℕ) → k < L.rows → is_marked pairs k ≡ true → L.cost k j ≤ largest_cost

@@ -20,36 +20,24 @@ use Rattle.bound.specs.inner.CutTerms.{place_in, waits_below}
 use Rattle.bound.proofs.AcceptedLaws.{accepted-within}
 
 -- a turn of the loop that goes from one place to the next: a place that is worse than those before, and one that is not
-module _
-    (places : List LargestW)
-    (k most : ℕ)
-    (some : 1 ≤ k)
-    (held : most ≡ max_to (λ j. (place_in places j).left) (k - 1))
-  where
-    abbrev left : ℕ → ℕ
-    left j = (place_in places j).left
+module _ (places : List LargestW) (k most : ℕ) (held : most ≡ max_to (λ j. (place_in places j).left) k) where
+  abbrev left : ℕ → ℕ
+  left j = (place_in places j).left
 
-    next : k - 1 + 1 ≡ k
-    next = omega arith
+  pub worse-turn : most < left k
+      → (left k ≡ max_to left (k + 1))
+      × (record { place = k + 1; row = (place_in places k).row } ≡ blame_among (place_in places) (k + 1))
+  worse-turn l = (
+    omega (arith, max_to-next left k, held),
+    blame_among-larger (place_in places) k (omega (arith, held)),
+  )
 
-    pub worse-turn : most < left (k - 1)
-        → (left (k - 1) ≡ max_to left k)
-        × (record { place = k; row = (place_in places (k - 1)).row } ≡ blame_among (place_in places) k)
-    worse-turn l = (
-      omega (arith, max_to-next left (k - 1), ap (max_to left) next, held),
-      ap (λ p. record { place = p; row = (place_in places (k - 1)).row }) (sym next)
-          ∙ blame_among-larger (place_in places) (k - 1) (omega (arith, held))
-          ∙ ap (blame_among (place_in places)) next,
-    )
-
-    pub other-turn : (worst : Blame) → worst ≡ blame_among (place_in places) (k - 1) → left (k - 1) ≤ most
-        → (most ≡ max_to left k) × (worst ≡ blame_among (place_in places) k)
-    other-turn worst blamed l = (
-      omega (arith, max_to-next left (k - 1), ap (max_to left) next, held),
-      blamed
-          ∙ blame_among-smaller (place_in places) (k - 1) (omega (arith, held))
-          ∙ ap (blame_among (place_in places)) next,
-    )
+  pub other-turn : (worst : Blame) → worst ≡ blame_among (place_in places) k → left k ≤ most
+      → (most ≡ max_to left (k + 1)) × (worst ≡ blame_among (place_in places) (k + 1))
+  other-turn worst blamed l = (
+    omega (arith, max_to-next left k, held),
+    blamed ∙ blame_among-smaller (place_in places) k (omega (arith, held)),
+  )
 
 module _ (L : View) where
   place_in-is : (j : ℕ) → j < most_places → place_in (place_waits L) j ≡ largest_at smallest_costs L j

@@ -2,6 +2,7 @@
 ghost use Rattle.std.specs.Prelude.{◌≡◌};
 ghost use Rattle.load.specs.View.{view_of};
 ghost use Rattle.load.specs.Acceptable.{Acceptable};
+ghost use Rattle.load.specs.Calls.{CheckLoad};
 ghost use Rattle.rules.specs.Bound.{bound};
 ghost use Rattle.rules.specs.Margins.{margins, verdict};
 ghost use Rattle.rules.specs.Blame.{place_waits, blames};
@@ -12,55 +13,47 @@ use crate::blames::{blames_by, cut_blames};
 use crate::bounds::{cut_bounds, waits_below};
 use crate::margins::{margins_by, none_negative};
 use crate::waits::place_waits;
-use load::{Load, MOST_ROWS, MOST_STEPS, check_load};
-use refusals::Checked;
-use rules::{Blame, LargestW, MOST_PLACES};
+use load::{Load, MOST_STEPS, check_load};
+use refusals::Refusal;
+use rules::{LargestW, MOST_PLACES};
 
-// Gives bound, margins, verdict and blames of an accepted load with so many rows, by the largest W
-// of each place. Those are found beside it, so that what the two take of the stack does not add up;
-// and it reads no field of the load that it hands on: it would hold a copy of it.
-pub fn load_answers(load: Load, rows: usize, places: [LargestW; MOST_PLACES]) -> Answered
-    requires { Acceptable (view_of load) × (rows ≡ load.rows)
-        × (places ≡ place_waits (view_of load)) }
+// Checks a load that is lent. It stands beside the look and not within it, so that what the two
+// take of the stack, here a copy of the load, does not add up.
+#[inline(never)]
+fn check(load: &Load) -> Result<(), Refusal>
+    ensures { CheckLoad load.now result }
+{
+    check_load(*load)
+}
+
+// Gives bound, margins, verdict and blames of an accepted load, by the largest W of each place.
+// Those are found beside it, for the same reason.
+#[inline(never)]
+fn load_answers(load: &Load, places: &[LargestW; MOST_PLACES]) -> Answered
+    requires { Acceptable (view_of load.now) × (places.now ≡ place_waits (view_of load.now)) }
     ensures { result ≡ record {
-      answer = Checked.Good;
-      bound = bound (view_of load);
-      margins = margins (view_of load);
-      verdict = verdict (view_of load);
-      blames = blames (view_of load);
+      bound = bound (view_of load.now);
+      margins = margins (view_of load.now);
+      verdict = verdict (view_of load.now);
+      blames = blames (view_of load.now);
     } }
 {
-    let waits = waits_below(places);
-    let bounds = cut_bounds(load, &waits);
+    let bounds = cut_bounds(load, &waits_below(places));
     let margins = margins_by(load, &bounds);
-    let blames = blames_by(load, cut_blames(places));
+    let blames = blames_by(load, &cut_blames(places));
     Answered {
-        answer: Checked::Good,
         bound: bounds[MOST_STEPS - 1],
         margins,
-        verdict: none_negative(margins, rows),
+        verdict: none_negative(&margins, load.rows as usize),
         blames,
     }
 }
 
-// Gives bound, margins, verdict and blames of a load, or what the load is refused for with 0,
-// margins that are all 0, no, and blames that are all 0 and 0.
-pub fn answers_of(load: Load) -> Answered
-    ensures { AnswersOf load result }
+// Gives bound, margins, verdict and blames of a load, or what the load is refused for.
+pub fn answers(load: &Load) -> Result<Answered, Refusal>
+    ensures { AnswersOf load.now result }
 {
-    let found = check_load(load);
-    match found {
-        Checked::Good => {
-            let rows = load.rows as usize;
-            let places = place_waits(load, rows);
-            load_answers(load, rows, places)
-        }
-        Checked::Refused(refusal) => Answered {
-            answer: Checked::Refused(refusal),
-            bound: 0,
-            margins: [0; MOST_ROWS],
-            verdict: false,
-            blames: [Blame { place: 0, row: 0 }; MOST_ROWS],
-        },
-    }
+    check(load)?;
+    let places = place_waits(load);
+    Ok(load_answers(load, &places))
 }

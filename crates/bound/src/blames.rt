@@ -13,39 +13,37 @@ use rules::{Blame, LargestW, MOST_PLACES};
 
 // Gives the place and row with the largest W among the places between the first 1 to 8 steps, the
 // lowest place where several are equal; 0 and 0 where every W is 0.
-pub fn cut_blames(places: [LargestW; MOST_PLACES]) -> [Blame; MOST_STEPS]
-    ensures { result ≡ list_to (blame_among (place_in places)) most_steps }
+pub fn cut_blames(places: &[LargestW; MOST_PLACES]) -> [Blame; MOST_STEPS]
+    ensures { result ≡ list_to (blame_among (place_in places.now)) most_steps }
 {
     let mut worst = Blame { place: 0, row: 0 };
     let mut most: u16 = 0;
     let mut blames = [worst; MOST_STEPS];
-    for k in 1..MOST_STEPS {
-        let place = places[k - 1];
+    for (k, place) in places.iter().enumerate() {
         if most < place.left {
             most = place.left;
             worst = Blame {
-                place: k as u8,
+                place: k as u8 + 1,
                 row: place.row,
             };
         }
-        blames[k] = worst;
+        blames[k + 1] = worst;
     }
     blames
 }
 
 // Gives whom each row of an accepted load blames, by the blames of the load cut at 1 to 8 steps;
 // rows not there blame nobody.
-pub fn blames_by(load: Load, cut: [Blame; MOST_STEPS]) -> [Blame; MOST_ROWS]
-    requires { Acceptable (view_of load)
-        × (cut ≡ list_to (blame_among (place_in (place_waits (view_of load)))) most_steps) }
-    ensures { result ≡ blames (view_of load) }
+pub fn blames_by(load: &Load, cut: &[Blame; MOST_STEPS]) -> [Blame; MOST_ROWS]
+    requires { Acceptable (view_of load.now)
+        × (cut.now ≡ list_to (blame_among (place_in (place_waits (view_of load.now)))) most_steps) }
+    ensures { result ≡ blames (view_of load.now) }
 {
     let rows = load.rows as usize;
     let mut blames = [Blame { place: 0, row: 0 }; MOST_ROWS];
+    // Counted, as two arrays are gone over: the rows, and whom they blame.
     for i in 0..rows {
-        let row = load.row[i];
-        let k = row.steps as usize - 1;
-        blames[i] = cut[k];
+        blames[i] = cut[load.row[i].steps as usize - 1];
     }
     blames
 }

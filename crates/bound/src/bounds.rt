@@ -13,25 +13,24 @@ use load::{Load, MOST_STEPS};
 use rules::{LargestW, MOST_PLACES};
 
 // Gives for each place the sum of the largest W's of the places below it.
-pub fn waits_below(places: [LargestW; MOST_PLACES]) -> [u32; MOST_STEPS]
-    ensures { result ≡ list_to (waits_below places) most_steps }
+pub fn waits_below(places: &[LargestW; MOST_PLACES]) -> [u32; MOST_STEPS]
+    ensures { result ≡ list_to (waits_below places.now) most_steps }
 {
     let mut sums = [0u32; MOST_STEPS];
     let mut sum: u32 = 0;
-    for k in 1..MOST_STEPS {
-        let place = places[k - 1];
+    for (k, place) in places.iter().enumerate() {
         sum += place.left as u32;
-        sums[k] = sum;
+        sums[k + 1] = sum;
     }
     sums
 }
 
 // Gives the bounds of the load cut at 1 to 8 steps. Cut at k + 1 it is the kept costs and embedded
 // waits, the largest phase, and the largest W's of the places between the first k + 1 steps.
-pub fn cut_bounds(load: Load, waits: &[u32; MOST_STEPS]) -> [u32; MOST_STEPS]
-    requires { Acceptable (view_of load)
-        × (waits.now ≡ list_to (waits_below (place_waits (view_of load))) most_steps) }
-    ensures { result ≡ list_to (bound_at (view_of load)) most_steps }
+pub fn cut_bounds(load: &Load, waits: &[u32; MOST_STEPS]) -> [u32; MOST_STEPS]
+    requires { Acceptable (view_of load.now)
+        × (waits.now ≡ list_to (waits_below (place_waits (view_of load.now))) most_steps) }
+    ensures { result ≡ list_to (bound_at (view_of load.now)) most_steps }
 {
     let phase = largest_phase(load);
     let mut bounds = [0u32; MOST_STEPS];

@@ -9,8 +9,8 @@ pub fn margin_bytes(margins: [i32; MOST_ROWS]) -> [u8; 4 * MOST_ROWS]
     ensures { MarginBytes margins result }
 {
     let mut bytes = [0u8; 4 * MOST_ROWS];
-    for i in 0..MOST_ROWS {
-        let four = bytes32(complement32(margins[i]));
+    for (i, margin) in margins.iter().enumerate() {
+        let four = bytes32(complement32(*margin));
         overwrite(&mut bytes, 4 * i, &four);
     }
     bytes

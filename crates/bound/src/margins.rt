@@ -21,37 +21,25 @@ fn margin_of(deadline: u32, bound: u32) -> i32
 
 // Gives all margins of an accepted load, by the bounds of the load cut at 1 to 8 steps; those of
 // rows not there are 0.
-pub fn margins_by(load: Load, bounds: &[u32; MOST_STEPS]) -> [i32; MOST_ROWS]
-    requires { Acceptable (view_of load)
-        × (bounds.now ≡ list_to (bound_at (view_of load)) most_steps) }
-    ensures { result ≡ margins (view_of load) }
+pub fn margins_by(load: &Load, bounds: &[u32; MOST_STEPS]) -> [i32; MOST_ROWS]
+    requires { Acceptable (view_of load.now)
+        × (bounds.now ≡ list_to (bound_at (view_of load.now)) most_steps) }
+    ensures { result ≡ margins (view_of load.now) }
 {
     let rows = load.rows as usize;
     let mut margins = [0i32; MOST_ROWS];
+    // Counted, as two arrays are gone over: the rows and their margins.
     for i in 0..rows {
-        let row = load.row[i];
-        let k = row.steps as usize - 1;
-        margins[i] = margin_of(row.deadline, bounds[k]);
+        let row = &load.row[i];
+        margins[i] = margin_of(row.deadline, bounds[row.steps as usize - 1]);
     }
     margins
 }
 
-// Says whether a margin is negative; 0 is not.
-fn is_negative(margin: i32) -> bool
-    ensures { result ≡ is_negative margin }
-{
-    margin < 0
-}
-
-// Says whether none of the first n margins is negative.
-pub fn none_negative(margins: [i32; MOST_ROWS], n: usize) -> bool
+// Says whether none of the first n margins is negative; 0 is not.
+pub fn none_negative(margins: &[i32; MOST_ROWS], n: usize) -> bool
     requires { n ≤ most_rows }
-    ensures { result ≡ all_to (λ i. not (is_negative (margin_in margins i))) n }
+    ensures { result ≡ all_to (λ i. not (is_negative (margin_in margins.now i))) n }
 {
-    for i in 0..n {
-        if is_negative(margins[i]) {
-            return false;
-        }
-    }
-    true
+    margins.iter().take(n).all(|margin| *margin >= 0)
 }

@@ -17,21 +17,21 @@ fn count_marked(n: usize, marks: &[bool; MOST_ROWS]) -> u32
     ensures { (result ≡ count_to (is_marked marks.now) n) × (result ≤ n) }
 {
     let mut count: u32 = 0;
-    for k in 0..n {
-        count += marks[k] as u32;
+    for marked in &marks[..n] {
+        count += *marked as u32;
     }
     count
 }
 
 // Gives how many of a row's two costs, at a place and at the next, are below t.
-fn count_below(row: Row, j: usize, t: u16) -> u32
+// sum_below adds up for the same two: one function of both would take a closure and its clause.
+fn count_below(row: &Row, j: usize, t: u16) -> u32
     requires { j < most_places }
-    ensures { (result ≡ bit (ltb (step_at row j).cost t) + bit (ltb (step_at row (j + 1)).cost t))
+    ensures { (result ≡ bit (ltb (step_at row.now j).cost t)
+        + bit (ltb (step_at row.now (j + 1)).cost t))
         × (result ≤ 2) }
 {
-    let here = row.step[j];
-    let next = row.step[j + 1];
-    (here.cost < t) as u32 + (next.cost < t) as u32
+    (row.step[j].cost < t) as u32 + (row.step[j + 1].cost < t) as u32
 }
 
 // Gives a cost that is below t, and 0 for any other.
@@ -42,24 +42,22 @@ fn cost_below(cost: u16, t: u16) -> u32
 }
 
 // Adds those of a row's two costs, at a place and at the next, that are below t.
-fn sum_below(row: Row, j: usize, t: u16) -> u32
+fn sum_below(row: &Row, j: usize, t: u16) -> u32
     requires { j < most_places }
-    ensures { (result ≡ cond (ltb (step_at row j).cost t) (step_at row j).cost 0
-        + cond (ltb (step_at row (j + 1)).cost t) (step_at row (j + 1)).cost 0)
+    ensures { (result ≡ cond (ltb (step_at row.now j).cost t) (step_at row.now j).cost 0
+        + cond (ltb (step_at row.now (j + 1)).cost t) (step_at row.now (j + 1)).cost 0)
         × (result ≤ 131070) }
 {
-    let here = row.step[j];
-    let next = row.step[j + 1];
-    cost_below(here.cost, t) + cost_below(next.cost, t)
+    cost_below(row.step[j].cost, t) + cost_below(row.step[j + 1].cost, t)
 }
 
 // Gives the cost that splits the marked rows' costs, where r rows are marked: at most r costs are
-// below it, and at least r are at most as large. The rows are counted in the loop that halves: a
-// function of its own would copy the load at each half.
-fn splitting_cost(load: Load, n: usize, j: usize, marks: &[bool; MOST_ROWS], r: u32) -> u16
-    requires { Costed load n j marks.now × (r ≡ count_to (is_marked marks.now) n) }
+// below it, and at least r are at most as large.
+// The halving is a loop: the library halves a slice, and costs stand in none (D90).
+fn splitting_cost(load: &Load, n: usize, j: usize, marks: &[bool; MOST_ROWS], r: u32) -> u16
+    requires { Costed load.now n j marks.now × (r ≡ count_to (is_marked marks.now) n) }
     ensures { Splits
-        (cost_at load j) (cost_at load (j + 1)) (is_marked marks.now) n result
+        (cost_at load.now j) (cost_at load.now (j + 1)) (is_marked marks.now) n result
         × (result ≤ largest_cost) }
 {
     let mut low: u16 = 0;
@@ -67,9 +65,10 @@ fn splitting_cost(load: Load, n: usize, j: usize, marks: &[bool; MOST_ROWS], r: 
     while low < high {
         let half = (low + high) / 2;
         let mut up_to: u32 = 0;
+        // Counted, as two arrays are read at one place: the marks and the rows.
         for k in 0..n {
             if marks[k] {
-                up_to += count_below(load.row[k], j, half + 1);
+                up_to += count_below(&load.row[k], j, half + 1);
             }
         }
         if r <= up_to {
@@ -83,18 +82,18 @@ fn splitting_cost(load: Load, n: usize, j: usize, marks: &[bool; MOST_ROWS], r: 
 
 // Gives the sum of the r smallest of the marked rows' costs by the cost t that splits them: those
 // below it, and t for each that is still missing of the r.
-fn sum_by(load: Load, n: usize, j: usize, marks: &[bool; MOST_ROWS], r: u32, t: u16) -> u32
-    requires { Costed load n j marks.now
+fn sum_by(load: &Load, n: usize, j: usize, marks: &[bool; MOST_ROWS], r: u32, t: u16) -> u32
+    requires { Costed load.now n j marks.now
         × (r ≡ count_to (is_marked marks.now) n) × (r ≤ n) × (t ≤ largest_cost)
-        × Splits (cost_at load j) (cost_at load (j + 1)) (is_marked marks.now) n t }
+        × Splits (cost_at load.now j) (cost_at load.now (j + 1)) (is_marked marks.now) n t }
     ensures { result ≡ pairs_smallest
-        (cost_at load j) (cost_at load (j + 1)) (is_marked marks.now) n }
+        (cost_at load.now j) (cost_at load.now (j + 1)) (is_marked marks.now) n }
 {
     let mut below: u32 = 0;
     let mut sum: u32 = 0;
     for k in 0..n {
         if marks[k] {
-            let row = load.row[k];
+            let row = &load.row[k];
             below += count_below(row, j, t);
             sum += sum_below(row, j, t);
         }
@@ -103,10 +102,10 @@ fn sum_by(load: Load, n: usize, j: usize, marks: &[bool; MOST_ROWS], r: u32, t: 
 }
 
 // Gives the sum of the r smallest of the 2r costs of the marked rows, at a place and at the next.
-pub fn smallest_sum(load: Load, n: usize, j: usize, marks: &[bool; MOST_ROWS]) -> u32
-    requires { Costed load n j marks.now }
+pub fn smallest_sum(load: &Load, n: usize, j: usize, marks: &[bool; MOST_ROWS]) -> u32
+    requires { Costed load.now n j marks.now }
     ensures { result ≡ pairs_smallest
-        (cost_at load j) (cost_at load (j + 1)) (is_marked marks.now) n }
+        (cost_at load.now j) (cost_at load.now (j + 1)) (is_marked marks.now) n }
 {
     let r = count_marked(n, marks);
     let t = splitting_cost(load, n, j, marks, r);

@@ -5,3 +5,5 @@ pub mod NumbersLaws
 pub mod EveryLaws
 pub mod KeepLaws
 pub mod PieceLaws
+pub mod TestedLaws
+pub mod MadeLaws

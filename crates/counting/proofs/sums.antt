@@ -2,3 +2,4 @@
 pub mod SumLaws
 pub mod MaxLaws
 pub mod ChangeLaws
+pub mod PastLaws

@@ -1,18 +1,14 @@
 -- Demand 1 holds: an equation is met, the table gives each refusal a number of its own, the definitions refuse with no
 -- other and exactly then, and a refusal leaves what it was lent.
 use mathlib.Core.Path.{ap, sym, ◌∙◌}
-use Rattle.refusals.specs.declared.Checked.TheVariants.{Good}
 use Rattle.refusals.proofs.TableLaws.{number_of-apart, number_of-least, number_of-le}
-use Rattle.load.specs.Plain.{check_plain}
-use Rattle.sheet.specs.Writing.{sheet_bytes}
 use Rattle.rules.specs.Margins.{margin_bytes}
 use Rattle.bench.specs.declared.Moved.{Moved}
 use Rattle.reading_bench.specs.Calls.{bound_bytes, verdict_bytes, schedule_file}
-use Rattle.lines.specs.Lines.{printed, printed_blamed}
 use Rattle.demands.specs.Demand1.{Demand1}
 use Rattle.demands.proofs.CallsDecided.{every-answer}
 use Rattle.demands.proofs.demand1.RefusedAlone.{returned-alone}
-use Rattle.demands.proofs.demand1.WritingCalls.{c-keeps, out-keeps}
+use Rattle.demands.proofs.demand1.WritingCalls.{c-keeps}
 use Rattle.demands.proofs.demand1.RefusedMoves.{bench-kept}
 use Rattle.demands.proofs.demand1.NumbersHold.{numbers}
 use Rattle.demands.proofs.demand1.ExactlyHolds.{exactly-then}
@@ -30,8 +26,7 @@ demand1 =
       alone = returned-alone;
       version-1-stays = λ load out refusal after g. g.output-is;
       version-2-stays = λ load out refusal after g. g.output-is;
-      sheet-stays = λ load out refusal r after p e.
-          out-keeps (check_plain load) (sheet_bytes load) out refusal r after p e;
+      sheet-stays = λ load out refusal after p. p.output-is;
       schedule-stays = λ slots out refusal after g. g.output-is;
       run-stays = λ bs out refusal after g. g.output-is;
       array-stays = λ slots n out refusal after g. g.output-is;
@@ -39,8 +34,8 @@ demand1 =
       verdict-stays = c-keeps verdict_bytes;
       margins-stay = c-keeps margin_bytes;
       c-schedule-stays = c-keeps schedule_file;
-      lines_stay = λ bs out refusal r after p e. out-keeps Good (printed bs) out refusal r after p e;
-      blames-stay = λ bs out refusal r after p e. out-keeps Good (printed_blamed bs) out refusal r after p e;
+      lines_stay = λ bs out refusal after p. p.output-is;
+      blames-stay = λ bs out refusal after p. p.output-is;
       bench-stays = λ load bench refusal r e h.
           e ∙ bench-kept load bench refusal (ap (λ (m : Moved). m.outcome) (sym e) ∙ h);
     }

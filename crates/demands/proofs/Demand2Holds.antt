@@ -16,6 +16,11 @@ use Rattle.bound.proofs.GoodLaws.{
   AnswersOf-margins,
   AnswersOf-verdict,
   AnswersOf-blames,
+  BlamesOf-margins-refused,
+  AnswersOf-bound-refused,
+  AnswersOf-margins-refused,
+  AnswersOf-verdict-refused,
+  AnswersOf-blames-refused,
 }
 use Rattle.schedule.proofs.CheckExactly.{check_schedule-exactly}
 use Rattle.bench.specs.Held.{state_of}
@@ -32,8 +37,8 @@ no-factory : NoFactory
 no-factory =
     record {
       in_memory = λ load e. (check-registered load (sym e)).not-factory;
-      in-files = λ bs r b e g. (check-registered r.load (file-good bs r e g b)).not-factory;
-      in-sheets = λ bs r b e g. (check-registered r.load (sheet-good bs r b e g)).not-factory;
+      in-files = λ bs load b e. (check-registered load (file-good bs load e b)).not-factory;
+      in-sheets = λ bs load b e. (check-registered load (sheet-good bs load b e)).not-factory;
     }
 
 pub demand2 : Demand2
@@ -44,16 +49,23 @@ demand2 =
       no-factory = no-factory;
       bounds = BoundOf-good;
       margins-are = MarginsOf-good;
-      margins-written = λ load r e g bytes h. h ∙ ap bytes_of_margins (MarginsOf-good load r e g);
+      margins-written = λ load given e bytes h. h ∙ ap bytes_of_margins (MarginsOf-good load given e);
       verdicts = VerdictOf-good;
       place-waits = PlaceWaitsOf-good;
       blames-are = BlamesOf-good;
       blames-margins = BlamesOf-margins;
+      no-blames-margins = BlamesOf-margins-refused;
       together = λ load r e. record {
         bound-is = AnswersOf-bound load r e;
         margins-are = AnswersOf-margins load r e;
         verdict-is = AnswersOf-verdict load r e;
         blames-are = AnswersOf-blames load r e;
+      };
+      refused-together = λ load refusal e. record {
+        no_bound = AnswersOf-bound-refused load refusal e;
+        no-margins = AnswersOf-margins-refused load refusal e;
+        no-verdict = AnswersOf-verdict-refused load refusal e;
+        no-blames = AnswersOf-blames-refused load refusal e;
       };
       moves = λ load bench r good held e. rw e (next-same load (sym good) bench held);
       as_before = λ load class bench r good held one e.

@@ -6,7 +6,7 @@ use mathlib.Core.List.{List}
 use mathlib.Core.Path.{◌≡◌, ap, sym, ◌∙◌}
 use Rattle.counting.specs.Lists.{any_in}
 use Rattle.counting.proofs.lists.ListLaws.{join_to-ext}
-use Rattle.refusals.specs.declared.Checked.TheVariants.{Good}
+use Rattle.std.specs.Prelude.{Ok}
 use Rattle.refusals.specs.Given.{written}
 use Rattle.refusals.specs.Refusals.{number_given}
 use Rattle.load.specs.declared.Load.{Load}
@@ -25,7 +25,6 @@ use Rattle.rules.proofs.invariant.RunnableLaws.{acceptable-runnable}
 use Rattle.rules.proofs.invariant.FullSetting.{full_setting}
 use Rattle.rules.proofs.run.RunLaws.{starts-joined}
 use Rattle.rules.proofs.Demand3.{accepted-demand3, accepted-passes}
-use Rattle.bound.specs.declared.Judged.{Judged}
 use Rattle.bound.specs.Calls.{VerdictOf}
 use Rattle.schedule_file.specs.ScheduleFile.{schedule_bytes}
 use Rattle.bench.proofs.running.RunsLaws.{Runs-schedule}
@@ -37,13 +36,14 @@ use Rattle.demands.proofs.demand2.SheetHolds.{sheet-good}
 use Rattle.demands.proofs.moves.RunByCalls.{run_of, run-states, run-moves}
 
 -- a check that is Good or 17, behind a load's check that is Good
-late-number : (load : Load) (slots : List Slot) → check_load load ≡ Good → GoodOrLate (check_slots (view_of load) slots)
+late-number : (load : Load) (slots : List Slot) → check_load load ≡ Ok tt
+    → GoodOrLate (check_slots (view_of load) slots)
     → OneOf of_late_row (number_given (check_schedule load slots))
 unfolding check_schedule any_in
 late-number load slots accepted (good e) = rw (accepted, e)
 late-number load slots accepted (late e) = rw (accepted, e)
 
-module _ (load : Load) (accepted : check_load load ≡ Good) (run : Run load) where
+module _ (load : Load) (accepted : check_load load ≡ Ok tt) (run : Run load) where
   -- what the rules prove
   d : RulesKept (view_of load)
   d = accepted-demand3 load accepted
@@ -59,8 +59,8 @@ module _ (load : Load) (accepted : check_load load ≡ Good) (run : Run load) wh
   clock-is : (n : ℕ) → (run.bench n).clock ≡ (state_after (view_of load) n fresh).clock
   clock-is n = ap (λ (s : State). s.clock) (run-states load accepted run n)
 
-  verdict-yes : (v : Judged) → VerdictOf load v → v.verdict ≡ true → verdict (view_of load) ≡ true
-  verdict-yes v e says = sym (demand2.verdicts load v e (ap (λ x. x.answer) e ∙ accepted)) ∙ says
+  verdict-yes : VerdictOf load (Ok true) → verdict (view_of load) ≡ true
+  verdict-yes e = sym (demand2.verdicts load true e)
 
   pub run-kept : RunKept load run
   run-kept =
@@ -69,27 +69,26 @@ module _ (load : Load) (accepted : check_load load ≡ Good) (run : Run load) wh
         ends = d.moves;
         done = (run-moves load accepted run d.moves).outcome-is ∙ d.done;
         numbers = λ n. ap (λ o. (told_by o).number) (run-moves load accepted run n).outcome-is ∙ d.numbers n;
-        in-bound = λ b e n.
-            rw (clock-is n, demand2.bounds load b e (ap (λ x. x.answer) e ∙ accepted)) (d.in-bound n);
+        in-bound = λ b e n. rw (clock-is n, demand2.bounds load b e) (d.in-bound n);
         last-end = λ n h. d.last-end n h ∙ sym (clock-is n);
         all-starts = λ n h. d.all-starts n h ∙ starts-are n;
-        runs = Runs-schedule load accepted;
+        runs = Runs-schedule load;
         keeps = d.rules;
         free-steps = d.free-steps;
         checked = λ c e. rw e (late-number load (schedule (view_of load)) accepted d.checked);
         rows_end = d.rows;
-        deadlines = λ v e says. d.deadlines (verdict-yes v e says);
-        passes = λ v e says c h. h ∙ accepted-passes load accepted (verdict-yes v e says);
+        deadlines = λ e. d.deadlines (verdict-yes e);
+        passes = λ e c h. h ∙ accepted-passes load accepted (verdict-yes e);
       }
 
 pub demand3 : Demand3
 demand3 =
     record {
       of-loads = λ load good run. run-kept load (sym good) run;
-      of-files = λ bs b r e g run. run-kept r.load (file-good bs r e g b) run;
-      of-sheets = λ bs b r e g run. run-kept r.load (sheet-good bs r b e g) run;
-      runs-of-files = λ bs b r e g out after w.
-          w.output-is ∙ ap (λ load. written (schedule_bytes (schedule (view_of load))) out) (sym
-          (ReadLoad-load bs r e g));
+      of-files = λ bs b load e run. run-kept load (file-good bs load e b) run;
+      of-sheets = λ bs b load e run. run-kept load (sheet-good bs load b e) run;
+      runs-of-files = λ bs b load e out after w.
+          w.output-is
+          ∙ ap (λ l. written (schedule_bytes (schedule (view_of l))) out) (sym (ReadLoad-load bs load e));
       runs = run_of;
     }

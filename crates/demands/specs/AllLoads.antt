@@ -1,7 +1,6 @@
 -- "Loads to try": those marked P, "gathered as a single statement over the whole list", and with
 -- them the loads of requests 2026-04 and 2026-05. To be read after LoadsToTry.
-use Rattle.std.specs.Prelude.{List, [], ◌∷◌, map, ◌≡◌}
-use Rattle.refusals.specs.declared.Checked.TheVariants.{Good, Refused}
+use Rattle.std.specs.Prelude.{List, [], ◌∷◌, map, ◌≡◌, Ok, Err}
 use Rattle.refusals.specs.Refusals.{number_of}
 use Rattle.load.specs.Check.{check_load}
 use Rattle.load.specs.View.{view_of}
@@ -37,7 +36,7 @@ pub record SoundHolds (e : Sound) : Type 0 where
   -- the load is written, in the version that the file names, as that file
   pub writes : load_bytes (version_said (bytes_of e.file)) e.load ≡ bytes_of e.file
   -- the check of the load in memory meets nothing
-  pub checks : check_load e.load ≡ Good
+  pub checks : check_load e.load ≡ Ok tt
   -- bound, row bounds, margins, verdict, starts, end and the check of the schedule are as stated
   pub answered : answers_for e.load ≡ e.answers
   -- and so are the moves looked at
@@ -53,10 +52,10 @@ pub record SoundHolds (e : Sound) : Type 0 where
 
 -- what is claimed of a load that is refused
 pub record FaultyHolds (e : Faulty) : Type 0 where
-  -- reading its file gives that refusal and the all-zero load
+  -- reading its file gives that refusal
   pub reads : read_load (bytes_of e.file) ≡ refused e.refusal
   -- the check of the load in memory gives it too
-  pub checks : check_load e.load ≡ Refused e.refusal
+  pub checks : check_load e.load ≡ Err e.refusal
   -- it has that number
   pub numbered : number_of e.refusal ≡ e.number
   -- and both programs print it

@@ -3,10 +3,8 @@
 -- slot lent to it." That a call ends is part of what is proved of its code, and what is lent to be
 -- read, as slots are, is altered by no call. To be read after Numbers, ExactlyThen, LoadFirst and
 -- ReturnedAlone. Rests on D49.
-use Rattle.std.specs.Prelude.{ℕ, List, ◌≢◌, ◌≡◌}
+use Rattle.std.specs.Prelude.{ℕ, List, ◌≢◌, ◌≡◌, Err, Result}
 use Rattle.refusals.specs.declared.Refusal.{Refusal}
-use Rattle.refusals.specs.declared.Checked.TheVariants.{Refused}
-use Rattle.refusals.specs.declared.Written.{Written}
 use Rattle.refusals.specs.Calls.{NumberOf}
 use Rattle.load.specs.declared.Load.{Load}
 use Rattle.load_records.specs.Calls.{WriteVersion1, WriteVersion2}
@@ -37,10 +35,10 @@ abbrev pub Stays : (List ℕ → List ℕ → ℕ → List ℕ → Type 0) → T
 Stays call = (bs out : List ℕ) (r : ℕ) (after : List ℕ) → call bs out r after → r ≢ 0 → after ≡ out
 
 -- a printing call that is refused leaves the output as it was
-abbrev pub PrintingStays : (List ℕ → List ℕ → Written → List ℕ → Type 0) → Type 0
+abbrev pub PrintingStays : (List ℕ → List ℕ → Result ℕ Refusal → List ℕ → Type 0) → Type 0
 PrintingStays call =
-    (bs out : List ℕ) (refusal : Refusal) (r : Written) (after : List ℕ) → call bs out r after
-    → r.answer ≡ Refused refusal → after ≡ out
+    (bs out : List ℕ) (refusal : Refusal) (after : List ℕ) → call bs out (Err refusal) after
+    → after ≡ out
 
 -- demand 1
 pub record Demand1 : Type 0 where
@@ -60,17 +58,17 @@ pub record Demand1 : Type 0 where
   pub alone : ReturnedAlone
   -- a refused call leaves the output as it was
   pub version-1-stays : (load : Load) (out : List ℕ) (refusal : Refusal) (after : List ℕ)
-      → WriteVersion1 load out (Refused refusal) after → after ≡ out
+      → WriteVersion1 load out (Err refusal) after → after ≡ out
   pub version-2-stays : (load : Load) (out : List ℕ) (refusal : Refusal) (after : List ℕ)
-      → WriteVersion2 load out (Refused refusal) after → after ≡ out
-  pub sheet-stays : (load : Load) (out : List ℕ) (refusal : Refusal) (r : Written) (after : List ℕ)
-      → WriteSheet load out r after → r.answer ≡ Refused refusal → after ≡ out
+      → WriteVersion2 load out (Err refusal) after → after ≡ out
+  pub sheet-stays : (load : Load) (out : List ℕ) (refusal : Refusal) (after : List ℕ)
+      → WriteSheet load out (Err refusal) after → after ≡ out
   pub schedule-stays : (slots : List Slot) (out : List ℕ) (refusal : Refusal) (after : List ℕ)
-      → WriteSchedule slots out (Refused refusal) after → after ≡ out
+      → WriteSchedule slots out (Err refusal) after → after ≡ out
   pub run-stays : (bs out : List ℕ) (refusal : Refusal) (after : List ℕ)
-      → WriteRun bs out (Refused refusal) after → after ≡ out
+      → WriteRun bs out (Err refusal) after → after ≡ out
   pub array-stays : (slots : List Slot) (n : ℕ) (out : List ℕ) (refusal : Refusal) (after : List ℕ)
-      → WriteArray slots n out (Refused refusal) after → after ≡ out
+      → WriteArray slots n out (Err refusal) after → after ≡ out
   pub bound-stays : Stays BenchBound
   pub verdict-stays : Stays BenchVerdict
   pub margins-stay : Stays BenchMargins

@@ -2,17 +2,15 @@
 -- the bound, each step is run once, phases, step order, waits and windows are kept with no overlap;
 -- and if no margin is negative each row ends by its deadline and the check says yes." Over any
 -- results that meet the calls' relations. To be read after Demand1 and Demand2. Rests on D50.
-use Rattle.std.specs.Prelude.{ℕ, suc, ◌≤◌, ◌<◌, true, List, ◌≡◌, length, take}
+use Rattle.std.specs.Prelude.{ℕ, suc, ◌≤◌, ◌<◌, true, List, ◌≡◌, length, take, Ok}
 use Rattle.counting.specs.Lists.{join_to}
 use Rattle.words.specs.LittleEndian.{Bytes}
-use Rattle.refusals.specs.declared.Checked.{Checked}
+use Rattle.refusals.specs.Checked.{Checked}
 use Rattle.refusals.specs.Given.{written}
-use Rattle.refusals.specs.declared.Checked.TheVariants.{Good}
 use Rattle.refusals.specs.Refusals.{number_given}
 use Rattle.load.specs.declared.Load.{Load}
 use Rattle.load.specs.View.{view_of, is_free}
 use Rattle.load.specs.Calls.{CheckLoad}
-use Rattle.load_file.specs.declared.Reading.{Reading}
 use Rattle.load_file.specs.Calls.{ReadLoad}
 use Rattle.sheet.specs.Calls.{ReadSheet}
 use Rattle.rules.specs.declared.Slot.{Slot}
@@ -24,8 +22,6 @@ use Rattle.rules.specs.Move.{move}
 use Rattle.rules.specs.Run.{state_after, schedule}
 use Rattle.rules.specs.Slots.{slot_at, row_of, step_of, slot_end, last_end}
 use Rattle.rules.specs.ScheduleRules.{SlotRules, ScheduleRules}
-use Rattle.bound.specs.declared.Bounded.{Bounded}
-use Rattle.bound.specs.declared.Judged.{Judged}
 use Rattle.bound.specs.Calls.{BoundOf, VerdictOf}
 use Rattle.schedule.specs.Calls.{CheckSchedule}
 use Rattle.schedule_file.specs.ScheduleFile.{schedule_bytes}
@@ -62,13 +58,13 @@ pub record RunKept (load : Load) (run : Run load) : Type 0 where
   pub done : (run.moved ends).outcome ≡ Done
   pub numbers : (n : ℕ) → (told_by (run.moved n).outcome).number ≡ 0
   -- by the bound: the clock is never past it, and the last step ends with the run
-  pub in-bound : (b : Bounded) → BoundOf load b → (n : ℕ) → (run.bench n).clock ≤ b.bound
+  pub in-bound : (b : ℕ) → BoundOf load (Ok b) → (n : ℕ) → (run.bench n).clock ≤ b
   pub last-end : (n : ℕ) → ends ≤ n
       → last_end (view_of load) (schedule (view_of load)) ≡ (run.bench n).clock
   -- the schedule is its starts, all of them
   pub all-starts : (n : ℕ) → ends ≤ n → schedule (view_of load) ≡ starts_of run n
   -- and what the call of the whole run hands back
-  pub runs : (r : Ran) → Runs load r → take r.count r.slots ≡ schedule (view_of load)
+  pub runs : (r : Ran) → Runs load (Ok r) → take r.count r.slots ≡ schedule (view_of load)
   -- each step is run once, and nothing else; phases, step order, waits and windows are kept with no
   -- overlap
   pub keeps : SlotRules (view_of load) (schedule (view_of load))
@@ -87,25 +83,25 @@ pub record RunKept (load : Load) (run : Run load) : Type 0 where
       → slot_end (view_of load) (slot_of load k)
       ≤ row_bound (view_of load) (row_of (slot_of load k))
   -- if no margin is negative each row ends by its deadline, and so the schedule rules hold
-  pub deadlines : (v : Judged) → VerdictOf load v → v.verdict ≡ true
+  pub deadlines : VerdictOf load (Ok true)
       → ScheduleRules (view_of load) (schedule (view_of load))
   -- and the check says yes
-  pub passes : (v : Judged) → VerdictOf load v → v.verdict ≡ true
-      → (c : Checked) → CheckSchedule load (schedule (view_of load)) c → c ≡ Good
+  pub passes : VerdictOf load (Ok true)
+      → (c : Checked) → CheckSchedule load (schedule (view_of load)) c → c ≡ Ok tt
 
 -- demand 3
 pub record Demand3 : Type 0 where
   -- any load that is not refused
-  pub of-loads : (load : Load) → CheckLoad load Good → (run : Run load) → RunKept load run
+  pub of-loads : (load : Load) → CheckLoad load (Ok tt) → (run : Run load) → RunKept load run
   -- any file that is not refused
-  pub of-files : (bs : List ℕ) → Bytes bs → (r : Reading) → ReadLoad bs r → r.answer ≡ Good
-      → (run : Run r.load) → RunKept r.load run
+  pub of-files : (bs : List ℕ) → Bytes bs → (load : Load) → ReadLoad bs (Ok load)
+      → (run : Run load) → RunKept load run
   -- any sheet that is not refused
-  pub of-sheets : (bs : List ℕ) → Bytes bs → (r : Reading) → ReadSheet bs r → r.answer ≡ Good
-      → (run : Run r.load) → RunKept r.load run
+  pub of-sheets : (bs : List ℕ) → Bytes bs → (load : Load) → ReadSheet bs (Ok load)
+      → (run : Run load) → RunKept load run
   -- a file's call writes the schedule file as well
-  pub runs-of-files : (bs : List ℕ) → Bytes bs → (r : Reading) → ReadLoad bs r → r.answer ≡ Good
-      → (out after : List ℕ) → WriteRun bs out Good after
-      → after ≡ written (schedule_bytes (schedule (view_of r.load))) out
+  pub runs-of-files : (bs : List ℕ) → Bytes bs → (load : Load) → ReadLoad bs (Ok load)
+      → (out after : List ℕ) → WriteRun bs out (Ok tt) after
+      → after ≡ written (schedule_bytes (schedule (view_of load))) out
   -- and every load has a run
   pub runs : (load : Load) → Run load

@@ -1,9 +1,8 @@
 -- "Each is given exactly then": a load is refused exactly when a fact of it fails, and 10 to 17 are
 -- given exactly when, in plain words, they are due. To be read after PublicCalls. Rests on D22.
-use Rattle.std.specs.Prelude.{List, ◌↔◌, ◌≢◌, ◌≡◌, length}
+use Rattle.std.specs.Prelude.{List, ◌↔◌, ◌≢◌, ◌≡◌, length, Ok, Err}
 use Rattle.refusals.specs.declared.Refusal.TheVariants.{StateShape, ClockFull, SlotCount}
-use Rattle.refusals.specs.declared.Checked.{Checked}
-use Rattle.refusals.specs.declared.Checked.TheVariants.{Good, Refused}
+use Rattle.refusals.specs.Checked.{Checked}
 use Rattle.load.specs.declared.Load.{Load}
 use Rattle.load.specs.View.{view_of, steps_in_all}
 use Rattle.load.specs.Acceptable.{Acceptable, Registered, Placed}
@@ -35,7 +34,7 @@ pub record Then (load : Load) (P : Type 0) : Type 0 where
 -- exactly then
 pub record ExactlyThen : Type 0 where
   -- a load is accepted exactly when it has the facts of a load
-  pub accepted : (load : Load) (r : Checked) → CheckLoad load r → (r ≡ Good) ↔ InOrder load
+  pub accepted : (load : Load) (r : Checked) → CheckLoad load r → (r ≡ Ok tt) ↔ InOrder load
   -- 10: the state does not have the load's shape
   pub ten : (load : Load) (bench : Bench) (r : Moved) → NextMove load bench r
       → (r.outcome ≡ outcome.Refused StateShape)
@@ -46,8 +45,8 @@ pub record ExactlyThen : Type 0 where
       ↔ Then load (ClockSpent (view_of load) (state_of bench))
   -- 12: slot count differs from step count
   pub twelve : (load : Load) (slots : List Slot) (r : Checked) → CheckSchedule load slots r
-      → (r ≡ Refused SlotCount) ↔ Then load (length slots ≢ steps_in_all (view_of load))
+      → (r ≡ Err SlotCount) ↔ Then load (length slots ≢ steps_in_all (view_of load))
   -- 13 to 17: the counts agree, and the number's rule is the first that is met
   pub from-thirteen : (load : Load) (slots : List Slot) (r : Checked) → CheckSchedule load slots r
-      → (rule : Rule) → (r ≡ Refused (refusal_for rule))
+      → (rule : Rule) → (r ≡ Err (refusal_for rule))
       ↔ Then load (CountedFirst (view_of load) slots rule)

@@ -1,13 +1,13 @@
 -- "What the contracts have to say": every public call on load files, once.
 -- To be read after the Calls of the crates that it names.
-use Rattle.std.specs.Prelude.{ℕ, List}
-use Rattle.refusals.specs.declared.Checked.{Checked}
+use Rattle.std.specs.Prelude.{ℕ, List, Result}
+use Rattle.refusals.specs.declared.Refusal.{Refusal}
+use Rattle.refusals.specs.Checked.{Checked}
 use Rattle.load.specs.declared.Row.{Row}
 use Rattle.load.specs.declared.Load.{Load}
 use Rattle.load_records.specs.declared.RowRecords.{RowRecords}
 use Rattle.load_records.specs.Calls.{RowSize, RowRecordsOf, Version1Size, Version2Size}
 use Rattle.load_records.specs.Calls.{WriteVersion1, WriteVersion2}
-use Rattle.load_file.specs.declared.Reading.{Reading}
 use Rattle.load_file.specs.Calls.{ReadLoad}
 
 -- what a writing call gives, and what its output holds afterwards
@@ -31,4 +31,4 @@ pub record EveryFileCall {ℓ} (Claim : (A : Type 0) → (A → Type 0) → Type
   pub write-version-2 : (load : Load) (out : List ℕ)
       → Claim (Wrote Checked) (Writes (WriteVersion2 load out))
   -- load_file
-  pub read-load : (bs : List ℕ) → Claim Reading (ReadLoad bs)
+  pub read-load : (bs : List ℕ) → Claim (Result Load Refusal) (ReadLoad bs)

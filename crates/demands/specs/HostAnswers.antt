@@ -1,17 +1,15 @@
 -- "It lends a load file's bytes and gets the bound, margins, verdict or schedule file": what C and
 -- the programs get, over any results of the calls and of the reading. To be read after PublicCalls.
 -- Rests on D47 and D49.
-use Rattle.std.specs.Prelude.{ℕ, ◌+◌, ◌≤◌, List, [], ◌∷◌, ◌≡◌, length, take}
+use Rattle.std.specs.Prelude.{ℕ, ◌+◌, ◌≤◌, List, [], ◌∷◌, ◌≡◌, length, take, Ok, Err, Result}
 use Rattle.counting.specs.Sums.{bit}
 use Rattle.words.specs.LittleEndian.{little_endian, Bytes}
 use Rattle.refusals.specs.declared.Refusal.{Refusal}
-use Rattle.refusals.specs.declared.Checked.TheVariants.{Good, Refused}
-use Rattle.refusals.specs.declared.Written.{Written}
 use Rattle.refusals.specs.Refusals.{number_of}
-use Rattle.refusals.specs.Given.{if_good, Given}
+use Rattle.refusals.specs.Given.{Given, found_in}
+use Rattle.load.specs.declared.Load.{Load}
 use Rattle.load.specs.View.{View, view_of}
 use Rattle.load_records.specs.Records.{most_file_bytes}
-use Rattle.load_file.specs.declared.Reading.{Reading}
 use Rattle.load_file.specs.Calls.{ReadLoad}
 use Rattle.rules.specs.Bound.{bound}
 use Rattle.rules.specs.Margins.{margin_bytes, verdict}
@@ -32,22 +30,21 @@ use Rattle.lines.specs.Calls.{text_places, TextOf, BlamedTextOf, PrintLines, Pri
 -- load's answer
 abbrev pub GivesAnswer : (List ℕ → List ℕ → ℕ → List ℕ → Type 0) → (View → List ℕ) → Type 0
 GivesAnswer call answer =
-    (bs : List ℕ) (read : Reading) → ReadLoad bs read → read.answer ≡ Good
+    (bs : List ℕ) (load : Load) → ReadLoad bs (Ok load)
     → (out : List ℕ) (n : ℕ) (after : List ℕ) → call bs out n after
-    → Numbered Good (answer (view_of read.load)) out n after
+    → Numbered (Ok tt) (answer (view_of load)) out n after
 
 -- of a file that is refused, it gives the number of the reading's refusal
 abbrev pub Refuses : (List ℕ → List ℕ → ℕ → List ℕ → Type 0) → Type 0
 Refuses call =
-    (bs : List ℕ) (read : Reading) (refusal : Refusal) → ReadLoad bs read
-    → read.answer ≡ Refused refusal
+    (bs : List ℕ) (refusal : Refusal) → ReadLoad bs (Err refusal)
     → (out : List ℕ) (n : ℕ) (after : List ℕ) → call bs out n after → n ≡ number_of refusal
 
 -- what a program gets: a text, or lines in an output, of what is printed
 pub record Prints
     (printed_for : List ℕ → List ℕ)
     (text : List ℕ → Text → Type 0)
-    (print : List ℕ → List ℕ → Written → List ℕ → Type 0)
+    (print : List ℕ → List ℕ → Result ℕ Refusal → List ℕ → Type 0)
     : Type 0
   where
     -- the text of any bytes is all that is printed for them, and its first places hold it
@@ -57,10 +54,10 @@ pub record Prints
     -- which the first bytes decide: one more than the longest load file has
     pub fronts : (bs : List ℕ) (r : Text) → text (take (most_file_bytes + 1) bs) r → text bs r
     -- the lines stand in the output, and so many bytes of them are counted
-    pub lines : (bs out : List ℕ) (r : Written) (after : List ℕ) → print bs out r after
-        → Given Good (printed_for bs) out r.answer after
-    pub lines-counted : (bs out : List ℕ) (r : Written) (after : List ℕ) → print bs out r after
-        → r.length ≡ if_good r.answer (length (printed_for bs)) 0
+    pub lines : (bs out : List ℕ) (r : Result ℕ Refusal) (after : List ℕ) → print bs out r after
+        → Given (Ok tt) (printed_for bs) out (found_in r) after
+    pub lines-counted : (bs out : List ℕ) (n : ℕ) (after : List ℕ) → print bs out (Ok n) after
+        → n ≡ length (printed_for bs)
 
 -- what the host gets
 pub record HostAnswers : Type 0 where

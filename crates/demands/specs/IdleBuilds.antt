@@ -1,36 +1,31 @@
 -- "Four idle builds are shut out": each as a definition, what such a build would give. To be read
 -- after Demand3.
-use Rattle.std.specs.Prelude.{ℕ, ◌+◌, Bool, List, ℤ, pos, replicate}
+use Rattle.std.specs.Prelude.{ℕ, ◌+◌, Bool, List, ℤ, Err, Result}
 use Rattle.refusals.specs.declared.Refusal.{Refusal}
-use Rattle.refusals.specs.declared.Checked.TheVariants.{Refused}
-use Rattle.refusals.specs.Given.{if_good}
+use Rattle.refusals.specs.Given.{given}
 use Rattle.load.specs.declared.Load.{Load}
-use Rattle.load.specs.Load.{most_rows, zero_load}
 use Rattle.load.specs.View.{view_of}
 use Rattle.load.specs.Check.{for_bench}
-use Rattle.load_file.specs.declared.Reading.{Reading}
 use Rattle.rules.specs.declared.Blame.{Blame}
 use Rattle.rules.specs.declared.Outcome.{Outcome}
 use Rattle.rules.specs.declared.Outcome.TheVariants.{Idle}
 use Rattle.rules.specs.Margins.{margins}
-use Rattle.bound.specs.declared.Margined.{Margined}
-use Rattle.bound.specs.declared.Judged.{Judged}
 use Rattle.bound.specs.declared.Blamed.{Blamed}
 use Rattle.bench.specs.declared.Bench.{Bench}
 use Rattle.bench.specs.declared.Moved.{Moved}
 use Rattle.bench.specs.Held.{bench_at, refused_with, next_move}
 
 -- one that refuses all: every file
-abbrev pub refuses_file : Refusal → List ℕ → Reading
-refuses_file refusal bs = record { answer = Refused refusal; load = zero_load }
+abbrev pub refuses_file : Refusal → List ℕ → Result Load Refusal
+refuses_file refusal bs = Err refusal
 
 -- and every move
 abbrev pub refuses_move : Refusal → Load → Bench → Moved
 refuses_move refusal load bench = refused_with bench refusal
 
 -- one with a fixed verdict
-abbrev pub fixed_verdict : Bool → Load → Judged
-fixed_verdict verdict load = record { answer = for_bench load; verdict = verdict }
+abbrev pub fixed_verdict : Bool → Load → Result Bool Refusal
+fixed_verdict verdict load = given (for_bench load) verdict
 
 -- or that moves nothing, whatever it answers
 abbrev pub moves_nothing : Outcome → ℕ → ℕ → Load → Bench → Moved
@@ -70,14 +65,10 @@ invents_ends ends load bench =
     }
 
 -- one with invented margins
-abbrev pub invents_margins : List ℤ → Load → Margined
-invents_margins margins load = record { answer = for_bench load; margins = margins }
+abbrev pub invents_margins : List ℤ → Load → Result (List ℤ) Refusal
+invents_margins margins load = given (for_bench load) margins
 
 -- one with invented blames
-abbrev pub invents_blames : List Blame → Load → Blamed
+abbrev pub invents_blames : List Blame → Load → Result Blamed Refusal
 invents_blames blames load =
-    record {
-      answer = for_bench load;
-      margins = if_good (for_bench load) (margins (view_of load)) (replicate most_rows (pos 0));
-      blames = blames;
-    }
+    given (for_bench load) (record { margins = margins (view_of load); blames = blames })

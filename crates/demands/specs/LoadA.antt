@@ -1,6 +1,5 @@
 -- "Loads to try", A: 2 w10 3 / 1 w4 2 / 2 w3 1, deadlines 20, 19, 18: as printed in "The program".
-use Rattle.std.specs.Prelude.{false, [], ◌∷◌, pos, negsuc}
-use Rattle.refusals.specs.declared.Checked.TheVariants.{Good}
+use Rattle.std.specs.Prelude.{false, [], ◌∷◌, pos, negsuc, Ok}
 use Rattle.load.specs.Notation.{◌w◌, row_by, load_of}
 use Rattle.rules.specs.declared.Outcome.TheVariants.{Start, Idle, Done}
 use Rattle.rules.specs.WorkedStates.{slot}
@@ -36,7 +35,7 @@ load_a =
         slots =
             slot 0 1 1 ∷ slot 2 2 1 ∷ slot 3 3 1 ∷ slot 7 2 2 ∷ slot 9 3 2 ∷ slot 12 1 2 ∷ [];
         end = 15;
-        finding = Good;
+        finding = Ok tt;
       };
       glimpses =
           record { moves = 0; outcome = Start (slot 0 1 1); clock = 2; lamps = 0; count = 0 }

@@ -1,8 +1,7 @@
 -- "Loads to try", B: 2 w4 2 (window 1 to 2, limit 8) / 3 / 2 w1 1 (window 1 to 2, limit 6), and B
 -- with another limit for row 1's window. Rests on D27.
-use Rattle.std.specs.Prelude.{ℕ, true, List, [], ◌∷◌, pos}
+use Rattle.std.specs.Prelude.{ℕ, true, List, [], ◌∷◌, pos, Ok}
 use Prim.Native.String.{String}
-use Rattle.refusals.specs.declared.Checked.TheVariants.{Good}
 use Rattle.load.specs.declared.Load.{Load}
 use Rattle.load.specs.Notation.{◌w◌, window, row, load_of}
 use Rattle.rules.specs.declared.Outcome.TheVariants.{Start, Done}
@@ -48,7 +47,7 @@ load_b =
         verdict-of = true;
         slots = slot 0 1 1 ∷ slot 2 2 1 ∷ slot 6 1 2 ∷ slot 8 3 1 ∷ slot 11 3 2 ∷ [];
         end = 12;
-        finding = Good;
+        finding = Ok tt;
       };
       glimpses =
           record { moves = 0; outcome = Start (slot 0 1 1); clock = 2; lamps = 1; count = 1 }

@@ -1,6 +1,5 @@
 -- "Loads to try", B with limit 9 for row 1's window. To be read after LoadB.
-use Rattle.std.specs.Prelude.{true, [], ◌∷◌, pos}
-use Rattle.refusals.specs.declared.Checked.TheVariants.{Good}
+use Rattle.std.specs.Prelude.{true, [], ◌∷◌, pos, Ok}
 use Rattle.rules.specs.declared.Outcome.TheVariants.{Start, Done}
 use Rattle.rules.specs.WorkedStates.{slot}
 use Rattle.demands.specs.LoadsToTry.{Sound}
@@ -19,7 +18,7 @@ load_b9 =
         verdict-of = true;
         slots = slot 0 1 1 ∷ slot 2 2 1 ∷ slot 5 3 1 ∷ slot 7 1 2 ∷ slot 9 3 2 ∷ [];
         end = 10;
-        finding = Good;
+        finding = Ok tt;
       };
       glimpses =
           record { moves = 2; outcome = Start (slot 5 3 1); clock = 7; lamps = 5; count = 2 }

@@ -1,7 +1,7 @@
 -- "What the contracts have to say": every public call on a load in memory, once.
 -- To be read after the Calls of the crates that it names.
 use Rattle.std.specs.Prelude.{ℕ, Bool, List}
-use Rattle.refusals.specs.declared.Checked.{Checked}
+use Rattle.refusals.specs.Checked.{Checked}
 use Rattle.load.specs.declared.Identifier.{Identifier}
 use Rattle.load.specs.declared.BoxNumber.{BoxNumber}
 use Rattle.load.specs.declared.Step.{Step}

@@ -1,8 +1,7 @@
 -- "Loads to try", one row, phase 5, cost 3: start 5, bound 8; margin 0 at deadline 8, -1 at 7.
-use Rattle.std.specs.Prelude.{ℕ, true, false, List, [], ◌∷◌, pos, negsuc}
+use Rattle.std.specs.Prelude.{ℕ, true, false, List, [], ◌∷◌, pos, negsuc, Ok, Err}
 use Prim.Native.String.{String}
 use Rattle.refusals.specs.declared.Refusal.TheVariants.{RowLate}
-use Rattle.refusals.specs.declared.Checked.TheVariants.{Good, Refused}
 use Rattle.load.specs.declared.Load.{Load}
 use Rattle.load.specs.Notation.{◌w◌, row_with, load_of}
 use Rattle.rules.specs.declared.Outcome.TheVariants.{Start, Idle}
@@ -30,7 +29,7 @@ load_phase8 =
         verdict-of = true;
         slots = slot 5 1 1 ∷ [];
         end = 8;
-        finding = Good;
+        finding = Ok tt;
       };
       glimpses = record { moves = 0; outcome = Idle; clock = 1; lamps = 0; count = 0 } ∷ [];
       margin-bytes = "00000000" ∷ [];
@@ -52,7 +51,7 @@ load_phase7 =
         verdict-of = false;
         slots = slot 5 1 1 ∷ [];
         end = 8;
-        finding = Refused RowLate;
+        finding = Err RowLate;
       };
       glimpses =
           record { moves = 5; outcome = Start (slot 5 1 1); clock = 8; lamps = 0; count = 0 } ∷ [];

@@ -1,8 +1,7 @@
 -- Request 2026-05: load A with classes 0 0 3, as a file of version 2. Of the steps of one number
 -- row 3's goes first; bound and margins are A's. The second program has the same answers. Rests on
 -- D92 and D93.
-use Rattle.std.specs.Prelude.{false, [], ◌∷◌, pos, negsuc}
-use Rattle.refusals.specs.declared.Checked.TheVariants.{Good}
+use Rattle.std.specs.Prelude.{false, [], ◌∷◌, pos, negsuc, Ok}
 use Rattle.load.specs.Notation.{◌w◌, row_by, classed, load_of}
 use Rattle.rules.specs.declared.Outcome.TheVariants.{Start, Idle, Done}
 use Rattle.rules.specs.WorkedStates.{slot}
@@ -38,7 +37,7 @@ load_urgent =
         slots =
             slot 0 3 1 ∷ slot 2 1 1 ∷ slot 4 2 1 ∷ slot 5 3 2 ∷ slot 9 2 2 ∷ slot 14 1 2 ∷ [];
         end = 17;
-        finding = Good;
+        finding = Ok tt;
       };
       glimpses =
           record { moves = 0; outcome = Start (slot 0 3 1); clock = 2; lamps = 0; count = 0 }

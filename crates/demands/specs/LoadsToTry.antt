@@ -1,15 +1,12 @@
 -- "Loads to try": what is asked of a load marked P, and what is said of it. To be read after
 -- Notation.
-use Rattle.std.specs.Prelude.{ℕ, ◌+◌, Bool, List, ◌++◌, ℤ, length, take, drop}
+use Rattle.std.specs.Prelude.{ℕ, ◌+◌, Bool, List, ◌++◌, ℤ, length, take, drop, Result, Err}
 use Prim.Native.String.{String}
 use Rattle.counting.specs.Lists.{list_to}
 use Rattle.refusals.specs.declared.Refusal.{Refusal}
-use Rattle.refusals.specs.declared.Checked.{Checked}
-use Rattle.refusals.specs.declared.Checked.TheVariants.{Refused}
+use Rattle.refusals.specs.Checked.{Checked}
 use Rattle.load.specs.declared.Load.{Load}
-use Rattle.load.specs.Load.{zero_load}
 use Rattle.load.specs.View.{view_of}
-use Rattle.load_file.specs.declared.Reading.{Reading}
 use Rattle.rules.specs.declared.Slot.{Slot}
 use Rattle.rules.specs.declared.Outcome.{Outcome}
 use Rattle.rules.specs.Bound.{bound}
@@ -95,5 +92,5 @@ pub record Faulty : Type 0 where
   pub lines : List String
 
 -- what reading a refused file gives
-abbrev pub refused : Refusal → Reading
-refused refusal = record { answer = Refused refusal; load = zero_load }
+abbrev pub refused : Refusal → Result Load Refusal
+refused refusal = Err refusal

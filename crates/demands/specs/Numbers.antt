@@ -1,26 +1,23 @@
 -- "Each is given exactly then, and returned alone": with which of the table's numbers each call can
 -- refuse. To be read after PublicCalls and NumberLists.
-use Rattle.std.specs.Prelude.{ℕ, Bool, List}
-use Rattle.refusals.specs.declared.Checked.{Checked}
-use Rattle.refusals.specs.declared.Written.{Written}
+use Rattle.std.specs.Prelude.{ℕ, Bool, List, ℤ, Result}
+use Rattle.refusals.specs.declared.Refusal.{Refusal}
+use Rattle.refusals.specs.Checked.{Checked}
 use Rattle.refusals.specs.Refusals.{number_given}
+use Rattle.refusals.specs.Given.{found_in}
 use Rattle.load.specs.declared.Step.{Step}
 use Rattle.load.specs.declared.Window.{Window}
 use Rattle.load.specs.declared.Row.{Row}
 use Rattle.load.specs.declared.Load.{Load}
 use Rattle.load.specs.Calls.{CheckLoad, CheckPlain, CheckFields, CheckStep, CheckWindow, CheckParts}
 use Rattle.load_records.specs.Calls.{WriteVersion1, WriteVersion2}
-use Rattle.load_file.specs.declared.Reading.{Reading}
 use Rattle.load_file.specs.Calls.{ReadLoad}
 use Rattle.sheet.specs.Calls.{ReadSheet, WriteSheet}
 use Rattle.rules.specs.declared.Slot.{Slot}
+use Rattle.rules.specs.declared.LargestW.{LargestW}
 use Rattle.rules.specs.Outcomes.{told_by}
 use Rattle.bound.specs.declared.Answered.{Answered}
-use Rattle.bound.specs.declared.Bounded.{Bounded}
-use Rattle.bound.specs.declared.Margined.{Margined}
-use Rattle.bound.specs.declared.Judged.{Judged}
 use Rattle.bound.specs.declared.Blamed.{Blamed}
-use Rattle.bound.specs.declared.PlaceWaits.{PlaceWaits}
 use Rattle.bound.specs.Calls.{AnswersOf, BoundOf, MarginsOf, VerdictOf, BlamesOf, PlaceWaitsOf}
 use Rattle.schedule.specs.Calls.{CheckSchedule, CheckArray}
 use Rattle.schedule_file.specs.Calls.{CheckRoom, WriteSchedule, WriteArray}
@@ -55,30 +52,30 @@ pub record Numbers : Type 0 where
       → CheckWindow row window before r → OneOf of_window (number_given r)
   pub check-parts : (row : Row) (r : Checked) → CheckParts row r → OneOf of_window (number_given r)
   -- a file that is read, and one that is written, in each version
-  pub read-load : (bs : List ℕ) (r : Reading) → ReadLoad bs r
-      → OneOf of_file (number_given r.answer)
+  pub read-load : (bs : List ℕ) (r : Result Load Refusal) → ReadLoad bs r
+      → OneOf of_file (number_given (found_in r))
   pub write-version-1 : (load : Load) (out : List ℕ) (r : Checked) (after : List ℕ)
       → WriteVersion1 load out r after → OneOf of_plain_writing (number_given r)
   pub write-version-2 : (load : Load) (out : List ℕ) (r : Checked) (after : List ℕ)
       → WriteVersion2 load out r after → OneOf of_writing (number_given r)
   -- a sheet that is read, and one that is written
-  pub read-sheet : (bs : List ℕ) (r : Reading) → ReadSheet bs r
-      → OneOf of_sheet (number_given r.answer)
-  pub write-sheet : (load : Load) (out : List ℕ) (r : Written) (after : List ℕ)
-      → WriteSheet load out r after → OneOf of_plain_writing (number_given r.answer)
+  pub read-sheet : (bs : List ℕ) (r : Result Load Refusal) → ReadSheet bs r
+      → OneOf of_sheet (number_given (found_in r))
+  pub write-sheet : (load : Load) (out : List ℕ) (r : Result ℕ Refusal) (after : List ℕ)
+      → WriteSheet load out r after → OneOf of_plain_writing (number_given (found_in r))
   -- the largest W of each place; bound, margins, verdict and blames
-  pub place-waits-of : (load : Load) (r : PlaceWaits) → PlaceWaitsOf load r
-      → OneOf of_load (number_given r.answer)
-  pub answers_of : (load : Load) (r : Answered) → AnswersOf load r
-      → OneOf of_load (number_given r.answer)
-  pub bound_of : (load : Load) (r : Bounded) → BoundOf load r
-      → OneOf of_load (number_given r.answer)
-  pub margins-of : (load : Load) (r : Margined) → MarginsOf load r
-      → OneOf of_load (number_given r.answer)
-  pub verdict-of : (load : Load) (r : Judged) → VerdictOf load r
-      → OneOf of_load (number_given r.answer)
-  pub blames-of : (load : Load) (r : Blamed) → BlamesOf load r
-      → OneOf of_load (number_given r.answer)
+  pub place-waits-of : (load : Load) (r : Result (List LargestW) Refusal) → PlaceWaitsOf load r
+      → OneOf of_load (number_given (found_in r))
+  pub answers_of : (load : Load) (r : Result Answered Refusal) → AnswersOf load r
+      → OneOf of_load (number_given (found_in r))
+  pub bound_of : (load : Load) (r : Result ℕ Refusal) → BoundOf load r
+      → OneOf of_load (number_given (found_in r))
+  pub margins-of : (load : Load) (r : Result (List ℤ) Refusal) → MarginsOf load r
+      → OneOf of_load (number_given (found_in r))
+  pub verdict-of : (load : Load) (r : Result Bool Refusal) → VerdictOf load r
+      → OneOf of_load (number_given (found_in r))
+  pub blames-of : (load : Load) (r : Result Blamed Refusal) → BlamesOf load r
+      → OneOf of_load (number_given (found_in r))
   -- a schedule that is checked, and one that is written, its room by itself too
   pub check-schedule : (load : Load) (slots : List Slot) (r : Checked) → CheckSchedule load slots r
       → OneOf of_schedule (number_given r)
@@ -93,7 +90,8 @@ pub record Numbers : Type 0 where
   -- a move, and a run
   pub next-move : (load : Load) (bench : Bench) (r : Moved) → NextMove load bench r
       → OneOf of_move (told_by r.outcome).number
-  pub run : (load : Load) (r : Ran) → Runs load r → OneOf of_load (number_given r.answer)
+  pub run : (load : Load) (r : Result Ran Refusal) → Runs load r
+      → OneOf of_load (number_given (found_in r))
   pub write-run : (bs out : List ℕ) (r : Checked) (after : List ℕ) → WriteRun bs out r after
       → OneOf of_c (number_given r)
   -- the calls for C, and printing
@@ -101,7 +99,7 @@ pub record Numbers : Type 0 where
   pub bench-verdict : NumbersForC BenchVerdict
   pub bench-margins : NumbersForC BenchMargins
   pub bench-schedule : NumbersForC BenchSchedule
-  pub print-lines : (bs out : List ℕ) (r : Written) (after : List ℕ) → PrintLines bs out r after
-      → OneOf of_output (number_given r.answer)
-  pub print-blames : (bs out : List ℕ) (r : Written) (after : List ℕ) → PrintBlames bs out r after
-      → OneOf of_output (number_given r.answer)
+  pub print-lines : (bs out : List ℕ) (r : Result ℕ Refusal) (after : List ℕ)
+      → PrintLines bs out r after → OneOf of_output (number_given (found_in r))
+  pub print-blames : (bs out : List ℕ) (r : Result ℕ Refusal) (after : List ℕ)
+      → PrintBlames bs out r after → OneOf of_output (number_given (found_in r))

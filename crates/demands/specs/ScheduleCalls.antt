@@ -1,7 +1,7 @@
 -- "What the contracts have to say": every public call on schedules, once.
 -- To be read after the Calls of the crates that it names.
 use Rattle.std.specs.Prelude.{ℕ, List}
-use Rattle.refusals.specs.declared.Checked.{Checked}
+use Rattle.refusals.specs.Checked.{Checked}
 use Rattle.load.specs.declared.Load.{Load}
 use Rattle.rules.specs.declared.Slot.{Slot}
 use Rattle.schedule.specs.Calls.{AtMostPlaces, CheckSchedule, CheckArray}

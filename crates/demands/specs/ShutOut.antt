@@ -1,8 +1,7 @@
 -- "Four idle builds are shut out": what such a build gives does not meet a call's relation, or not
 -- demand 3; and with them a build that ignores the class. To be read after IdleBuilds and AllLoads.
-use Rattle.std.specs.Prelude.{ℕ, ◌<◌, Bool, List, ◌≢◌, ◌≡◌, ℤ, pos, get_or}
+use Rattle.std.specs.Prelude.{ℕ, ◌<◌, Bool, List, ◌≢◌, ◌≡◌, ℤ, pos, get_or, Ok, Err}
 use Rattle.refusals.specs.declared.Refusal.{Refusal}
-use Rattle.refusals.specs.declared.Checked.TheVariants.{Good, Refused}
 use Rattle.load.specs.declared.Load.{Load}
 use Rattle.load.specs.Load.{most_rows}
 use Rattle.load.specs.View.{view_of}
@@ -43,15 +42,15 @@ pub record ShutOut : Type 0 where
   pub refuses-files : (refusal : Refusal)
       → ReadLoad (bytes_of load_a.file) (refuses_file refusal (bytes_of load_a.file)) → ⊥
   pub refuses-sheets : (refusal : Refusal) → ReadSheet sheet_a (refuses_file refusal sheet_a) → ⊥
-  pub refuses-loads : (refusal : Refusal) → CheckLoad load_a.load (Refused refusal) → ⊥
+  pub refuses-loads : (refusal : Refusal) → CheckLoad load_a.load (Err refusal) → ⊥
   -- and by demand 3 no move is, in the run of any load that is not refused
-  pub refuses-moves : (load : Load) → CheckLoad load Good → (run : Run load) (n : ℕ)
+  pub refuses-moves : (load : Load) → CheckLoad load (Ok tt) → (run : Run load) (n : ℕ)
       → (refusal : Refusal) → run.moved n ≡ refuses_move refusal load (run.bench n) → ⊥
   -- one with a fixed verdict: A's is no, and B's is yes
   pub fixed-verdict : (verdict : Bool)
-      → ((load : Load) → CheckLoad load Good → VerdictOf load (fixed_verdict verdict load)) → ⊥
+      → ((load : Load) → CheckLoad load (Ok tt) → VerdictOf load (fixed_verdict verdict load)) → ⊥
   -- or schedule: A has 6 slots, and the load of no rows has none
-  pub fixed-schedule : (r : Ran) → ((load : Load) → CheckLoad load Good → Runs load r) → ⊥
+  pub fixed-schedule : (r : Ran) → ((load : Load) → CheckLoad load (Ok tt) → Runs load (Ok r)) → ⊥
   -- or that moves nothing: A's first move takes 2 ticks
   pub moves-nothing : (outcome : Outcome) (lamps count : ℕ) (bench : Bench) → Fresh bench
       → NextMove load_a.load bench (moves_nothing outcome lamps count load_a.load bench) → ⊥
@@ -78,14 +77,14 @@ pub record ShutOut : Type 0 where
   pub ends-at-two : (bench : Bench) (ends : List ℕ) → Fresh bench → get_or ends 0 0 ≢ 2
       → NextMove load_a.load bench (invents_ends ends load_a.load bench) → ⊥
   -- or margins, at any place of any accepted load
-  pub invents-margins : (load : Load) → CheckLoad load Good → (given : List ℤ) (i : ℕ)
+  pub invents-margins : (load : Load) → CheckLoad load (Ok tt) → (given : List ℤ) (i : ℕ)
       → i < most_rows → margin_in given i ≢ margin_at (view_of load) i
       → MarginsOf load (invents_margins given load) → ⊥
   -- as A's first margin is 1
   pub margin-of-one : (given : List ℤ) → margin_in given 0 ≢ pos 1
       → MarginsOf load_a.load (invents_margins given load_a.load) → ⊥
   -- or blames, at any place of any accepted load
-  pub invents-blames : (load : Load) → CheckLoad load Good → (given : List Blame) (i : ℕ)
+  pub invents-blames : (load : Load) → CheckLoad load (Ok tt) → (given : List Blame) (i : ℕ)
       → i < most_rows → get_or given i nobody ≢ blame_at (view_of load) i
       → BlamesOf load (invents_blames given load) → ⊥
   -- as A's first row is held up by place 1 and row 1

@@ -1,7 +1,6 @@
 -- "Loads to try", the small ones: two rows of unequal length, two rows of waits 0, and no rows at
 -- all.
-use Rattle.std.specs.Prelude.{true, [], ◌∷◌, pos}
-use Rattle.refusals.specs.declared.Checked.TheVariants.{Good}
+use Rattle.std.specs.Prelude.{true, [], ◌∷◌, pos, Ok}
 use Rattle.load.specs.Notation.{◌w◌, row, load_of}
 use Rattle.rules.specs.declared.Outcome.TheVariants.{Done}
 use Rattle.rules.specs.WorkedStates.{slot}
@@ -27,7 +26,7 @@ load_unequal =
         verdict-of = true;
         slots = slot 0 1 1 ∷ slot 1 2 1 ∷ slot 9 2 2 ∷ [];
         end = 11;
-        finding = Good;
+        finding = Ok tt;
       };
       glimpses = record { moves = 9; outcome = Done; clock = 11; lamps = 0; count = 0 } ∷ [];
       margin-bytes = "3D420F00" ∷ "35420F00" ∷ [];
@@ -67,7 +66,7 @@ load_waits0 =
         verdict-of = true;
         slots = slot 0 1 1 ∷ slot 1 2 1 ∷ slot 2 1 2 ∷ slot 3 2 2 ∷ [];
         end = 4;
-        finding = Good;
+        finding = Ok tt;
       };
       glimpses = record { moves = 4; outcome = Done; clock = 4; lamps = 0; count = 0 } ∷ [];
       margin-bytes = "3C420F00" ∷ "3C420F00" ∷ [];
@@ -101,7 +100,7 @@ load_empty =
         verdict-of = true;
         slots = [];
         end = 0;
-        finding = Good;
+        finding = Ok tt;
       };
       glimpses = record { moves = 0; outcome = Done; clock = 0; lamps = 0; count = 0 } ∷ [];
       margin-bytes = [];

@@ -1,12 +1,12 @@
 -- "What the contracts have to say": every public call on words and refusals, once.
 -- To be read after the Calls of the crates that it names.
-use Rattle.std.specs.Prelude.{ℕ, List, ℤ}
+use Rattle.std.specs.Prelude.{ℕ, List, ℤ, Option}
 use Rattle.words.specs.declared.Word.{Word}
 use Rattle.words.specs.declared.Digits.{Digits}
 use Rattle.words.specs.Calls.{ByteAt, NumberAt, Overwrite, LittleEndian, Complement}
 use Rattle.words.specs.Calls.{DecimalOf, SignedOf, DecimalAt}
 use Rattle.refusals.specs.declared.Refusal.{Refusal}
-use Rattle.refusals.specs.declared.Checked.{Checked}
+use Rattle.refusals.specs.Checked.{Checked}
 use Rattle.refusals.specs.Calls.{NumberOf, NumberGiven}
 
 -- what is claimed of the relation of each call on words and refusals, for all that it is given
@@ -21,7 +21,7 @@ pub record EveryWordCall {ℓ} (Claim : (A : Type 0) → (A → Type 0) → Type
   pub complement32 : (number : ℤ) → Claim ℕ (Complement 32 number)
   pub decimal-of : (number : ℕ) → Claim Word (DecimalOf number)
   pub signed_of : (number : ℤ) → Claim Word (SignedOf number)
-  pub decimal-at : (bs : List ℕ) (at : ℕ) → Claim Digits (DecimalAt bs at)
+  pub decimal-at : (bs : List ℕ) (at : ℕ) → Claim (Option Digits) (DecimalAt bs at)
   -- refusals
   pub number_of : (refusal : Refusal) → Claim ℕ (NumberOf refusal)
   pub number-given : (found : Checked) → Claim ℕ (NumberGiven found)

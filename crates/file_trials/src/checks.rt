@@ -2,7 +2,7 @@
 // `check` and the number of what the check of the slots finds, 0 for nothing. A file that is
 // refused is answered by `refused` and its number.
 use crate::given::{Given, write_refused};
-use crate::input::{NO_COUNT, read_things};
+use crate::input::read_things;
 use crate::output::{write_byte, write_number};
 use crate::slots::{SLOT_SIZE, SLOTS_SIZE, slots_from};
 use refusals::number_given;
@@ -12,17 +12,19 @@ use std::io::{Read, Result, Write};
 // Reads and answers the question. Says no where it is cut short, the file too long, or the slots
 // too many.
 pub fn answer(given: Given, input: &mut impl Read, output: &mut impl Write) -> Result<bool> {
-    if !given.is_whole {
+    let Some(given) = given else {
         return Ok(false);
-    }
+    };
     let mut bytes = [0u8; SLOTS_SIZE];
-    let n = read_things(input, &mut bytes, SLOT_SIZE);
-    if n == NO_COUNT {
+    let Some(n) = read_things(input, &mut bytes, SLOT_SIZE) else {
         return Ok(false);
-    }
-    if !write_refused(output, given.found)? {
-        let found = check_array(given.load, slots_from(&bytes), n);
-        write_number(output, b"check ", number_given(found))?;
+    };
+    match given {
+        Ok(load) => {
+            let found = check_array(load, slots_from(&bytes), n);
+            write_number(output, b"check ", number_given(found))?;
+        }
+        Err(refusal) => write_refused(output, refusal)?,
     }
     write_byte(output, b'\n')?;
     Ok(true)

@@ -3,40 +3,46 @@
 // follows in hexadecimal digits; for e the length that is told, and then all the room, whatever is
 // found.
 use crate::given::from_memory;
+use crate::input::{filled, front};
 use crate::output::{write_byte, write_number};
-use crate::rooms::{MOST_SHEET_ROOM, filled, read_room};
+use crate::rooms::{BEFORE, MOST_SHEET_ROOM, Room};
 use crate::written::{write_hex, write_written};
-use refusals::{Written, number_given};
+use refusals::{Refusal, number_of};
 use sheet::write_sheet;
-use std::io::{Read, Result, Write};
+use std::io::{self, Read, Write};
 
-// Writes what was found, the length that was told, and n bytes.
-fn write_told(output: &mut impl Write, written: Written, bytes: &[u8], n: usize) -> Result<()> {
-    let found = written.answer;
-    let length = written.length;
-    write_number(output, b"export ", number_given(found))?;
+// Writes what was found, the length that was told, 0 where there is none, and bytes.
+fn write_told(
+    output: &mut impl Write,
+    written: Result<usize, Refusal>,
+    bytes: &[u8],
+) -> io::Result<()> {
+    let number = written.map_or_else(number_of, |_| 0);
+    let length = written.unwrap_or(0);
+    write_number(output, b"export ", number)?;
     write!(output, " {length} ")?;
-    write_hex(output, bytes, n)?;
+    write_hex(output, bytes)?;
     write_byte(output, b'\n')
 }
 
 // Reads and answers the question. Says no where it is cut short, or the room too large.
-pub fn answer(is_said: bool, input: &mut impl Read, output: &mut impl Write) -> Result<bool> {
-    let room = read_room(input, is_said, MOST_SHEET_ROOM);
-    if room > MOST_SHEET_ROOM {
+pub fn answer(
+    room: Option<Room>,
+    input: &mut impl Read,
+    output: &mut impl Write,
+) -> io::Result<bool> {
+    let (Some(room), Some(load)) = (room, from_memory(input)) else {
         return Ok(false);
-    }
-    let given = from_memory(input);
-    if !given.is_whole {
+    };
+    let mut bytes = filled::<MOST_SHEET_ROOM>(BEFORE);
+    let Some(lent) = bytes.get_mut(..room.size_or(MOST_SHEET_ROOM)) else {
         return Ok(false);
-    }
-    let mut bytes = filled();
-    let written = write_sheet(given.load, &mut bytes[..room]);
-    if is_said {
-        write_told(output, written, &bytes, room)?;
-    } else {
-        let found = written.answer;
-        write_written(output, b"export ", found, &bytes, written.length)?;
+    };
+    let written = write_sheet(load, lent);
+    let left = front(&bytes, room.size_or(written.unwrap_or(0)));
+    match room {
+        Room::Largest => write_written(output, b"export ", written.map(|_| ()), left)?,
+        Room::Said(_) => write_told(output, written, left)?,
     }
     Ok(true)
 }

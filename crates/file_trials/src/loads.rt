@@ -3,60 +3,65 @@
 // of what its writing finds; where that is 0, in hexadecimal digits by the load file (W, V) or by
 // all the room (w, v).
 use crate::given::from_memory;
+use crate::input::{filled, front};
 use crate::output::write_text;
-use crate::rooms::{MOST_ROOM, answered, filled, read_room};
+use crate::rooms::{BEFORE, MOST_ROOM, Room};
 use crate::written::write_written;
 use load::Load;
-use load_records::{VERSION_2, version_1_size, version_2_size, write_version_1, write_version_2};
-use refusals::Checked;
-use std::io::{Read, Result, Write};
+use load_records::{version_1_size, version_2_size, write_version_1, write_version_2};
+use refusals::Refusal;
+use std::io::{self, Read, Write};
 
-// Writes a load as its file of a version, and gives what is found.
-fn write_in(version: u8, load: Load, room: &mut [u8]) -> Checked {
-    if version == VERSION_2 {
-        write_version_2(load, room)
-    } else {
-        write_version_1(load, room)
-    }
+// The version that a load is written as.
+#[derive(Clone, Copy)]
+pub enum Version {
+    First,
+    Second,
 }
 
-// Gives how many bytes a load's file of a version has.
-fn size_in(version: u8, load: Load) -> usize {
-    if version == VERSION_2 {
-        version_2_size(load)
-    } else {
-        version_1_size(load)
+impl Version {
+    // Writes a load as its file of this version, and gives what is found.
+    fn write(self, load: Load, room: &mut [u8]) -> Result<(), Refusal> {
+        match self {
+            Version::First => write_version_1(load, room),
+            Version::Second => write_version_2(load, room),
+        }
     }
-}
 
-// Writes the word that an answer about a version begins with.
-fn write_word(output: &mut impl Write, version: u8) -> Result<()> {
-    if version == VERSION_2 {
-        write_text(output, b"load2")
-    } else {
-        write_text(output, b"load")
+    // Gives how many bytes a load's file of this version has.
+    fn size(self, load: Load) -> usize {
+        match self {
+            Version::First => version_1_size(load),
+            Version::Second => version_2_size(load),
+        }
+    }
+
+    // Gives the word that an answer begins with.
+    fn word(self) -> &'static [u8] {
+        match self {
+            Version::First => b"load",
+            Version::Second => b"load2",
+        }
     }
 }
 
 // Reads and answers the question. Says no where it is cut short, or the room too large.
 pub fn answer(
-    version: u8,
-    is_said: bool,
+    version: Version,
+    room: Option<Room>,
     input: &mut impl Read,
     output: &mut impl Write,
-) -> Result<bool> {
-    let room = read_room(input, is_said, MOST_ROOM);
-    if room > MOST_ROOM {
+) -> io::Result<bool> {
+    let (Some(room), Some(load)) = (room, from_memory(input)) else {
         return Ok(false);
-    }
-    let given = from_memory(input);
-    if !given.is_whole {
+    };
+    let mut bytes = filled::<MOST_ROOM>(BEFORE);
+    let Some(lent) = bytes.get_mut(..room.size_or(MOST_ROOM)) else {
         return Ok(false);
-    }
-    let mut bytes = filled();
-    let found = write_in(version, given.load, &mut bytes[..room]);
-    let n = answered(is_said, room, size_in(version, given.load));
-    write_word(output, version)?;
-    write_written(output, b" ", found, &bytes, n)?;
+    };
+    let found = version.write(load, lent);
+    let n = room.size_or(version.size(load));
+    write_text(output, version.word())?;
+    write_written(output, b" ", found, front(&bytes, n))?;
     Ok(true)
 }

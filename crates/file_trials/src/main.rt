@@ -20,33 +20,36 @@ mod written;
 
 use given::{from_file, from_memory};
 use input::read_whole;
-use load_records::{VERSION_1, VERSION_2};
+use loads::Version;
 use output::write_text;
+use rooms::{Room, read_room};
 use std::io::{BufReader, BufWriter, Read, Result, Write};
 
 // Reads what follows a question's letter, and answers it. Says no where there is no such letter, or
 // the question is cut short.
+// A match, and no table of functions: the questions take different arguments.
 fn answer_kind(input: &mut impl Read, output: &mut impl Write, letter: u8) -> Result<bool> {
     match letter {
         b'C' => checks::answer(from_file(input), input, output),
-        b'D' => checks::answer(from_memory(input), input, output),
-        b'W' => loads::answer(VERSION_1, false, input, output),
-        b'w' => loads::answer(VERSION_1, true, input, output),
-        b'V' => loads::answer(VERSION_2, false, input, output),
-        b'v' => loads::answer(VERSION_2, true, input, output),
-        b'S' => schedules::answer(false, input, output),
-        b's' => schedules::answer(true, input, output),
+        b'D' => checks::answer(from_memory(input).map(Ok), input, output),
+        b'W' => loads::answer(Version::First, Some(Room::Largest), input, output),
+        b'w' => loads::answer(Version::First, read_room(input), input, output),
+        b'V' => loads::answer(Version::Second, Some(Room::Largest), input, output),
+        b'v' => loads::answer(Version::Second, read_room(input), input, output),
+        b'S' => schedules::answer(Some(Room::Largest), input, output),
+        b's' => schedules::answer(read_room(input), input, output),
         b'R' => sheets::answer(input, output),
-        b'E' => exports::answer(false, input, output),
-        b'e' => exports::answer(true, input, output),
+        b'E' => exports::answer(Some(Room::Largest), input, output),
+        b'e' => exports::answer(read_room(input), input, output),
         _ => Ok(false),
     }
 }
 
 // Answers the next question. Says no at the end of the input, and after `bad`.
+// It stands twice, and `main` too: a library's call would need a contract on reading (D77).
 fn answer_next(input: &mut impl Read, output: &mut impl Write) -> Result<bool> {
     let mut letter = [0u8; 1];
-    if !read_whole(input, &mut letter) {
+    if read_whole(input, &mut letter).is_none() {
         return Ok(false);
     }
     let is_answered = answer_kind(input, output, letter[0])?;

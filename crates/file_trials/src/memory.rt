@@ -2,11 +2,10 @@
 // its identifier (4 bytes), its box (4), its phase (4), its deadline (4), its number of steps (1)
 // and of windows (1), its class (1), its head (1), 8 steps and 4 windows. A step is its cost (2)
 // and its wait (2), a window its first step (1), its last (1) and its limit (2).
+// The other program of trials has the same file (D77).
 ghost use Rattle.std.specs.Prelude.{◌≤◌};
 
-use load::{
-    BoxNumber, Identifier, Load, MOST_ROWS, MOST_STEPS, MOST_WINDOWS, Row, Step, Window, zero_load,
-};
+use load::{BoxNumber, Identifier, Load, MOST_STEPS, MOST_WINDOWS, Row, Step, Window, zero_load};
 use words::{byte_at, number16_at, number32_at};
 
 // The bytes of a load.
@@ -26,10 +25,10 @@ const PART_SIZE: usize = 4;
 fn steps_from(bytes: &[u8], row: usize) -> [Step; MOST_STEPS]
     requires { row ≤ 4096 }
 {
-    let mut steps = [Step { cost: 0, wait: 0 }; MOST_STEPS];
-    for j in 0..MOST_STEPS {
+    let mut steps = [Step::default(); MOST_STEPS];
+    for (j, step) in steps.iter_mut().enumerate() {
         let at = row + STEPS_AT + PART_SIZE * j;
-        steps[j] = Step {
+        *step = Step {
             cost: number16_at(bytes, at),
             wait: number16_at(bytes, at + 2),
         };
@@ -41,15 +40,10 @@ fn steps_from(bytes: &[u8], row: usize) -> [Step; MOST_STEPS]
 fn windows_from(bytes: &[u8], row: usize) -> [Window; MOST_WINDOWS]
     requires { row ≤ 4096 }
 {
-    let none = Window {
-        first: 0,
-        last: 0,
-        limit: 0,
-    };
-    let mut windows = [none; MOST_WINDOWS];
-    for k in 0..MOST_WINDOWS {
+    let mut windows = [Window::default(); MOST_WINDOWS];
+    for (k, window) in windows.iter_mut().enumerate() {
         let at = row + WINDOWS_AT + PART_SIZE * k;
-        windows[k] = Window {
+        *window = Window {
             first: byte_at(bytes, at),
             last: byte_at(bytes, at + 1),
             limit: number16_at(bytes, at + 2),
@@ -80,8 +74,8 @@ fn row_from(bytes: &[u8], at: usize) -> Row
 pub fn load_from(bytes: &[u8]) -> Load {
     let mut load = zero_load();
     load.rows = byte_at(bytes, 0);
-    for i in 0..MOST_ROWS {
-        load.row[i] = row_from(bytes, ROWS_AT + ROW_SIZE * i);
+    for (i, row) in load.row.iter_mut().enumerate() {
+        *row = row_from(bytes, ROWS_AT + ROW_SIZE * i);
     }
     load
 }

@@ -1,21 +1,24 @@
 -- What one call of the bound tells of an accepted load, in the words of the lines: bound and verdict of the first line,
 -- and the margins and blames of the row lines.
 use Prim.Native.Nat.{ℕ, ◌<◌}
-use mathlib.Core.Bool.{Bool, cond}
+use mathlib.Core.Bool.{Bool, true, false, cond}
 use mathlib.Core.List.{List}
-use mathlib.Core.Path.{◌≡◌, ap, ap₂, ◌∙◌}
+use Rattle.std.specs.Bool.{then_some}
+use Rattle.std.specs.Borrow.{Bor}
+use mathlib.Core.Path.{◌≡◌, refl, ap, ap₂, ◌∙◌}
 use native.Mathlib.Omega.{arith}
 use borrow.Author.Tests.{lt-ltb}
 use lib.IntN.{pos}
-use lib.ListN.{get_or, take}
+use lib.ListN.{length, get_or}
 use Rattle.counting.specs.Lists.{join_to}
 use Rattle.counting.proofs.lists.ListLaws.{get_or-list_to, join_to-ext}
-use Rattle.refusals.specs.declared.Checked.TheVariants.{Good}
+use Rattle.std.specs.Prelude.{Ok}
 use Rattle.load.specs.declared.Load.{Load}
 use Rattle.load.specs.Load.{most_rows, shown, row_at}
 use Rattle.load.specs.View.{view_of, steps_in_all}
 use Rattle.load.specs.Check.{check_load}
 use Rattle.load.proofs.AcceptableLaws.{check-acceptable}
+use Rattle.rules.specs.declared.Blame.{Blame}
 use Rattle.rules.specs.declared.Slot.{Slot}
 use Rattle.rules.specs.Margins.{margin, margins, margin_at, margin_in}
 use Rattle.rules.specs.Blame.{nobody, row_blame, blame_at, blames}
@@ -35,9 +38,16 @@ use Rattle.bound.proofs.GoodLaws.{
   AnswersOf-blames,
 }
 use Rattle.lines.specs.Lines.{load_line, blame_words, row_line, first_line_of, row_line_of}
-use Rattle.lines.specs.inner.Puts.{row_line_by, Scheduled, Told}
+use Rattle.lines.specs.inner.Puts.{words_of, given_at, row_line_by, Scheduled}
+use Rattle.lines.proofs.ScheduledLaws.{scheduled-counted}
 
-module _ (load : Load) (accepted : check_load load ≡ Good) where
+-- of blames that are handed on where they are asked for
+asked-words : (blamed : Bool) (lent : Bor (List Blame)) (i : ℕ)
+    → words_of (given_at (then_some blamed lent) i) ≡ blame_words blamed (get_or lent.now i nobody)
+asked-words true lent i = refl
+asked-words false lent i = refl
+
+module _ (load : Load) (accepted : check_load load ≡ Ok tt) where
   -- at the place of a row stands its margin
   margin-read : (i : ℕ) → i < load.rows → margin_in (margins (view_of load)) i ≡ margin (view_of load) i
   unfolding margins view_of
@@ -54,42 +64,35 @@ module _ (load : Load) (accepted : check_load load ≡ Good) where
       get_or-list_to (blame_at (view_of load)) most_rows i nobody (omega arith)
       ∙ ap (λ t. cond t (row_blame (view_of load) i) nobody) (lt-ltb i load.rows l)
 
-  module _ (r : Answered) (e : AnswersOf load r) where
-    good : r.answer ≡ Good
-    good = ap (λ (x : Answered). x.answer) e ∙ accepted
-
-    pub answers-told : Told (view_of load) r.bound r.verdict
-    answers-told =
-        record {
-          bound-is = BoundOf-good load _ (AnswersOf-bound load r e) good;
-          verdict-is = VerdictOf-good load _ (AnswersOf-verdict load r e) good;
-        }
+  module _ (r : Answered) (told : AnswersOf load (Ok r)) where
+    -- the first line, of the bound and verdict that were told
+    pub first_line-told : (slots : List Slot) (end : ℕ) → Scheduled load slots → end ≡ last_end (view_of load) slots
+        → first_line_of load.rows (length slots) end r.bound r.verdict
+        ≡ load_line (view_of load) (schedule (view_of load))
+    unfolding first_line_of load_line view_of
+    first_line-told slots end s e =
+        let L = view_of load in
+        ap (λ n. first_line_of load.rows n end r.bound r.verdict) (scheduled-counted load slots s)
+        ∙ ap (λ n. first_line_of load.rows (steps_in_all L) n r.bound r.verdict) (e ∙ ap (last_end L) s.slots-are)
+        ∙ ap₂ (first_line_of load.rows (steps_in_all L) (last_end L (schedule L)))
+        (BoundOf-good load _ (AnswersOf-bound load r told))
+        (VerdictOf-good load _ (AnswersOf-verdict load r told))
 
     margins-told : r.margins ≡ margins (view_of load)
-    margins-told = MarginsOf-good load _ (AnswersOf-margins load r e) good
+    margins-told = MarginsOf-good load _ (AnswersOf-margins load r told)
 
     blames-told : r.blames ≡ blames (view_of load)
-    blames-told = BlamesOf-good load _ (AnswersOf-blames load r e) good
+    blames-told = BlamesOf-good load _ (AnswersOf-blames load r told)
 
-    -- the row lines, of the margins and blames that were told
-    pub row_lines-told : (blamed : Bool)
-        → join_to (row_line_by blamed load r.margins r.blames) load.rows
+    -- the row lines, of the margins that were told, and of the blames where they are asked for
+    pub row_lines-told : (blamed : Bool) (lent : Bor (List Blame)) → lent.now ≡ r.blames
+        → join_to (row_line_by load r.margins (then_some blamed lent)) load.rows
         ≡ join_to (row_line blamed load) load.rows
     unfolding row_line_of row_line
-    row_lines-told blamed =
-        join_to-ext (row_line_by blamed load r.margins r.blames) (row_line blamed load) load.rows
+    row_lines-told blamed lent same =
+        join_to-ext (row_line_by load r.margins (then_some blamed lent)) (row_line blamed load) load.rows
         (λ i l.
-        ap₂ (λ z b. row_line_of (shown i) (row_at load i) z (blame_words blamed b))
+        ap₂ (row_line_of (shown i) (row_at load i))
         (ap (λ ms. margin_in ms i) margins-told ∙ margin-read i l)
-        (ap (λ bs. get_or bs i nobody) blames-told ∙ blame-read i l))
-
--- the first line, of what was told
-pub first_line-told : (load : Load) (slots : List Slot) (count end b : ℕ) (v : Bool) → Scheduled load slots count
-    → end ≡ last_end (view_of load) (take count slots) → Told (view_of load) b v
-    → first_line_of load.rows count end b v ≡ load_line (view_of load) (schedule (view_of load))
-unfolding first_line_of load_line view_of
-first_line-told load slots count end b v s e told =
-    let L = view_of load in
-    ap (λ n. first_line_of load.rows n end b v) s.counted
-    ∙ ap (λ n. first_line_of load.rows (steps_in_all L) n b v) (e ∙ ap (last_end L) s.taken)
-    ∙ ap₂ (first_line_of load.rows (steps_in_all L) (last_end L (schedule L))) told.bound-is told.verdict-is
+        (asked-words blamed lent i
+        ∙ ap (blame_words blamed) (ap (λ bs. get_or bs i nobody) (same ∙ blames-told) ∙ blame-read i l)))

@@ -5,8 +5,8 @@ use mathlib.Core.List.{List}
 use mathlib.Core.Path.{◌≡◌, ap, sym, ◌∙◌}
 use native.Mathlib.Omega.{arith}
 use lib.ListN.{length, replicate, length-append}
-use Rattle.refusals.specs.declared.Checked.TheVariants.{Good}
-use Rattle.refusals.specs.declared.Written.{Written}
+use Rattle.std.specs.Prelude.{Result, Ok}
+use Rattle.refusals.specs.declared.Refusal.{Refusal}
 use Rattle.refusals.proofs.GivenLaws.{WritesOut-unique}
 use Rattle.lines.specs.declared.Text.{Text}
 use Rattle.lines.specs.Lines.{printed, printed_blamed}
@@ -33,10 +33,10 @@ text-length-le bs r e =
     ap (λ (t : Text). length t.bytes) e ∙ length-append bs (replicate (text_places - length bs) 0) in
     omega arith
 
-pub PrintLines-unique : (bs out : List ℕ) (r s : Written) (after later : List ℕ)
+pub PrintLines-unique : (bs out : List ℕ) (r s : Result ℕ Refusal) (after later : List ℕ)
     → PrintLines bs out r after → PrintLines bs out s later → (r ≡ s) × (after ≡ later)
-PrintLines-unique bs out = WritesOut-unique Good (printed bs) out
+PrintLines-unique bs out = WritesOut-unique (Ok tt) (printed bs) out
 
-pub PrintBlames-unique : (bs out : List ℕ) (r s : Written) (after later : List ℕ)
+pub PrintBlames-unique : (bs out : List ℕ) (r s : Result ℕ Refusal) (after later : List ℕ)
     → PrintBlames bs out r after → PrintBlames bs out s later → (r ≡ s) × (after ≡ later)
-PrintBlames-unique bs out = WritesOut-unique Good (printed_blamed bs) out
+PrintBlames-unique bs out = WritesOut-unique (Ok tt) (printed_blamed bs) out

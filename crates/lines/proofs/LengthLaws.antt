@@ -12,8 +12,8 @@ use Rattle.counting.specs.Lists.{join_to, join_in}
 use Rattle.words.specs.Decimal.{text, digit, decimal_to, decimal, signed_decimal}
 use Rattle.words.specs.LittleEndian.{Bytes}
 use Rattle.refusals.specs.declared.Refusal.{Refusal}
-use Rattle.refusals.specs.declared.Checked.{Checked}
-use Rattle.refusals.specs.declared.Checked.TheVariants.{Good, Refused}
+use Rattle.refusals.specs.declared.Refusal.{Refusal}
+use Rattle.std.specs.Prelude.{Result, Ok, Err}
 use Rattle.refusals.specs.Refusals.{number_of}
 use Rattle.load.specs.declared.Row.{Row}
 use Rattle.load.specs.declared.Load.{Load}
@@ -70,7 +70,7 @@ unfolding text
 yes_or_no-le true = omega arith
 yes_or_no-le false = omega arith
 
-pub first_line_of-le : (rows steps end bound : ℕ) (answer : Bool)
+first_line_of-le : (rows steps end bound : ℕ) (answer : Bool)
     → length (first_line_of rows steps end bound answer) ≤ first_most
 unfolding first_line_of spaced text
 first_line_of-le rows steps end bound answer =
@@ -111,32 +111,32 @@ unblamed-le row fields margin =
       signed_decimal-le margin,
     ))
 
-pub row_line_of-le : (row : ℕ) (fields : Row) (margin : ℤ) (blamed : Bool) (blame : Blame)
+row_line_of-le : (row : ℕ) (fields : Row) (margin : ℤ) (blamed : Bool) (blame : Blame)
     → length (row_line_of row fields margin (blame_words blamed blame)) ≤ row_most
 row_line_of-le row fields margin true blame = blamed-le row fields margin blame
 row_line_of-le row fields margin false blame = unblamed-le row fields margin
 
-pub slot_line-le : (slot : Slot) → length (slot_line slot) ≤ slot_most
+slot_line-le : (slot : Slot) → length (slot_line slot) ≤ slot_most
 unfolding slot_line spaced text
 slot_line-le slot =
     simp length-append
     (omega (arith, decimal-le slot.start, decimal-le slot.row, decimal-le slot.step))
 
-pub refused_line-le : (refusal : Refusal) → length (refused_line refusal) ≤ text_places
+refused_line-le : (refusal : Refusal) → length (refused_line refusal) ≤ text_places
 unfolding refused_line spaced text
 refused_line-le refusal = simp length-append (omega (arith, decimal-le (number_of refusal)))
 
-pub load_line-le : (L : View) (slots : List Slot) → length (load_line L slots) ≤ first_most
+load_line-le : (L : View) (slots : List Slot) → length (load_line L slots) ≤ first_most
 unfolding load_line
 load_line-le L slots = first_line_of-le L.rows (steps_in_all L) (last_end L slots) (bound L) (verdict L)
 
-pub row_line-le : (blamed : Bool) (load : Load) (i : ℕ) → length (row_line blamed load i) ≤ row_most
+row_line-le : (blamed : Bool) (load : Load) (i : ℕ) → length (row_line blamed load i) ≤ row_most
 unfolding row_line
 row_line-le blamed load i =
     row_line_of-le (shown i) (row_at load i) (margin (view_of load) i) blamed (row_blame (view_of load) i)
 
 -- a run of pieces, each of at most so many bytes
-pub join_to-le : (f : ℕ → List ℕ) (most n : ℕ) → ((i : ℕ) → length (f i) ≤ most) → length (join_to f n) ≤ most * n
+join_to-le : (f : ℕ → List ℕ) (most n : ℕ) → ((i : ℕ) → length (f i) ≤ most) → length (join_to f n) ≤ most * n
 unfolding join_to
 join_to-le f most zero h = omega arith
 join_to-le f most (suc n) h =
@@ -153,7 +153,7 @@ join_in-le f most (slot ∷ slots) h =
     let l = h slot in
     rw length-append (omega arith)
 
-load_lines-le : (blamed : Bool) (load : Load) → check_load load ≡ Good → length (load_lines blamed load) ≤ text_places
+load_lines-le : (blamed : Bool) (load : Load) → check_load load ≡ Ok tt → length (load_lines blamed load) ≤ text_places
 unfolding load_lines
 load_lines-le blamed load accepted =
     let few = accepted-few load (check-acceptable load accepted) in
@@ -165,11 +165,8 @@ load_lines-le blamed load accepted =
 
 -- for any bytes there is room enough
 pub printed_by-le : (blamed : Bool) (bs : List ℕ) → Bytes bs → length (printed_by blamed bs) ≤ text_places
-printed_by-le blamed bs bytes = go (read_load bs).answer refl
+printed_by-le blamed bs bytes = go (read_load bs) refl
   where
-    go : (c : Checked) → (read_load bs).answer ≡ c → length (printed_by blamed bs) ≤ text_places
-    go Good e =
-        let accepted = ReadLoad-accepted bs (read_load bs) refl bytes e in
-        rw (read-lines blamed bs (read_load bs) refl e) at (load_lines-le blamed (read_load bs).load accepted)
-    go (Refused refusal) e =
-        rw (read-refused blamed bs (read_load bs) refl refusal e) at (refused_line-le refusal)
+    go : (r : Result Load Refusal) → r ≡ read_load bs → length (printed_by blamed bs) ≤ text_places
+    go (Ok load) e = rw (read-lines blamed bs load e) at (load_lines-le blamed load (ReadLoad-accepted bs load e bytes))
+    go (Err refusal) e = rw (read-refused blamed bs refusal e) at (refused_line-le refusal)

@@ -3,9 +3,10 @@ use Prim.Native.Nat.{ℕ}
 use mathlib.Core.List.{List, [], ◌∷◌, ◌++◌, append_assoc, append-nil}
 use mathlib.Core.Path.{◌≡◌, refl, ap, sym, ◌∙◌}
 use Rattle.counting.specs.Lists.{join_in}
+use Rattle.lines.specs.declared.Text.{Text}
 use Rattle.lines.specs.Lines.{spaced}
-use Rattle.lines.specs.inner.Puts.{spaced_all, Put}
-use Rattle.lines.proofs.PutLaws.{put-more, put_same}
+use Rattle.lines.specs.inner.Puts.{spaced_all, Puts}
+use Rattle.lines.proofs.PutLaws.{puts-more, puts_same}
 
 spaced-more : (word : List ℕ) (others : List (List ℕ)) (next : List ℕ)
     → spaced word others ++ 32 ∷ next ≡ spaced word (others ++ next ∷ [])
@@ -26,20 +27,18 @@ spaced-all word others (next ∷ more) =
     ∙ ap (spaced word) (append_assoc others (next ∷ []) more)
 
 -- the first word alone
-pub first_word : {before text : List ℕ} {at place : ℕ} (word : List ℕ)
-    → Put before at word text place → Put before at (spaced word []) text place
+pub first_word : {old text : Text} (word : List ℕ) → Puts old word text → Puts old (spaced word []) text
 unfolding spaced
 first_word word p = p
 
 -- one word more
-pub next_word : {before text after : List ℕ} {at place last : ℕ} (word : List ℕ) (others : List (List ℕ))
-    (next : List ℕ)
-    → Put before at (spaced word others) text place → Put text place (32 ∷ next) after last
-    → Put before at (spaced word (others ++ next ∷ [])) after last
-next_word word others next p q = put_same (spaced-more word others next) (put-more p q)
+pub next_word : {old text new : Text} (word : List ℕ) (others : List (List ℕ)) (next : List ℕ)
+    → Puts old (spaced word others) text → Puts text (32 ∷ next) new
+    → Puts old (spaced word (others ++ next ∷ [])) new
+next_word word others next p q = puts_same (spaced-more word others next) (puts-more p q)
 
 -- some words more
-pub next-words : {before text after : List ℕ} {at place last : ℕ} (word : List ℕ) (others more : List (List ℕ))
-    → Put before at (spaced word others) text place → Put text place (spaced_all more) after last
-    → Put before at (spaced word (others ++ more)) after last
-next-words word others more p q = put_same (spaced-all word others more) (put-more p q)
+pub next-words : {old text new : Text} (word : List ℕ) (others more : List (List ℕ))
+    → Puts old (spaced word others) text → Puts text (spaced_all more) new
+    → Puts old (spaced word (others ++ more)) new
+next-words word others more p q = puts_same (spaced-all word others more) (puts-more p q)

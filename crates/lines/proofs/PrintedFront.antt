@@ -7,8 +7,9 @@ use mathlib.Core.Path.{◌≡◌, refl, ap, sym, ◌∙◌}
 use native.Mathlib.Omega.{arith}
 use lib.ListN.{length, take}
 use lib.Seq.{length-take-le, take_all}
-use Rattle.refusals.specs.declared.Checked.{Checked}
-use Rattle.refusals.specs.declared.Checked.TheVariants.{Good, Refused}
+use Rattle.std.specs.Prelude.{Result, Ok, Err}
+use Rattle.refusals.specs.declared.Refusal.{Refusal}
+use Rattle.load.specs.declared.Load.{Load}
 use Rattle.load_records.specs.Records.{most_file_bytes}
 use Rattle.load_file.specs.Reading.{read_load}
 use Rattle.load_file.proofs.front.FileFront.{read_load-front}
@@ -20,13 +21,11 @@ use Rattle.lines.proofs.PrintedLaws.{read-lines, read-refused}
 
 printed_by-same : (blamed : Bool) (bs cs : List ℕ) → read_load bs ≡ read_load cs
     → printed_by blamed bs ≡ printed_by blamed cs
-printed_by-same blamed bs cs same = go (read_load bs).answer refl
+printed_by-same blamed bs cs same = go (read_load bs) refl
   where
-    go : (c : Checked) → (read_load bs).answer ≡ c → printed_by blamed bs ≡ printed_by blamed cs
-    go Good e = sym (read-lines blamed bs (read_load bs) refl e) ∙ read-lines blamed cs (read_load bs) same e
-    go (Refused refusal) e =
-        sym (read-refused blamed bs (read_load bs) refl refusal e)
-        ∙ read-refused blamed cs (read_load bs) same refusal e
+    go : (r : Result Load Refusal) → r ≡ read_load bs → printed_by blamed bs ≡ printed_by blamed cs
+    go (Ok load) e = sym (read-lines blamed bs load e) ∙ read-lines blamed cs load (e ∙ same)
+    go (Err refusal) e = sym (read-refused blamed bs refusal e) ∙ read-refused blamed cs refusal (e ∙ same)
 
 -- one byte more than the longest file has is enough
 pub printed_by-front : (blamed : Bool) (bs : List ℕ)

@@ -1,49 +1,38 @@
--- What is printed for a file, by what it is refused for: the lines of its load, or the one line of its refusal. What
--- was put at the front of zeros is a text.
-use Prim.Native.Nat.{ℕ, ◌-◌, ◌≤◌}
+-- What is printed for a file, by what it is refused for: the lines of its load, or the one line of its refusal.
+use Prim.Native.Nat.{ℕ, ◌-◌}
 use mathlib.Core.Bool.{Bool}
 use mathlib.Core.List.{List}
-use mathlib.Core.Path.{◌≡◌, ap, ap₂, sym, ◌∙◌}
+use mathlib.Core.Path.{◌≡◌, ap, sym, ◌∙◌}
 use lib.ListN.{length, take, replicate}
-use lib.Seq.{sets, take-append_seam}
-use Rattle.words.proofs.OverwriteLaws.{sets-alone}
+use lib.Seq.{take-append_seam}
 use Rattle.refusals.specs.declared.Refusal.{Refusal}
-use Rattle.refusals.specs.declared.Checked.TheVariants.{Good, Refused}
-use Rattle.load_file.specs.declared.Reading.{Reading}
+use Rattle.std.specs.Prelude.{Ok, Err}
+use Rattle.load.specs.declared.Load.{Load}
 use Rattle.load_file.specs.Places.{load_in}
 use Rattle.load_file.specs.Reading.{file_fault}
 use Rattle.load_file.specs.Calls.{ReadLoad}
-use Rattle.load_file.proofs.CallLaws.{ReadLoad-answer, ReadLoad-load}
+use Rattle.load_file.proofs.CallLaws.{ReadLoad-good, ReadLoad-load, ReadLoad-refused}
 use Rattle.lines.specs.declared.Text.{Text}
 use Rattle.lines.specs.Lines.{load_lines, refused_line, printed_by}
 use Rattle.lines.specs.Calls.{text_places, text_holding}
 
 module _ (blamed : Bool) (bs : List ℕ) where
-  printed_by-good : file_fault bs ≡ Good → printed_by blamed bs ≡ load_lines blamed (load_in bs)
+  printed_by-good : file_fault bs ≡ Ok tt → printed_by blamed bs ≡ load_lines blamed (load_in bs)
   unfolding printed_by
   printed_by-good e = rw (e, printed_by)
 
-  pub printed_by-refused : (refusal : Refusal) → file_fault bs ≡ Refused refusal
+  printed_by-refused : (refusal : Refusal) → file_fault bs ≡ Err refusal
       → printed_by blamed bs ≡ refused_line refusal
   unfolding printed_by
   printed_by-refused refusal e = rw (e, printed_by)
 
   -- the same, by what its reading gives
-  module _ (r : Reading) (e : ReadLoad bs r) where
-    found : r.answer ≡ file_fault bs
-    found = ReadLoad-answer bs r e
+  pub read-lines : (load : Load) → ReadLoad bs (Ok load) → load_lines blamed load ≡ printed_by blamed bs
+  read-lines load e =
+      ap (load_lines blamed) (ReadLoad-load bs load e) ∙ sym (printed_by-good (ReadLoad-good bs load e))
 
-    pub read-lines : r.answer ≡ Good → load_lines blamed r.load ≡ printed_by blamed bs
-    read-lines good = ap (load_lines blamed) (ReadLoad-load bs r e good) ∙ sym (printed_by-good (sym found ∙ good))
-
-    pub read-refused : (refusal : Refusal) → r.answer ≡ Refused refusal → refused_line refusal ≡ printed_by blamed bs
-    read-refused refusal refused = sym (printed_by-refused refusal (sym found ∙ refused))
-
--- what was put at the front of zeros is a text, with its length
-pub text_holding-is : (bs after : List ℕ) (n : ℕ) → after ≡ sets (replicate text_places 0) 0 bs → n ≡ length bs
-    → length bs ≤ text_places → ◌≡◌ {A = Text} (record { length = n; bytes = after }) (text_holding bs)
-text_holding-is bs after n e size h =
-    ap₂ (λ l t. record { length = l; bytes = t }) size (e ∙ sets-alone text_places 0 bs h)
+  pub read-refused : (refusal : Refusal) → ReadLoad bs (Err refusal) → refused_line refusal ≡ printed_by blamed bs
+  read-refused refusal e = sym (printed_by-refused refusal (ReadLoad-refused bs refusal e))
 
 -- the bytes that a text counts are those that it holds
 pub text-taken : (bs : List ℕ) (t : Text) → t ≡ text_holding bs → take t.length t.bytes ≡ bs

@@ -1,16 +1,15 @@
--- Slots in places, the first of which are the schedule of an accepted load: each of them names a step of the load, the
--- last of them ends when the schedule does, and their lines are the schedule's.
-use Prim.Native.Nat.{ℕ, zero, suc, ◌-◌, ◌≤◌, ◌<◌}
-use mathlib.Core.List.{List, [], ◌∷◌, ◌++◌, append-nil}
-use mathlib.Core.Path.{◌≡◌, refl, ap, ap₂, sym, ◌∙◌}
+-- The slots that are the schedule of an accepted load: as many as the load has steps, at most 192, each of which names
+-- a step of the load, and the last of them ends when the schedule does.
+use Prim.Native.Nat.{ℕ, ◌-◌, ◌≤◌}
+use mathlib.Core.List.{List, [], ◌∷◌}
+use mathlib.Core.Path.{◌≡◌, refl, ap, sym, ◌∙◌}
 use native.Mathlib.Omega.{arith}
-use lib.ListN.{length, take}
-use lib.Seq.{take-suc, get_or-take}
-use Rattle.counting.specs.Lists.{join_to, join_in}
-use Rattle.counting.proofs.lists.ListLaws.{join_in-append}
+use lib.ListN.{length}
+use Rattle.std.specs.Prelude.{Some, None, slice_get}
+use Rattle.std.proofs.lemmas.Option.{slice_get_within, get_or_from_slice_get}
 use Rattle.load.specs.declared.Load.{Load}
 use Rattle.load.specs.Load.{most_rows}
-use Rattle.load.specs.View.{View, view_of}
+use Rattle.load.specs.View.{View, view_of, steps_in_all}
 use Rattle.load.specs.Acceptable.{Acceptable}
 use Rattle.load.proofs.AcceptableLaws.{check-acceptable}
 use Rattle.rules.specs.declared.Slot.{Slot}
@@ -18,47 +17,47 @@ use Rattle.rules.specs.Run.{schedule}
 use Rattle.rules.specs.Slots.{no_slot, slot_at, slot_end, last_end}
 use Rattle.rules.specs.ScheduleRules.{NamesStep}
 use Rattle.rules.proofs.invariant.RunnableLaws.{acceptable-runnable}
-use Rattle.rules.proofs.run.RunEnd.{last_end-last}
 use Rattle.rules.proofs.run.RunMade.{schedule-is-whole}
 use Rattle.rules.proofs.slots.WholeLaws.{Whole, names}
 use Rattle.bound.proofs.AcceptedLaws.{accepted-few}
+use Rattle.bench.proofs.running.RunsLaws.{schedule-counted, schedule-most}
 use Rattle.lines.specs.inner.Puts.{Scheduled}
 
-pub last_end-none : (L : View) (slots : List Slot) (n : ℕ) → n ≡ 0 → last_end L (take n slots) ≡ 0
+-- the end of the last slot, and where there is none
+pub last_end-at : (L : View) (slots : List Slot) (slot : Slot) → slice_get slots (length slots - 1) ≡ Some slot
+    → last_end L slots ≡ slot_end L slot
 unfolding last_end
-last_end-none L slots n e = ap (λ k. last_end L (take k slots)) e
+last_end-at L [] slot e = cc
+last_end-at L (a ∷ []) slot e = grind arith
+last_end-at L (a ∷ b ∷ rest) slot e = last_end-at L (b ∷ rest) slot (grind arith)
 
--- of so many slots, the last
-pub last_end-taken : (L : View) (slots : List Slot) (n : ℕ) → 0 < n → n ≤ length slots
-    → last_end L (take n slots) ≡ slot_end L (slot_at slots (n - 1))
-last_end-taken L slots n l h =
-    let e : n ≡ suc (n - 1) = omega arith in
-    ap (λ k. last_end L (take k slots)) e
-    ∙ ap (last_end L) (take-suc slots (n - 1) no_slot (omega arith))
-    ∙ last_end-last L (take (n - 1) slots) (slot_at slots (n - 1))
+pub last_end-none : (L : View) (slots : List Slot) → slice_get slots (length slots - 1) ≡ None → last_end L slots ≡ 0
+unfolding last_end
+last_end-none L [] e = refl
+last_end-none L (a ∷ []) e = grind arith
+last_end-none L (a ∷ b ∷ rest) e = last_end-none L (b ∷ rest) (grind arith)
 
--- what is made of the slots at the first places is made of the first slots
-pub join_in-taken : (f : Slot → List ℕ) (slots : List Slot) (n : ℕ) → n ≤ length slots
-    → join_to (λ k. f (slot_at slots k)) n ≡ join_in f (take n slots)
-unfolding join_to join_in
-join_in-taken f slots zero h = refl
-join_in-taken f slots (suc n) h =
-    ap₂ ◌++◌ (join_in-taken f slots n (omega arith)) (sym (append-nil (f (slot_at slots n))))
-    ∙ sym (join_in-append f (take n slots) (slot_at slots n ∷ []))
-    ∙ ap (join_in f) (sym (take-suc slots n no_slot (omega arith)))
-
-module _ (load : Load) (slots : List Slot) (count : ℕ) (s : Scheduled load slots count) where
-  acceptable : Acceptable (view_of load)
+module _ (load : Load) (slots : List Slot) (s : Scheduled load slots) where
+  pub acceptable : Acceptable (view_of load)
   acceptable = check-acceptable load s.accepted
 
   pub rows_few : load.rows ≤ most_rows
   rows_few = accepted-few load acceptable
 
+  pub scheduled-counted : length slots ≡ steps_in_all (view_of load)
+  scheduled-counted = ap length s.slots-are ∙ schedule-counted load s.accepted
+
+  pub scheduled-most : length slots ≤ 192
+  scheduled-most = omega (arith, ap length s.slots-are, schedule-most load s.accepted)
+
   whole : Whole (view_of load) (schedule (view_of load))
   whole = schedule-is-whole (view_of load) (acceptable-runnable (view_of load) acceptable)
 
-  pub scheduled-names : (k : ℕ) → k < count → NamesStep (view_of load) (slot_at slots k)
-  scheduled-names k l =
-      let same : slot_at (schedule (view_of load)) k ≡ slot_at slots k =
-      ap (λ taken. slot_at taken k) (sym s.taken) ∙ get_or-take count slots k no_slot l in
-      rw same at (names (view_of load) (schedule (view_of load)) whole k (omega (arith, whole.in_all, s.counted)))
+  -- the slot at a place, of those that are there, names a step
+  pub scheduled-names : (k : ℕ) (slot : Slot) → slice_get slots k ≡ Some slot → NamesStep (view_of load) slot
+  scheduled-names k slot e =
+      let there = slice_get_within slots k slot e in
+      let same : slot_at slots k ≡ slot = get_or_from_slice_get slots k slot no_slot e in
+      rw same at
+      (rw (sym s.slots-are) at
+      (names (view_of load) (schedule (view_of load)) whole k (omega (arith, ap length s.slots-are, whole.in_all))))

@@ -1,8 +1,7 @@
 -- What each public call's contract says: one relation a call, over what it takes, what it gives,
 -- and what the lent bytes hold afterwards. To be read after Lines. Rests on D45 and D85.
-use Rattle.std.specs.Prelude.{ℕ, ◌+◌, ◌-◌, ◌*◌, List, ◌++◌, ◌≡◌, length, replicate}
-use Rattle.refusals.specs.declared.Checked.TheVariants.{Good}
-use Rattle.refusals.specs.declared.Written.{Written}
+use Rattle.std.specs.Prelude.{ℕ, ◌+◌, ◌-◌, ◌*◌, List, ◌++◌, ◌≡◌, length, replicate, Result, Ok}
+use Rattle.refusals.specs.declared.Refusal.{Refusal}
 use Rattle.refusals.specs.Given.{WritesOut}
 use Rattle.load.specs.Load.{most_rows, most_steps}
 use Rattle.lines.specs.declared.Text.{Text}
@@ -39,12 +38,12 @@ TextOf bs r = r ≡ text_holding (printed bs)
 abbrev pub BlamedTextOf : List ℕ → Text → Type 0
 BlamedTextOf bs r = r ≡ text_holding (printed_blamed bs)
 
--- print_lines(bytes, out): 9 where the output is too short, length 0, and the output as it was; or
--- Good, the length of what the program prints for the file, and that at the output's front
-abbrev pub PrintLines : List ℕ → List ℕ → Written → List ℕ → Type 0
-PrintLines bs out r after = WritesOut Good (printed bs) out r after
+-- print_lines(bytes, out): 9 where the output is too short, and the output as it was; or the length
+-- of what the program prints for the file, and that at the output's front
+abbrev pub PrintLines : List ℕ → List ℕ → Result ℕ Refusal → List ℕ → Type 0
+PrintLines bs out r after = WritesOut (Ok tt) (printed bs) out r after
 
 -- print_blames(bytes, out): the same, with what is printed by the program that says whom to blame
 -- (2026-01)
-abbrev pub PrintBlames : List ℕ → List ℕ → Written → List ℕ → Type 0
-PrintBlames bs out r after = WritesOut Good (printed_blamed bs) out r after
+abbrev pub PrintBlames : List ℕ → List ℕ → Result ℕ Refusal → List ℕ → Type 0
+PrintBlames bs out r after = WritesOut (Ok tt) (printed_blamed bs) out r after

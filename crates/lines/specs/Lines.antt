@@ -1,12 +1,11 @@
 -- "The program": the lines that it prints for a load file, as bytes; and those of the program that
 -- says whom to blame (document 02, 2026-01): "A second program prints place and row at the end of
 -- each row line; the first prints as before." Rests on D24 and D85.
-use Rattle.std.specs.Prelude.{ℕ, Bool, true, false, cond, List, [], ◌∷◌, ◌++◌, ℤ}
+use Rattle.std.specs.Prelude.{ℕ, Bool, true, false, cond, List, [], ◌∷◌, ◌++◌, ℤ, Ok, Err}
 use Prim.Native.String.{String}
 use Rattle.counting.specs.Lists.{join_to, join_in}
 use Rattle.words.specs.Decimal.{text, decimal, signed_decimal}
 use Rattle.refusals.specs.declared.Refusal.{Refusal}
-use Rattle.refusals.specs.declared.Checked.TheVariants.{Good, Refused}
 use Rattle.refusals.specs.Refusals.{number_of}
 use Rattle.load.specs.declared.Row.{Row}
 use Rattle.load.specs.declared.Load.{Load}
@@ -88,8 +87,8 @@ refused_line refusal = line "refused" (decimal (number_of refusal) ∷ [])
 unfoldable pub printed_by : Bool → List ℕ → List ℕ
 printed_by blamed bs =
     elim (file_for_bench bs) [
-      | Good ↦ load_lines blamed (load_in bs)
-      | Refused refusal ↦ refused_line refusal
+      | (Ok tt) ↦ load_lines blamed (load_in bs)
+      | Err refusal ↦ refused_line refusal
     ]
 
 -- what the program prints for a file

@@ -7,7 +7,7 @@ mod gather;
 mod line;
 mod word;
 
-ghost use Rattle.std.specs.Prelude.{◌≡◌};
+ghost use Rattle.std.specs.Prelude.{◌≡◌, Ok};
 ghost use Rattle.refusals.specs.Given.{WritesOut};
 ghost use Rattle.lines.specs.Lines.{printed_by};
 ghost use Rattle.lines.specs.Calls.{
@@ -18,8 +18,7 @@ ghost use Rattle.lines.specs.Calls.{
   PrintBlames,
 };
 
-use gather::put_printed;
-use refusals::{Checked, Refusal, Written};
+use refusals::Refusal;
 use words::overwrite;
 
 // How many places a text has: a first line of at most 53 bytes, 24 row lines of at most 71, and 192
@@ -37,38 +36,30 @@ pub struct Text {
 fn text_by(bytes: &[u8], blamed: bool) -> Text
     ensures { result ≡ text_holding (printed_by blamed bytes.now) }
 {
-    let mut text = [0u8; TEXT_PLACES];
-    let length = put_printed(&mut text, bytes, blamed);
-    Text {
-        length,
-        bytes: text,
-    }
+    let mut text = Text {
+        length: 0,
+        bytes: [0; TEXT_PLACES],
+    };
+    text.put_printed(bytes, blamed);
+    text
 }
 
 // Writes what is printed for a load file at the output's front. Refuses an output that is shorter
 // (9), and then alters no byte. Bytes past what is printed stay.
-fn print_by(bytes: &[u8], blamed: bool, out: &mut [u8]) -> Written
-    ensures { WritesOut Checked.Good (printed_by blamed bytes.now)
-        out.old result out.new }
+fn print_by(bytes: &[u8], blamed: bool, out: &mut [u8]) -> Result<usize, Refusal>
+    ensures { WritesOut (Ok tt) (printed_by blamed bytes.now) out.old result out.new }
 {
     let text = text_by(bytes, blamed);
-    let length = text.length;
-    if out.len() < length {
-        return Written {
-            answer: Checked::Refused(Refusal::OutputShort),
-            length: 0,
-        };
+    if out.len() < text.length {
+        return Err(Refusal::OutputShort);
     }
-    let held = text.bytes;
-    overwrite(out, 0, &held[..length]);
-    Written {
-        answer: Checked::Good,
-        length,
-    }
+    overwrite(out, 0, &text.bytes[..text.length]);
+    Ok(text.length)
 }
 
 // Gives all that the program prints for a load file. It refuses nothing, as there is room for every
 // text.
+// docs/BELIEVE.md names it and the three calls below, so all stay: each is one line (D85).
 pub fn text_of(bytes: &[u8]) -> Text
     ensures { TextOf bytes.now result }
 {
@@ -85,7 +76,7 @@ pub fn blamed_text_of(bytes: &[u8]) -> Text
 
 // Writes what the program prints for a load file at the output's front. Refuses an output that is
 // shorter (9), and then alters no byte. Bytes past what is printed stay.
-pub fn print_lines(bytes: &[u8], out: &mut [u8]) -> Written
+pub fn print_lines(bytes: &[u8], out: &mut [u8]) -> Result<usize, Refusal>
     ensures { PrintLines bytes.now out.old result out.new }
 {
     print_by(bytes, false, out)
@@ -93,7 +84,7 @@ pub fn print_lines(bytes: &[u8], out: &mut [u8]) -> Written
 
 // Writes in the same way, with the same refusal (9), what is printed by the program that says whom
 // to blame.
-pub fn print_blames(bytes: &[u8], out: &mut [u8]) -> Written
+pub fn print_blames(bytes: &[u8], out: &mut [u8]) -> Result<usize, Refusal>
     ensures { PrintBlames bytes.now out.old result out.new }
 {
     print_by(bytes, true, out)

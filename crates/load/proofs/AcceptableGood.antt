@@ -8,7 +8,7 @@ use borrow.Author.Tests.{eqb-true, eq-eqb, le-ltb, lt-leb, ne_eqb}
 use lib.Dec.{eqb}
 use lib.ListN.{length, length-take}
 use Rattle.counting.proofs.tests.TestLaws.{false-any_to, true-all_from}
-use Rattle.refusals.specs.declared.Checked.TheVariants.{Good}
+use Rattle.std.specs.Prelude.{Ok}
 use Rattle.refusals.proofs.FirstMetLaws.{good-first_fault_to}
 use Rattle.load.specs.declared.Window.{Window}
 use Rattle.load.specs.declared.Load.{Load}
@@ -48,7 +48,7 @@ le-most_wait j steps n most last = go (eqb (shown j) steps) refl
 
 module _ (load : Load) (ok : Acceptable (view_of load)) (reg : Registered load) (placed : Placed load) where
   module _ (i : ℕ) (l : i < load.rows) where
-    fields-good : check_fields (row_at load i) ≡ Good
+    fields-good : check_fields (row_at load i) ≡ Ok tt
     unfolding row_tests view_of
     fields-good =
         rw (
@@ -72,7 +72,7 @@ module _ (load : Load) (ok : Acceptable (view_of load)) (reg : Registered load) 
               length-take (row_at load i).windows (row_at load i).window,
             )
 
-    taken-good : check_taken load i (row_at load i) ≡ Good
+    taken-good : check_taken load i (row_at load i) ≡ Ok tt
     unfolding taken_tests
     taken-good =
         rw (
@@ -80,7 +80,7 @@ module _ (load : Load) (ok : Acceptable (view_of load)) (reg : Registered load) 
           false-any_to _ i (λ k h. ne_eqb _ _ (reg.boxes-differ k i h l)),
         )
 
-    step-good : (j : ℕ) → j < (row_at load i).steps → check_step (row_at load i) j ≡ Good
+    step-good : (j : ℕ) → j < (row_at load i).steps → check_step (row_at load i) j ≡ Ok tt
     unfolding step_tests view_of
     step-good j h =
         rw (
@@ -101,7 +101,7 @@ module _ (load : Load) (ok : Acceptable (view_of load)) (reg : Registered load) 
         rw (window-is load i (suc p) (seen (suc p) h), window-is load i p (seen p (omega arith)))
         at (ok.ascending i (suc p) l (seen (suc p) h) p (omega arith))
 
-    window-good : (p : ℕ) → p < (row_at load i).windows → check_window (row_at load i) p ≡ Good
+    window-good : (p : ℕ) → p < (row_at load i).windows → check_window (row_at load i) p ≡ Ok tt
     unfolding window_tests view_of
     window-good p h =
         let w : Window = window_at (row_at load i) p in
@@ -119,7 +119,7 @@ module _ (load : Load) (ok : Acceptable (view_of load)) (reg : Registered load) 
           le-ltb _ _ (rw is at (ok.limit-chain i p l s)),
         )
 
-    row-good : row_fault load i (row_at load i) ≡ Good
+    row-good : row_fault load i (row_at load i) ≡ Ok tt
     unfolding row_fault check_parts
     row-good =
         rw (
@@ -131,7 +131,7 @@ module _ (load : Load) (ok : Acceptable (view_of load)) (reg : Registered load) 
           true-all_from (λ p. is_zero_window (window_at (row_at load i) p)) _ _ (λ p. placed.windows-unused i p l),
         )
 
-  pub acceptable-check : check_load load ≡ Good
+  pub acceptable-check : check_load load ≡ Ok tt
   unfolding check_load view_of
   acceptable-check =
       rw (

@@ -14,8 +14,8 @@ use lib.Seq.{get_or-take}
 use Rattle.counting.specs.Sums.{all_from}
 use Rattle.counting.proofs.tests.TestLaws.{any_to-false, all_from-true}
 use Rattle.refusals.specs.declared.Refusal.TheVariants.{OutOfRange}
-use Rattle.refusals.specs.declared.Checked.{Checked}
-use Rattle.refusals.specs.declared.Checked.TheVariants.{Good}
+use Rattle.refusals.specs.Checked.{Checked}
+use Rattle.std.specs.Prelude.{Ok}
 use Rattle.refusals.specs.FirstMet.{first_met, first_fault_to}
 use Rattle.refusals.proofs.FirstMetLaws.{first_met-good-first, first_fault_to-good}
 use Rattle.refusals.proofs.FirstFaultLaws.{test_at, finding_at, first_met-good, first_fault-good}
@@ -72,7 +72,7 @@ part_findings row =
     ∷ all_zero (zero_windows_from row row.windows)
     ∷ []
 
-pub all_zero-good : (zeros : Bool) → all_zero zeros ≡ Good → zeros ≡ true
+pub all_zero-good : (zeros : Bool) → all_zero zeros ≡ Ok tt → zeros ≡ true
 all_zero-good zeros e = not-false zeros (first_met-good-first _ [] e)
 
 -- what a wait may be is at most 3,600, and 0 at the last step
@@ -93,20 +93,20 @@ module _ (load : Load) (i p : ℕ) where
   unfolding view_of
   window-is h = get_or-take (row_at load i).windows (row_at load i).window p no_window (within h)
 
-module _ (load : Load) (e : check_load load ≡ Good) where
-  finding : (k : ℕ) → finding_at (load_findings load) k ≡ Good
+module _ (load : Load) (e : check_load load ≡ Ok tt) where
+  finding : (k : ℕ) → finding_at (load_findings load) k ≡ Ok tt
   unfolding check_load
   finding k = first_fault-good (load_findings load) e k
 
   module _ (i : ℕ) (l : i < load.rows) where
-    row-finding : (k : ℕ) → finding_at (row_findings load i (row_at load i)) k ≡ Good
+    row-finding : (k : ℕ) → finding_at (row_findings load i (row_at load i)) k ≡ Ok tt
     unfolding row_fault
     row-finding k =
         first_fault-good (row_findings load i (row_at load i))
         (first_fault_to-good (λ i. row_fault load i (row_at load i)) load.rows (finding 1) i l)
         k
 
-    part-finding : (k : ℕ) → finding_at (part_findings (row_at load i)) k ≡ Good
+    part-finding : (k : ℕ) → finding_at (part_findings (row_at load i)) k ≡ Ok tt
     unfolding check_parts
     part-finding k = first_fault-good (part_findings (row_at load i)) (row-finding 2) k
 

@@ -8,7 +8,7 @@ use lib.Dec.{ltb}
 use borrow.Author.Tests.{ltb-false, le-ltb}
 use Rattle.counting.specs.Sums.{all_from}
 use Rattle.counting.proofs.tests.TestLaws.{or_right}
-use Rattle.refusals.specs.declared.Checked.TheVariants.{Good}
+use Rattle.std.specs.Prelude.{Ok}
 use Rattle.refusals.proofs.FirstMetLaws.{first_met-good-first, first_fault_to-good, good-first_fault_to}
 use Rattle.refusals.proofs.FirstFaultLaws.{first_met-good, first_fault-good}
 use Rattle.load.specs.declared.Row.{Row}
@@ -30,20 +30,20 @@ use Rattle.load.specs.Check.{
 }
 use Rattle.load.proofs.AcceptableLaws.{all_zero-good}
 
-good-all_zero : (b : Bool) → b ≡ true → all_zero b ≡ Good
+good-all_zero : (b : Bool) → b ≡ true → all_zero b ≡ Ok tt
 good-all_zero b h = rw h
 
 -- what the check asks of the row at place i
 pub record RowGood (load : Load) (i : ℕ) (row : Row) : Type 0 where
-  pub fields-good : check_fields row ≡ Good
-  pub taken-good : check_taken load i row ≡ Good
-  pub each-step-good : (j : ℕ) → j < row.steps → check_step row j ≡ Good
+  pub fields-good : check_fields row ≡ Ok tt
+  pub taken-good : check_taken load i row ≡ Ok tt
+  pub each-step-good : (j : ℕ) → j < row.steps → check_step row j ≡ Ok tt
   pub steps-zero : zero_steps_from row row.steps ≡ true
-  pub each-window-good : (k : ℕ) → k < row.windows → check_window row k ≡ Good
+  pub each-window-good : (k : ℕ) → k < row.windows → check_window row k ≡ Ok tt
   pub windows-zero : zero_windows_from row row.windows ≡ true
 
 module _ (load : Load) (i : ℕ) (row : Row) where
-  pub row_fault-good : row_fault load i row ≡ Good → RowGood load i row
+  pub row_fault-good : row_fault load i row ≡ Ok tt → RowGood load i row
   unfolding row_fault check_parts
   row_fault-good h =
       let finding = first_fault-good (_ ∷ _ ∷ _ ∷ []) h in
@@ -57,7 +57,7 @@ module _ (load : Load) (i : ℕ) (row : Row) where
         windows-zero = all_zero-good (zero_windows_from row row.windows) (part 3);
       }
 
-  pub good-row_fault : RowGood load i row → row_fault load i row ≡ Good
+  pub good-row_fault : RowGood load i row → row_fault load i row ≡ Ok tt
   unfolding row_fault check_parts
   good-row_fault r =
       let steps = good-first_fault_to (check_step row) row.steps r.each-step-good in
@@ -73,7 +73,7 @@ pub record LoadGood (load : Load) : Type 0 where
   pub rows-zero : all_from (λ i. is_zero_row (row_at load i)) load.rows most_rows ≡ true
 
 module _ (load : Load) where
-  pub check_load-good : check_load load ≡ Good → LoadGood load
+  pub check_load-good : check_load load ≡ Ok tt → LoadGood load
   unfolding check_load
   check_load-good h =
       let finding = first_fault-good (_ ∷ _ ∷ _ ∷ []) h in
@@ -87,7 +87,7 @@ module _ (load : Load) where
         rows-zero = all_zero-good zeros (finding 2);
       }
 
-  pub good-check_load : LoadGood load → check_load load ≡ Good
+  pub good-check_load : LoadGood load → check_load load ≡ Ok tt
   unfolding check_load
   good-check_load g =
       let few = le-ltb most_rows load.rows g.few-rows in
@@ -99,7 +99,7 @@ module _ (load : Load) where
       rw (few, rows, no_rows)
 
 -- a row's own fields: so many steps and windows have places
-module _ (row : Row) (h : check_fields row ≡ Good) where
+module _ (row : Row) (h : check_fields row ≡ Ok tt) where
   pub fields-steps-le : row.steps ≤ most_steps
   unfolding row_tests
   fields-steps-le =

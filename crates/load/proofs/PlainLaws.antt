@@ -7,7 +7,7 @@ use mathlib.Core.Path.{◌≡◌}
 use lib.Dec.{eqb}
 use borrow.Author.Tests.{eqb-true, not-false}
 use Rattle.counting.proofs.tests.TestLaws.{or_left, or_right, any_to-false, false-any_to}
-use Rattle.refusals.specs.declared.Checked.TheVariants.{Good}
+use Rattle.std.specs.Prelude.{Ok}
 use Rattle.refusals.specs.FirstMet.{first_met}
 use Rattle.refusals.proofs.FirstFaultLaws.{first_met-good, first_fault-good}
 use Rattle.load.specs.declared.Row.{Row}
@@ -29,12 +29,12 @@ module _ (row : Row) where
 
 -- what the check of a plain load asks
 pub record PlainGood (load : Load) : Type 0 where
-  pub load-good : check_load load ≡ Good
+  pub load-good : check_load load ≡ Ok tt
   pub class-zero : (i : ℕ) → i < load.rows → (row_at load i).class ≡ 0
   pub head-one : (i : ℕ) → i < load.rows → (row_at load i).head ≡ only_head
 
 module _ (load : Load) where
-  pub check_plain-good : check_plain load ≡ Good → PlainGood load
+  pub check_plain-good : check_plain load ≡ Ok tt → PlainGood load
   unfolding check_plain
   check_plain-good e =
       let finding = first_fault-good (check_load load ∷ first_met (carried_tests load) ∷ []) e in
@@ -46,7 +46,7 @@ module _ (load : Load) where
         head-one = λ i l. not_plain-head (row_at load i) (each i l);
       }
 
-  pub good-check_plain : PlainGood load → check_plain load ≡ Good
+  pub good-check_plain : PlainGood load → check_plain load ≡ Ok tt
   unfolding check_plain
   good-check_plain g =
       let none =

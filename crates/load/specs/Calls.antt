@@ -2,7 +2,7 @@
 -- To be read after Check.
 use Rattle.std.specs.Prelude.{ℕ, min, Bool, cond, List, ◌≡◌, eqb, ltb, get_or}
 use Rattle.counting.specs.Sums.{any_to}
-use Rattle.refusals.specs.declared.Checked.{Checked}
+use Rattle.refusals.specs.Checked.{Checked}
 use Rattle.refusals.specs.FirstMet.{first_met}
 use Rattle.load.specs.declared.Identifier.{Identifier}
 use Rattle.load.specs.declared.BoxNumber.{BoxNumber}

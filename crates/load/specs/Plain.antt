@@ -5,7 +5,7 @@ use Rattle.std.specs.Prelude.{Bool, ◌||◌, not, List, [], ◌∷◌, eqb}
 use Rattle.counting.specs.Sums.{any_to}
 use Rattle.refusals.specs.declared.Refusal.{Refusal}
 use Rattle.refusals.specs.declared.Refusal.TheVariants.{NotCarried}
-use Rattle.refusals.specs.declared.Checked.{Checked}
+use Rattle.refusals.specs.Checked.{Checked}
 use Rattle.refusals.specs.FirstMet.{first_met, first_fault}
 use Rattle.load.specs.declared.Row.{Row}
 use Rattle.load.specs.declared.Load.{Load}

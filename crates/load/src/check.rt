@@ -1,150 +1,96 @@
 // The check of a load in memory: the row count, the rows in their order, then the unused rows. The
 // first refusal that is met is the one that is given.
-ghost use Rattle.std.specs.Prelude.{◌≡◌, ℕ, ◌≤◌};
+ghost use Rattle.std.specs.Prelude.{◌≡◌, ◌≤◌, ◌<◌};
 ghost use Rattle.refusals.specs.FirstMet.{first_fault_to};
-ghost use Rattle.load.specs.declared.Load.{Load};
 ghost use Rattle.load.specs.Load.{most_rows, row_at};
-ghost use Rattle.load.specs.Faults.{identifier_taken, box_taken};
 ghost use Rattle.load.specs.Check.{check_step, check_window, row_fault};
 ghost use Rattle.load.specs.Calls.{CheckLoad, CheckParts};
 
 use crate::faults::{check_fields, check_step_at, check_window_at};
 use crate::ranges::MOST_ROWS;
-use crate::taken::{box_taken, identifier_taken};
 use crate::zeros::{zero_rows_from, zero_steps_from, zero_windows_from};
-use crate::{BoxNumber, Identifier, Load, Row};
-use refusals::{Checked, Refusal};
+use crate::{Load, Row};
+use refusals::Refusal;
 
 // Checks the used steps of a row.
-fn check_steps(row: Row) -> Checked
+fn check_steps(row: Row) -> Result<(), Refusal>
     ensures { result ≡ first_fault_to (check_step row) row.steps }
 {
-    let steps = row.steps as usize;
-    for j in 0..steps {
-        let found = check_step_at(row, j);
-        match found {
-            Checked::Good => {}
-            Checked::Refused(refusal) => {
-                return Checked::Refused(refusal);
-            }
-        }
+    for j in 0..row.steps as usize {
+        check_step_at(row, j)?;
     }
-    Checked::Good
+    Ok(())
 }
 
 // Checks the used windows of a row.
-fn check_windows(row: Row) -> Checked
+fn check_windows(row: Row) -> Result<(), Refusal>
     ensures { result ≡ first_fault_to (check_window row) row.windows }
 {
-    let windows = row.windows as usize;
-    for k in 0..windows {
-        let found = check_window_at(row, k);
-        match found {
-            Checked::Good => {}
-            Checked::Refused(refusal) => {
-                return Checked::Refused(refusal);
-            }
-        }
+    for k in 0..row.windows as usize {
+        check_window_at(row, k)?;
     }
-    Checked::Good
+    Ok(())
 }
 
 // Checks the parts of a row, whatever its own fields hold: its steps, their unused places, its
 // windows, and their unused places. A step or a window that is counted past the last place is 3.
-pub fn check_parts(row: Row) -> Checked
+#[tactic(auto, unfolding(crate::specs::Check::check_parts))]
+pub fn check_parts(row: Row) -> Result<(), Refusal>
     ensures { CheckParts row result }
 {
-    let steps = check_steps(row);
-    match steps {
-        Checked::Good => {}
-        Checked::Refused(refusal) => {
-            return Checked::Refused(refusal);
-        }
-    }
+    check_steps(row)?;
     if !zero_steps_from(row, row.steps as usize) {
-        return Checked::Refused(Refusal::OutOfRange);
+        return Err(Refusal::OutOfRange);
     }
-    let windows = check_windows(row);
-    match windows {
-        Checked::Good => {}
-        Checked::Refused(refusal) => {
-            return Checked::Refused(refusal);
-        }
-    }
+    check_windows(row)?;
     if !zero_windows_from(row, row.windows as usize) {
-        return Checked::Refused(Refusal::OutOfRange);
+        return Err(Refusal::OutOfRange);
     }
-    Checked::Good
+    Ok(())
 }
 
-// Checks a row: its own fields, what it shares with an earlier row, and its parts. The caller says
-// whether its identifier and its box stand in an earlier row.
-fn check_row(row: Row, identifier_is_taken: bool, box_is_taken: bool) -> Checked
-    ensures { (load : Load) (i : ℕ)
-        → identifier_is_taken ≡ identifier_taken load i row.identifier
-        → box_is_taken ≡ box_taken load i row.box_number
-        → result ≡ row_fault load i row }
+// Checks the row at a place: its own fields, what it shares with an earlier row, and its parts.
+fn check_row(load: &Load, i: usize) -> Result<(), Refusal>
+    requires { i < most_rows }
+    ensures { result ≡ row_fault load.now i (row_at load.now i) }
 {
-    let fields = check_fields(row);
-    match fields {
-        Checked::Good => {}
-        Checked::Refused(refusal) => {
-            return Checked::Refused(refusal);
-        }
+    let row = load.row[i];
+    let earlier = &load.row[..i];
+    check_fields(row)?;
+    if earlier.iter().any(|held| held.identifier == row.identifier) {
+        return Err(Refusal::IdentifierTaken);
     }
-    if identifier_is_taken {
-        return Checked::Refused(Refusal::IdentifierTaken);
-    }
-    if box_is_taken {
-        return Checked::Refused(Refusal::BoxTaken);
+    if earlier.iter().any(|held| held.box_number == row.box_number) {
+        return Err(Refusal::BoxTaken);
     }
     check_parts(row)
 }
 
 // Checks the used rows of a load, of which there are at most 24.
-fn check_rows(load: Load) -> Checked
-    requires { load.rows ≤ most_rows }
-    ensures { result ≡ first_fault_to (λ i. row_fault load i (row_at load i)) load.rows }
+fn check_rows(load: &Load) -> Result<(), Refusal>
+    requires { load.now.rows ≤ most_rows }
+    ensures { result
+        ≡ first_fault_to (λ i. row_fault load.now i (row_at load.now i)) load.now.rows }
 {
-    let rows = load.rows as usize;
-    let mut identifiers = [Identifier(0); MOST_ROWS];
-    let mut boxes = [BoxNumber(0); MOST_ROWS];
-    for i in 0..rows {
-        let row = load.row[i];
-        let identifier = row.identifier;
-        let box_number = row.box_number;
-        let identifier_is_taken = identifier_taken(identifiers, i, identifier);
-        let box_is_taken = box_taken(boxes, i, box_number);
-        let found = check_row(row, identifier_is_taken, box_is_taken);
-        match found {
-            Checked::Good => {}
-            Checked::Refused(refusal) => {
-                return Checked::Refused(refusal);
-            }
-        }
-        identifiers[i] = identifier;
-        boxes[i] = box_number;
+    // Counted, as check_row goes by the place: the rows before it are asked too.
+    for i in 0..load.rows as usize {
+        check_row(load, i)?;
     }
-    Checked::Good
+    Ok(())
 }
 
 // Checks a load; refuses with the first of its own numbers that is met.
-pub fn check_load(load: Load) -> Checked
+#[tactic(auto, unfolding(crate::specs::Check::check_load))]
+pub fn check_load(load: Load) -> Result<(), Refusal>
     ensures { CheckLoad load result }
 {
     let rows = load.rows as usize;
     if MOST_ROWS < rows {
-        return Checked::Refused(Refusal::OutOfRange);
+        return Err(Refusal::OutOfRange);
     }
-    let found = check_rows(load);
-    match found {
-        Checked::Good => {}
-        Checked::Refused(refusal) => {
-            return Checked::Refused(refusal);
-        }
+    check_rows(&load)?;
+    if !zero_rows_from(&load, rows) {
+        return Err(Refusal::OutOfRange);
     }
-    if !zero_rows_from(load, rows) {
-        return Checked::Refused(Refusal::OutOfRange);
-    }
-    Checked::Good
+    Ok(())
 }

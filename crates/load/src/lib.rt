@@ -24,22 +24,22 @@ pub use taken::{box_taken, identifier_taken};
 pub use windows::embedded_at;
 
 // A logger's identifier, 1 to 4,294,967,295; the last is the factory's, and no row may have it.
-#[derive(Clone, Copy)]
+#[derive(Clone, Copy, Debug, Default, PartialEq, Eq)]
 pub struct Identifier(pub u32);
 
 // A box's number, 1 to 4,294,967,295.
-#[derive(Clone, Copy)]
+#[derive(Clone, Copy, Debug, Default, PartialEq, Eq)]
 pub struct BoxNumber(pub u32);
 
 // A step: its cost, and the wait that follows it.
-#[derive(Clone, Copy)]
+#[derive(Clone, Copy, Debug, Default, PartialEq, Eq)]
 pub struct Step {
     pub cost: u16,
     pub wait: u16,
 }
 
 // A window: its first and last step, counted from 1, and its limit.
-#[derive(Clone, Copy)]
+#[derive(Clone, Copy, Debug, Default, PartialEq, Eq)]
 pub struct Window {
     pub first: u8,
     pub last: u8,
@@ -48,7 +48,8 @@ pub struct Window {
 
 // A row: `steps` of the places of `step` are used, and `windows` of those of `window`; the others
 // are zero. Higher classes go first among equals; the head is 1 for now.
-#[derive(Clone, Copy)]
+// Arrays with their counts, as the crate has no heap, and a row is handed on by value.
+#[derive(Clone, Copy, Debug, Default, PartialEq, Eq)]
 pub struct Row {
     pub identifier: Identifier,
     pub box_number: BoxNumber,
@@ -64,7 +65,8 @@ pub struct Row {
 
 // A load: `rows` of the places of `row` are used; the others are zero. The places stand first, as a
 // gap before them would have them copied once more where a file is read.
-#[derive(Clone, Copy)]
+// An array with its count, as the crate has no heap, and a load is handed on by value.
+#[derive(Clone, Copy, Debug, PartialEq, Eq)]
 pub struct Load {
     pub row: [Row; MOST_ROWS],
     pub rows: u8,

@@ -9,16 +9,13 @@ ghost use Rattle.load.specs.Calls.{CheckPlain};
 use crate::check::check_load;
 use crate::ranges::ONLY_HEAD;
 use crate::{Load, Row};
-use refusals::{Checked, Refusal};
+use refusals::Refusal;
 
 // Says whether a row has a class that is not 0 or a head that is not 1.
 fn is_not_plain(row: Row) -> bool
     ensures { result ≡ not_plain row }
 {
-    if row.class != 0 {
-        return true;
-    }
-    row.head != ONLY_HEAD
+    row.class != 0 || row.head != ONLY_HEAD
 }
 
 // Says whether some row of a load, of at most 24, has one.
@@ -26,29 +23,19 @@ fn any_not_plain(load: Load) -> bool
     requires { load.rows ≤ most_rows }
     ensures { result ≡ any_to (λ i. not_plain (row_at load i)) load.rows }
 {
-    let rows = load.rows as usize;
-    for i in 0..rows {
-        let row = load.row[i];
-        if is_not_plain(row) {
-            return true;
-        }
-    }
-    false
+    let mut rows = load.row.iter().take(load.rows as usize);
+    rows.any(|row| is_not_plain(*row))
 }
 
 // Checks a load that is to be written as version 1 or as a sheet: refuses with the first of its own
 // numbers that is met, and then with 22.
-pub fn check_plain(load: Load) -> Checked
+#[tactic(auto, unfolding(crate::specs::Plain::check_plain))]
+pub fn check_plain(load: Load) -> Result<(), Refusal>
     ensures { CheckPlain load result }
 {
-    match check_load(load) {
-        Checked::Good => {}
-        Checked::Refused(refusal) => {
-            return Checked::Refused(refusal);
-        }
-    }
+    check_load(load)?;
     if any_not_plain(load) {
-        return Checked::Refused(Refusal::NotCarried);
+        return Err(Refusal::NotCarried);
     }
-    Checked::Good
+    Ok(())
 }

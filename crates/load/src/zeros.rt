@@ -11,108 +11,63 @@ ghost use Rattle.load.specs.Check.{
   is_zero_row,
 };
 
-use crate::ranges::{MOST_ROWS, MOST_STEPS, MOST_WINDOWS};
-use crate::{Load, Row, Step, Window};
+use crate::{BoxNumber, Identifier, Load, Row, Step, Window};
 
 // Says whether a step is one of zeros.
 fn is_zero_step(step: Step) -> bool
     ensures { result ≡ is_zero_step step }
 {
-    if step.cost != 0 {
-        return false;
-    }
-    step.wait == 0
+    step == Step::default()
 }
 
 // Says whether a window is one of zeros.
 fn is_zero_window(window: Window) -> bool
     ensures { result ≡ is_zero_window window }
 {
-    if window.first != 0 {
-        return false;
-    }
-    if window.last != 0 {
-        return false;
-    }
-    window.limit == 0
+    window == Window::default()
 }
 
 // Says whether the fields of a row beside its steps and windows are zeros.
 fn zero_fields(row: Row) -> bool
     ensures { result ≡ zero_fields row }
 {
-    if row.identifier.0 != 0 {
-        return false;
-    }
-    if row.box_number.0 != 0 {
-        return false;
-    }
-    if row.phase != 0 {
-        return false;
-    }
-    if row.deadline != 0 {
-        return false;
-    }
-    if row.steps != 0 {
-        return false;
-    }
-    if row.windows != 0 {
-        return false;
-    }
-    if row.class != 0 {
-        return false;
-    }
-    row.head == 0
+    row.identifier == Identifier::default()
+        && row.box_number == BoxNumber::default()
+        && row.phase == 0
+        && row.deadline == 0
+        && row.steps == 0
+        && row.windows == 0
+        && row.class == 0
+        && row.head == 0
 }
 
 // Says whether the steps of a row from place a on are zeros.
 pub fn zero_steps_from(row: Row, a: usize) -> bool
     ensures { result ≡ zero_steps_from row a }
 {
-    for j in a..MOST_STEPS {
-        let step = row.step[j];
-        if !is_zero_step(step) {
-            return false;
-        }
-    }
-    true
+    row.step.iter().skip(a).all(|step| is_zero_step(*step))
 }
 
 // Says whether the windows of a row from place a on are zeros.
 pub fn zero_windows_from(row: Row, a: usize) -> bool
     ensures { result ≡ zero_windows_from row a }
 {
-    for k in a..MOST_WINDOWS {
-        let window = row.window[k];
-        if !is_zero_window(window) {
-            return false;
-        }
-    }
-    true
+    row.window
+        .iter()
+        .skip(a)
+        .all(|window| is_zero_window(*window))
 }
 
 // Says whether a row is one of zeros.
 fn is_zero_row(row: Row) -> bool
     ensures { result ≡ is_zero_row row }
 {
-    if !zero_fields(row) {
-        return false;
-    }
-    if !zero_steps_from(row, 0) {
-        return false;
-    }
-    zero_windows_from(row, 0)
+    zero_fields(row) && zero_steps_from(row, 0) && zero_windows_from(row, 0)
 }
 
 // Says whether the rows of a load from place a on are rows of zeros.
-pub fn zero_rows_from(load: Load, a: usize) -> bool
-    ensures { result ≡ all_from (λ i. is_zero_row (row_at load i)) a most_rows }
+pub fn zero_rows_from(load: &Load, a: usize) -> bool
+    ensures { result ≡ all_from (λ i. is_zero_row (row_at load.now i)) a most_rows }
 {
-    for i in a..MOST_ROWS {
-        let row = load.row[i];
-        if !is_zero_row(row) {
-            return false;
-        }
-    }
-    true
+    load.row.iter().skip(a).all(|row| is_zero_row(*row))
 }

@@ -3,3 +3,4 @@ pub mod RecordLaws
 pub mod FieldLaws
 pub mod PlaceLaws
 pub mod ByteLaws
+pub mod SliceLaws

@@ -3,14 +3,16 @@
 -- versions stay under 2" (2026-05). To be read after Places. Rests on D1 to D8, D25, D29, D91 and
 -- D92.
 use Rattle.std.specs.Prelude.{ℕ, ◌+◌, Bool, not, List, [], ◌∷◌, ◌++◌, eqb, ltb, length}
+use Rattle.std.specs.Prelude.{Result}
 use Rattle.words.specs.LittleEndian.{byte_at, number_at}
 use Rattle.refusals.specs.declared.Refusal.{Refusal}
 use Rattle.refusals.specs.declared.Refusal.TheVariants.{FileShort, MarkDiffers}
 use Rattle.refusals.specs.declared.Refusal.TheVariants.{OutOfRange, EndDiffers}
-use Rattle.refusals.specs.declared.Checked.{Checked}
+use Rattle.refusals.specs.Checked.{Checked}
 use Rattle.refusals.specs.FirstMet.{first_met, first_fault, first_fault_to}
-use Rattle.refusals.specs.Given.{if_good}
-use Rattle.load.specs.Load.{most_rows, zero_load}
+use Rattle.refusals.specs.Given.{given}
+use Rattle.load.specs.declared.Load.{Load}
+use Rattle.load.specs.Load.{most_rows}
 use Rattle.load.specs.View.{view_of, steps_in_all}
 use Rattle.load.specs.Faults.{row_tests, taken_tests, step_tests, window_tests}
 use Rattle.load_records.specs.Records.{
@@ -22,7 +24,6 @@ use Rattle.load_records.specs.Records.{
   window_kind,
   end_kind,
 }
-use Rattle.load_file.specs.declared.Reading.{Reading}
 use Rattle.load_file.specs.Places.{
   version_said,
   steps_said,
@@ -108,10 +109,6 @@ file_fault bs =
 abbrev pub file_for_bench : List ℕ → Checked
 file_for_bench bs = file_fault bs
 
--- what reading a file gives: a refused reading gives the all-zero load
-unfoldable pub read_load : List ℕ → Reading
-read_load bs = record {
-  answer = file_fault bs;
-  load =
-      if_good (file_fault bs) (load_in bs) zero_load;
-}
+-- what reading a file gives: its load, and where it is refused the refusal alone
+unfoldable pub read_load : List ℕ → Result Load Refusal
+read_load bs = given (file_fault bs) (load_in bs)

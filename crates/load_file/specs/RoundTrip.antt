@@ -1,9 +1,9 @@
 -- Demand 2 for load files: an accepted file reads to exactly one load, that load is written back to
 -- the same bytes, and a written load reads back as itself; in the version that the bytes name
 -- (2026-05). To be read after Writing and Reading. Rests on D92.
-use Rattle.std.specs.Prelude.{ℕ, ◌^◌, ◌<◌, true, List, ◌≡◌, length}
+use Rattle.std.specs.Prelude.{ℕ, ◌^◌, ◌<◌, true, List, ◌≡◌, length, Result, Ok}
 use Rattle.words.specs.LittleEndian.{Bytes}
-use Rattle.refusals.specs.declared.Checked.TheVariants.{Good}
+use Rattle.refusals.specs.declared.Refusal.{Refusal}
 use Rattle.load.specs.declared.Step.{Step}
 use Rattle.load.specs.declared.Window.{Window}
 use Rattle.load.specs.declared.Row.{Row}
@@ -11,9 +11,8 @@ use Rattle.load.specs.declared.Load.{Load}
 use Rattle.load.specs.Load.{most_rows, most_steps, most_windows, row_at, step_at, window_at}
 use Rattle.load_records.specs.Records.{is_version}
 use Rattle.load_records.specs.Writing.{load_bytes, write_fault}
-use Rattle.load_file.specs.declared.Reading.{Reading}
-use Rattle.load_file.specs.Places.{version_said}
-use Rattle.load_file.specs.Reading.{read_load}
+use Rattle.load_file.specs.Places.{version_said, load_in}
+use Rattle.load_file.specs.Reading.{file_fault, read_load}
 
 -- a step as it is held in memory: what its type alone says
 pub record HeldStep (s : Step) : Type 0 where
@@ -48,8 +47,8 @@ pub record Held (load : Load) : Type 0 where
   pub each_row : (i : ℕ) → i < most_rows → HeldRow (row_at load i)
 
 -- what a reading gives that refuses nothing
-abbrev pub accepted : Load → Reading
-accepted load = record { answer = Good; load = load }
+abbrev pub accepted : Load → Result Load Refusal
+accepted load = Ok load
 
 -- bytes that are an accepted file, and the load that they read to
 pub record AcceptedFile (bs : List ℕ) (load : Load) : Type 0 where
@@ -60,7 +59,7 @@ pub record AcceptedFile (bs : List ℕ) (load : Load) : Type 0 where
 -- are its file
 pub record WrittenLoad (v : ℕ) (load : Load) (bs : List ℕ) : Type 0 where
   pub held : Held load
-  pub good : write_fault v load ≡ Good
+  pub good : write_fault v load ≡ Ok tt
   pub file : bs ≡ load_bytes v load
 
 -- "A move from version 1 to version 2 and back gives the same bytes": the load of a file, written
@@ -73,8 +72,7 @@ pub record ThereAndBack (bs : List ℕ) (load : Load) : Type 0 where
 -- as the bytes
 pub record RoundTrip : Type 0 where
   -- a file that is not refused reads to a load
-  pub some-load : (bs : List ℕ) → Bytes bs → (read_load bs).answer ≡ Good
-      → AcceptedFile bs (read_load bs).load
+  pub some-load : (bs : List ℕ) → Bytes bs → file_fault bs ≡ Ok tt → AcceptedFile bs (load_in bs)
   -- and to no other
   pub one-load : (bs : List ℕ) (load other : Load)
       → AcceptedFile bs load → AcceptedFile bs other → load ≡ other

@@ -2,26 +2,31 @@
 -- document's, taken by hand, and were asked of the second program too. To be read after Calls, and
 -- after load_records' WorkedFile. Rests on D1, D6 to D8, D25 and D29.
 use Rattle.std.specs.Prelude.{ℕ, List, [], ◌∷◌, ◌++◌, map, ◌≡◌, replicate, take, drop}
+use Rattle.std.specs.Prelude.{Result, Ok, Err}
+use Rattle.refusals.specs.declared.Refusal.{Refusal}
 use Rattle.refusals.specs.declared.Refusal.TheVariants.{EndDiffers}
-use Rattle.refusals.specs.declared.Checked.TheVariants.{Good, Refused}
-use Rattle.refusals.specs.Refusals.{number_given}
-use Rattle.load.specs.Load.{zero_load}
+use Rattle.refusals.specs.Refusals.{number_of}
+use Rattle.load.specs.declared.Load.{Load}
 use Rattle.load_records.specs.WorkedFile.{joined, header, header2, row, steps}
 use Rattle.load_records.specs.WorkedFile.{windows, end, file, spelled}
 use Rattle.load_file.specs.Reading.{read_load}
 use Rattle.load_file.specs.Calls.{ReadLoad}
 
+-- the number of what a reading gives: 0 for a load
+abbrev pub number_read : Result Load Refusal → ℕ
+number_read (Ok load) = 0
+number_read (Err refusal) = number_of refusal
+
 -- the numbers that files are refused with, and 0 for one that is accepted
 unfoldable pub numbers_read : List (List (List ℕ)) → List ℕ
-numbers_read files = map (λ parts. number_given (read_load (joined parts)).answer) files
+numbers_read files = map (λ parts. number_read (read_load (joined parts))) files
 
 -- files, by their numbers and by the load that is read
 pub record WorkedCases : Type 0 where
   -- a file of one row is read as its load
-  pub read : ReadLoad (joined file) (record { answer = Good; load = spelled })
-  -- a refused file gives the load of zeros
-  pub refused :
-      ReadLoad (joined file ++ 0 ∷ []) (record { answer = Refused EndDiffers; load = zero_load })
+  pub read : ReadLoad (joined file) (Ok spelled)
+  -- a refused file gives the refusal alone
+  pub refused : ReadLoad (joined file ++ 0 ∷ []) (Err EndDiffers)
   -- the file ends: no byte, a header cut, a header alone, a row cut, a row with no step, a step
   -- cut, a window cut, no end record, an end record cut
   pub ends-early :

@@ -1,8 +1,7 @@
 -- "Version 2 of the load file carries class and head, one byte each, after the row's window count",
 -- worked: what reading small files of version 2 gives. The answers are the request's, taken by hand
 -- and from the second program. To be read after WorkedCases. Rests on D92.
-use Rattle.std.specs.Prelude.{[], ◌∷◌, ◌++◌, ◌≡◌, replicate, take, drop}
-use Rattle.refusals.specs.declared.Checked.TheVariants.{Good}
+use Rattle.std.specs.Prelude.{[], ◌∷◌, ◌++◌, ◌≡◌, replicate, take, drop, Ok}
 use Rattle.load_records.specs.WorkedFile.{
   joined,
   header,
@@ -22,8 +21,8 @@ use Rattle.load_file.specs.WorkedCases.{numbers_read}
 -- files of version 2
 pub record WorkedVersions : Type 0 where
   -- a file of one row is read as its load, with class 3 and with class 0; the empty file too
-  pub read : ReadLoad (joined (file2 3 1)) (record { answer = Good; load = spelled2 3 1 })
-  pub read_plain : ReadLoad (joined (file2 0 1)) (record { answer = Good; load = spelled2 0 1 })
+  pub read : ReadLoad (joined (file2 3 1)) (Ok (spelled2 3 1))
+  pub read_plain : ReadLoad (joined (file2 0 1)) (Ok (spelled2 0 1))
   pub empty : numbers_read ((header2 0 ∷ end 0 ∷ []) ∷ []) ≡ 0 ∷ []
   -- class 4 and 255, head 0, 2 and 255
   pub ranges :

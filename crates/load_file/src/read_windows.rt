@@ -1,8 +1,8 @@
 // The windows of a row of a load file, as they are read: each record is checked that it is due,
 // then the window is asked and kept.
 ghost use Rattle.std.specs.Prelude.{◌++◌, ◌≡◌, ◌≤◌};
-ghost use Rattle.refusals.specs.declared.Checked.TheVariants.{Good};
 ghost use Rattle.refusals.specs.FirstMet.{first_met};
+ghost use Rattle.refusals.specs.Given.{given};
 ghost use Rattle.load.specs.Load.{most_windows};
 ghost use Rattle.load.specs.Faults.{window_numbers};
 ghost use Rattle.load_records.specs.Records.{window_kind};
@@ -13,54 +13,43 @@ ghost use Rattle.load_file.specs.inner.ReadingSteps.{windows_from, with_steps};
 use crate::read_parts::{check_due, window_in};
 use load::{MOST_WINDOWS, Row, Window};
 use load_records::{WINDOW_MARK, WINDOW_SIZE};
-use refusals::Checked;
+use refusals::Refusal;
 
-// What reading a row's windows gives: the refusal that comes first, or Good and the windows.
-#[derive(Clone, Copy)]
-pub struct WindowsReading {
-    pub answer: Checked,
-    pub window: [Window; MOST_WINDOWS],
-}
-
-// Checks the window record that is due at a place, and then the window, of a row whose steps are
-// read, behind a window that ends at a step.
-fn check_window_at(bytes: &[u8], place: usize, row: Row, before: u8) -> Checked
+// Reads the window whose record is due at a place, of a row whose steps are read, behind a window
+// that ends at a step.
+fn read_window(bytes: &[u8], place: usize, row: Row, before: u8) -> Result<Window, Refusal>
     requires { place ≤ 8192 }
-    ensures { result ≡ first_met (due_tests window_kind bytes.now place
-        ++ window_numbers row (window_in bytes.now place) before) }
+    ensures { result
+        ≡ given (first_met (due_tests window_kind bytes.now place
+        ++ window_numbers row (window_in bytes.now place) before)) (window_in bytes.now place) }
 {
-    match check_due(bytes, place, WINDOW_MARK, WINDOW_SIZE) {
-        Checked::Good => load::check_window(row, window_in(bytes, place), before),
-        Checked::Refused(refusal) => Checked::Refused(refusal),
-    }
+    check_due(bytes, place, WINDOW_MARK, WINDOW_SIZE)?;
+    let window = window_in(bytes, place);
+    load::check_window(row, window, before)?;
+    Ok(window)
 }
 
 // Reads the windows, of which there are so many, of the row whose own record stands at a place and
-// whose steps are read, from the place behind them on.
-pub fn read_windows(bytes: &[u8], at: usize, from: usize, count: usize, row: Row) -> WindowsReading
+// whose steps are read, from the place behind them on. It is no twin of the steps' reading: each
+// window is asked against the row and the window before it.
+pub fn read_windows(
+    bytes: &[u8],
+    at: usize,
+    from: usize,
+    count: usize,
+    row: Row,
+) -> Result<[Window; MOST_WINDOWS], Refusal>
     requires from_bound { (from ≤ 5000) × (from ≡ step_place bytes.now at (steps_said bytes.now at))
         × (row ≡ with_steps bytes.now at) }
     requires count_value { (count ≡ windows_said bytes.now at) × (count ≤ most_windows) }
-    ensures answer_value { result.answer ≡ windows_fault bytes.now at }
-    ensures window_value { result.answer ≡ Good
-        → result.window ≡ windows_from bytes.now from count }
+    ensures { result ≡ given (windows_fault bytes.now at) (windows_from bytes.now from count) }
 {
-    let mut window = [Window {
-        first: 0,
-        last: 0,
-        limit: 0,
-    }; MOST_WINDOWS];
-    let mut answer = Checked::Good;
+    let mut kept = [Window::default(); MOST_WINDOWS];
     let mut before: u8 = 0;
     for k in 0..count {
-        let place = from + WINDOW_SIZE * k;
-        answer = check_window_at(bytes, place, row, before);
-        if let Checked::Refused(_) = answer {
-            break;
-        }
-        let read = window_in(bytes, place);
-        before = read.last;
-        window[k] = read;
+        let window = read_window(bytes, from + WINDOW_SIZE * k, row, before)?;
+        before = window.last;
+        kept[k] = window;
     }
-    WindowsReading { answer, window }
+    Ok(kept)
 }

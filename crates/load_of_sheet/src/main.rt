@@ -12,7 +12,7 @@ ghost use Rattle.sheet.specs.Inputs.{Places, IsLong};
 ghost use Rattle.load_of_sheet.specs.Program.{Answer};
 
 use load_records::{MOST_FILE_BYTES, version_1_size, write_version_1};
-use refusals::{Checked, Written, number_given};
+use refusals::Refusal;
 use sheet::read_sheet;
 use std::io;
 use std::process::ExitCode;
@@ -40,23 +40,13 @@ fn is_long(size: usize) -> bool
 }
 
 // Makes the version 1 file of a sheet's load, in a room that is large enough for every file.
-fn answer(sheet: &[u8], file: &mut [u8]) -> Written
+fn answer(sheet: &[u8], file: &mut [u8]) -> Result<usize, Refusal>
     requires { most_file_bytes ≤ length file.old }
     ensures { Answer sheet.now file.old result file.new }
 {
-    let reading = read_sheet(sheet);
-    let found = reading.answer;
-    let load = reading.load;
-    match found {
-        Checked::Good => Written {
-            answer: write_version_1(load, file),
-            length: version_1_size(load),
-        },
-        Checked::Refused(refusal) => Written {
-            answer: Checked::Refused(refusal),
-            length: 0,
-        },
-    }
+    let load = read_sheet(sheet)?;
+    write_version_1(load, file)?;
+    Ok(version_1_size(load))
 }
 
 // Reads, makes the file and writes it.
@@ -68,14 +58,13 @@ fn main(rt: HostRuntime) -> io::Result<ExitCode> {
         return Ok(ExitCode::FAILURE);
     }
     let mut file = [0u8; MOST_FILE_BYTES];
-    let made = answer(&input[..size], &mut file);
-    let found = made.answer;
-    let length = made.length;
-    let number = number_given(found);
-    if number > 0 {
-        eprintln!(rt; "refused {number}")?;
-        return Ok(ExitCode::FAILURE);
-    }
+    let length = match answer(&input[..size], &mut file) {
+        Ok(length) => length,
+        Err(refusal) => {
+            eprintln!(rt; "refused {}", u32::from(refusal))?;
+            return Ok(ExitCode::FAILURE);
+        }
+    };
     match rt.write_all(&file[..length]) {
         Ok(()) => Ok(ExitCode::SUCCESS),
         Err(error) => tell_failed(&rt, "load-of-sheet: standard output", error),

@@ -12,7 +12,7 @@ use Rattle.counting.proofs.sums.SumLaws.{sum_to-ext, sum_to-le}
 use Rattle.counting.proofs.lists.ListLaws.{join_to-length, join_to-length-same}
 use Rattle.words.specs.LittleEndian.{little_endian}
 use Rattle.words.proofs.LittleEndianLaws.{little_endian-length}
-use Rattle.refusals.specs.declared.Checked.TheVariants.{Good}
+use Rattle.std.specs.Prelude.{Ok}
 use Rattle.load.specs.declared.Step.{Step}
 use Rattle.load.specs.declared.Window.{Window}
 use Rattle.load.specs.declared.Row.{Row}
@@ -147,7 +147,7 @@ load_bytes-length-le v load few small =
     omega (arith, load_bytes-length v load)
 
 -- the longest file: 24 rows of 8 steps and 4 windows
-pub load_bytes-le : (v : ℕ) (load : Load) → check_load load ≡ Good → length (load_bytes v load) ≤ most_file_bytes
+pub load_bytes-le : (v : ℕ) (load : Load) → check_load load ≡ Ok tt → length (load_bytes v load) ≤ most_file_bytes
 load_bytes-le v load h =
     let g = check_load-good load h in
     load_bytes-length-le v load g.few-rows

@@ -5,15 +5,15 @@ use mathlib.Core.Bool.{Bool, true, false, cond}
 use mathlib.Core.List.{List, ◌++◌}
 use mathlib.Core.Path.{◌≡◌, ap, ◌∙◌}
 use native.Mathlib.Omega.{arith}
-use lib.ListN.{length, length-append}
-use lib.Seq.{sets}
+use lib.ListN.{length, get_or, take, length-append, length-take}
+use lib.Seq.{sets, get_or-take}
 use Rattle.counting.specs.Lists.{join_to}
 use Rattle.counting.proofs.sums.SumLaws.{sum_to-le}
 use Rattle.counting.proofs.lists.ListLaws.{join_to-zero, join_to-next, join_to-length}
 use Rattle.words.proofs.OverwriteLaws.{sets_more}
-use Rattle.refusals.specs.declared.Checked.TheVariants.{Good}
+use Rattle.std.specs.Prelude.{Ok}
 use Rattle.load.specs.declared.Load.{Load}
-use Rattle.load.specs.Load.{most_rows, most_steps, most_windows, row_at}
+use Rattle.load.specs.Load.{most_rows, most_steps, most_windows, no_row, row_at}
 use Rattle.load.specs.View.{view_of, steps_in_all}
 use Rattle.load.specs.Check.{check_load}
 use Rattle.load.specs.Plain.{check_plain}
@@ -43,8 +43,21 @@ pub load_bytes-length-rows : (v : ℕ) (load : Load)
 unfolding load_bytes
 load_bytes-length-rows v load = simp (length-append, end_record-length) (omega arith)
 
+-- the rows that count, one a turn: the next one is below their count, and stands at its place
+pub next-counts : (load : Load) (i : ℕ) → i < length (take load.rows load.row) → i < load.rows
+next-counts load i h = omega (arith, length-take load.rows load.row)
+
+pub next-is : (load : Load) (i : ℕ) → i < length (take load.rows load.row)
+    → get_or (take load.rows load.row) i no_row ≡ row_at load i
+next-is load i h = get_or-take load.rows load.row i no_row (next-counts load i h)
+
+-- and behind the last they are all
+pub all-counted : (load : Load) (i : ℕ) → load.rows ≤ length load.row → i ≤ length (take load.rows load.row)
+    → length (take load.rows load.row) ≤ i → i ≡ load.rows
+all-counted load i all below above = omega (arith, length-take load.rows load.row)
+
 -- what the check of a load leaves to its writing
-module _ (load : Load) (good : check_load load ≡ Good) where
+module _ (load : Load) (good : check_load load ≡ Ok tt) where
   pub rows-le : load.rows ≤ most_rows
   rows-le = (check_load-good load good).few-rows
 
@@ -85,9 +98,9 @@ load-written v load out after-header after-rows after at p q e r =
     front-written r
 
 -- what is to be written passes its check, in either version
-pub written-good : (v : ℕ) (load : Load) → write_fault v load ≡ Good → check_load load ≡ Good
+pub written-good : (v : ℕ) (load : Load) → write_fault v load ≡ Ok tt → check_load load ≡ Ok tt
 written-good v load h = go (carries v) h
   where
-    go : (b : Bool) → cond b (check_load load) (check_plain load) ≡ Good → check_load load ≡ Good
+    go : (b : Bool) → cond b (check_load load) (check_plain load) ≡ Ok tt → check_load load ≡ Ok tt
     go true e = e
     go false e = (check_plain-good load e).load-good

@@ -1,7 +1,7 @@
 -- What each public call's contract says: one relation a call, over what it takes, what it gives,
 -- and what the lent bytes hold afterwards. To be read after Writing.
 use Rattle.std.specs.Prelude.{ℕ, ◌-◌, List, ◌++◌, ◌≡◌, length, replicate}
-use Rattle.refusals.specs.declared.Checked.{Checked}
+use Rattle.refusals.specs.Checked.{Checked}
 use Rattle.refusals.specs.Given.{if_good, Given}
 use Rattle.load.specs.declared.Row.{Row}
 use Rattle.load.specs.declared.Load.{Load}
@@ -27,7 +27,7 @@ RowRecordsOf row r = r ≡ records_holding (row_bytes newest (counted_row row))
 abbrev pub SizeIn : ℕ → Load → ℕ → Type 0
 SizeIn v load r = r ≡ if_good (write_fault v load) (length (load_bytes v load)) 0
 
--- the numbers of a load to be written in a version, then 9, and the output as it was; or Good, and
+-- the numbers of a load to be written in a version, then 9, and the output as it was; or Ok, and
 -- the file at the output's front
 abbrev pub WriteIn : ℕ → Load → List ℕ → Checked → List ℕ → Type 0
 WriteIn v load out r after = Given (write_fault v load) (load_bytes v load) out r after

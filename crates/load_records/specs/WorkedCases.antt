@@ -1,9 +1,8 @@
 -- "Load file", worked: what writing a small load gives, and the records of a row. The answers are
 -- the document's, taken by hand. To be read after WorkedFile. Rests on D75
 -- and D92.
-use Rattle.std.specs.Prelude.{[], ◌∷◌, ◌++◌, replicate, take}
+use Rattle.std.specs.Prelude.{[], ◌∷◌, ◌++◌, replicate, take, Ok, Err}
 use Rattle.refusals.specs.declared.Refusal.TheVariants.{OutOfRange, OutputShort, NotCarried}
-use Rattle.refusals.specs.declared.Checked.TheVariants.{Good, Refused}
 use Rattle.load.specs.declared.Row.{Row}
 use Rattle.load.specs.Load.{row_at}
 use Rattle.load_records.specs.Calls.{RowSize, RowRecordsOf, Version1Size, Version2Size}
@@ -60,22 +59,22 @@ pub record WorkedCases : Type 0 where
   pub size : Version1Size spelled 46
   pub size2 : Version2Size spelled 48
   -- the load is written as its file, into a room of exactly its 46 bytes
-  pub written : WriteVersion1 spelled (replicate 46 7) Good (joined file)
+  pub written : WriteVersion1 spelled (replicate 46 7) (Ok tt) (joined file)
   -- into a room of one byte more, which stays
-  pub room-more : WriteVersion1 spelled (replicate 47 7) Good (joined file ++ 7 ∷ [])
+  pub room-more : WriteVersion1 spelled (replicate 47 7) (Ok tt) (joined file ++ 7 ∷ [])
   -- and into one of a byte less it is not written
-  pub room-less : WriteVersion1 spelled (replicate 45 7) (Refused OutputShort) (replicate 45 7)
+  pub room-less : WriteVersion1 spelled (replicate 45 7) (Err OutputShort) (replicate 45 7)
   -- as version 2 into a room of its 48 bytes, and not into one of 47
-  pub written2 : WriteVersion2 spelled (replicate 48 7) Good (joined (file2 0 1))
-  pub room-less2 : WriteVersion2 spelled (replicate 47 7) (Refused OutputShort) (replicate 47 7)
+  pub written2 : WriteVersion2 spelled (replicate 48 7) (Ok tt) (joined (file2 0 1))
+  pub room-less2 : WriteVersion2 spelled (replicate 47 7) (Err OutputShort) (replicate 47 7)
   -- with class 3 it is written as version 2, and not as version 1, also where there is no room; it
   -- has no size there
-  pub urgent2 : WriteVersion2 (spelled2 3 1) (replicate 48 7) Good (joined (file2 3 1))
-  pub urgent : WriteVersion1 (spelled2 3 1) (replicate 48 7) (Refused NotCarried) (replicate 48 7)
-  pub urgent-no-room : WriteVersion1 (spelled2 3 1) [] (Refused NotCarried) []
+  pub urgent2 : WriteVersion2 (spelled2 3 1) (replicate 48 7) (Ok tt) (joined (file2 3 1))
+  pub urgent : WriteVersion1 (spelled2 3 1) (replicate 48 7) (Err NotCarried) (replicate 48 7)
+  pub urgent-no-room : WriteVersion1 (spelled2 3 1) [] (Err NotCarried) []
   pub urgent-size : Version1Size (spelled2 3 1) 0
   -- class 4 and head 2 are 3 in both versions
-  pub class-out : WriteVersion2 (spelled2 4 1) [] (Refused OutOfRange) []
-  pub head-out : WriteVersion1 (spelled2 0 2) [] (Refused OutOfRange) []
+  pub class-out : WriteVersion2 (spelled2 4 1) [] (Err OutOfRange) []
+  pub head-out : WriteVersion1 (spelled2 0 2) [] (Err OutOfRange) []
   -- a row's own record: version 1 and version 2
   pub row-sizes : RowSize 1 20 × RowSize 2 22

@@ -3,7 +3,7 @@
 -- 22. To be read after Records. Rests on D92.
 use Rattle.std.specs.Prelude.{ℕ, min, cond, List, ◌++◌}
 use Rattle.counting.specs.Lists.{join_to}
-use Rattle.refusals.specs.declared.Checked.{Checked}
+use Rattle.refusals.specs.Checked.{Checked}
 use Rattle.load.specs.declared.Row.{Row}
 use Rattle.load.specs.declared.Load.{Load}
 use Rattle.load.specs.Load.{most_steps, most_windows, row_at, step_at, window_at}

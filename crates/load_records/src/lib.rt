@@ -9,7 +9,7 @@ mod writing;
 
 pub use records::{
     END_MARK, END_SIZE, HEADER_MARK, HEADER_SIZE, MOST_FILE_BYTES, MOST_ROW_BYTES, ROW_MARK,
-    STEP_MARK, STEP_SIZE, VERSION_1, VERSION_2, WINDOW_MARK, WINDOW_SIZE, row_size,
+    ROW_SIZE_1, STEP_MARK, STEP_SIZE, VERSION_1, VERSION_2, WINDOW_MARK, WINDOW_SIZE, row_size,
 };
 pub use rows::row_records;
 pub use writing::{version_1_size, version_2_size, write_version_1, write_version_2};

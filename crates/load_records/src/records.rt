@@ -1,6 +1,6 @@
 // The records of a load file: the mark that opens each, how long it is in a version, and its bytes.
 // No call refuses.
-ghost use Rattle.std.specs.Prelude.{◌≡◌};
+ghost use Rattle.std.specs.Prelude.{◌≡◌, ℕ, List};
 ghost use Rattle.load_records.specs.Records.{
   newest,
   header_record,
@@ -101,35 +101,48 @@ pub fn row_record(row: Row) -> [u8; ROW_SIZE_2]
     ]
 }
 
-// Gives a step's record.
-pub fn step_record(step: Step) -> [u8; STEP_SIZE]
-    ensures { result ≡ step_record step }
-{
-    let cost = words::bytes16(step.cost);
-    let wait = words::bytes16(step.wait);
-    [
-        STEP_MARK[0],
-        STEP_MARK[1],
-        cost[0],
-        cost[1],
-        wait[0],
-        wait[1],
-    ]
+// A part of a row that has a record of its own, of so many bytes.
+pub trait Part<const SIZE: usize>: Copy {
+    ghost bytes: { Self → List ℕ };
+
+    // Gives its record.
+    fn record(self) -> [u8; SIZE]
+        ensures { result ≡ bytes self };
 }
 
-// Gives a window's record.
-pub fn window_record(window: Window) -> [u8; WINDOW_SIZE]
-    ensures { result ≡ window_record window }
-{
-    let limit = words::bytes16(window.limit);
-    [
-        WINDOW_MARK[0],
-        WINDOW_MARK[1],
-        window.first,
-        window.last,
-        limit[0],
-        limit[1],
-    ]
+impl Part<STEP_SIZE> for Step {
+    ghost bytes = { step_record };
+
+    // The cost and the wait.
+    fn record(self) -> [u8; STEP_SIZE] {
+        let cost = words::bytes16(self.cost);
+        let wait = words::bytes16(self.wait);
+        [
+            STEP_MARK[0],
+            STEP_MARK[1],
+            cost[0],
+            cost[1],
+            wait[0],
+            wait[1],
+        ]
+    }
+}
+
+impl Part<WINDOW_SIZE> for Window {
+    ghost bytes = { window_record };
+
+    // The two steps and the limit.
+    fn record(self) -> [u8; WINDOW_SIZE] {
+        let limit = words::bytes16(self.limit);
+        [
+            WINDOW_MARK[0],
+            WINDOW_MARK[1],
+            self.first,
+            self.last,
+            limit[0],
+            limit[1],
+        ]
+    }
 }
 
 // Gives the end record of a load of so many steps.

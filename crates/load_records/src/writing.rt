@@ -1,7 +1,7 @@
 // Writes a load as its file, in a version: the header, then each row with its steps and then its
 // windows, then the end record. Refuses a load that its check refuses, one that version 1 does not
 // carry, and an output shorter than the file.
-ghost use Rattle.std.specs.Prelude.{◌≡◌, ◌+◌, length};
+ghost use Rattle.std.specs.Prelude.{◌≡◌, ◌+◌, length, Ok};
 ghost use Rattle.std.proofs.lemmas.List.Edits.{sets};
 ghost use Rattle.counting.specs.Lists.{join_to};
 ghost use Rattle.load.specs.Load.{row_at};
@@ -20,11 +20,11 @@ ghost use Rattle.load_records.specs.Calls.{
 use crate::records::{END_SIZE, HEADER_SIZE, VERSION_1, VERSION_2, end_record, header_record};
 use crate::rows::{records_in, row_length};
 use load::Load;
-use refusals::{Checked, Refusal};
+use refusals::Refusal;
 
 // Checks a load that is to be written in a version: its own numbers, and 22 where the version does
 // not carry it.
-fn check_written(version: u8, load: Load) -> Checked
+fn check_written(version: u8, load: Load) -> Result<(), Refusal>
     ensures { result ≡ write_fault version load }
 {
     if version == VERSION_2 {
@@ -36,12 +36,12 @@ fn check_written(version: u8, load: Load) -> Checked
 
 // Gives how many bytes the file has of a load that passes its check.
 fn whole_size(version: u8, load: Load) -> usize
-    requires { check_load load ≡ Checked.Good }
+    requires { check_load load ≡ Ok tt }
     ensures { result ≡ length (load_bytes version load) }
 {
     let mut size = HEADER_SIZE + END_SIZE;
-    for i in 0..load.rows as usize {
-        size += row_length(version, load.row[i]);
+    for row in &load.row[..load.rows as usize] {
+        size += row_length(version, *row);
     }
     size
 }
@@ -51,7 +51,7 @@ fn whole_size(version: u8, load: Load) -> usize
 fn size_in(version: u8, load: Load) -> usize
     ensures { SizeIn version load result }
 {
-    if let Checked::Refused(_) = check_written(version, load) {
+    if check_written(version, load).is_err() {
         return 0;
     }
     whole_size(version, load)
@@ -59,7 +59,7 @@ fn size_in(version: u8, load: Load) -> usize
 
 // Writes the rows of a load behind the header, and gives the place behind them.
 fn write_rows(version: u8, out: &mut [u8], load: Load) -> usize
-    requires { check_load load ≡ Checked.Good }
+    requires { check_load load ≡ Ok tt }
     ensures value { result ≡ header_kind.size
         + length (join_to (λ i. row_bytes version (row_at load i)) load.rows) }
     ensures out_after { out.new
@@ -67,19 +67,17 @@ fn write_rows(version: u8, out: &mut [u8], load: Load) -> usize
         (join_to (λ i. row_bytes version (row_at load i)) load.rows) }
 {
     let mut at = HEADER_SIZE;
-    for i in 0..load.rows as usize {
-        let records = records_in(version, load.row[i]);
-        let length = records.length;
-        let bytes = records.bytes;
-        words::overwrite(out, at, &bytes[..length]);
-        at += length;
+    for row in &load.row[..load.rows as usize] {
+        let records = records_in(version, *row);
+        words::overwrite(out, at, &records.bytes[..records.length]);
+        at += records.length;
     }
     at
 }
 
 // Writes the file of a load at the output's front.
 fn write_file(version: u8, out: &mut [u8], load: Load)
-    requires { check_load load ≡ Checked.Good }
+    requires { check_load load ≡ Ok tt }
     ensures { out.new ≡ sets out.old 0 (load_bytes version load) }
 {
     let header = header_record(version, load.rows);
@@ -92,21 +90,20 @@ fn write_file(version: u8, out: &mut [u8], load: Load)
 // Writes a load as its file in a version. Refuses, in this order, a load that is not to be written
 // in it and an output that is shorter than the file (9); a refusal alters no byte. Bytes past the
 // file stay.
-fn write_in(version: u8, load: Load, out: &mut [u8]) -> Checked
+fn write_in(version: u8, load: Load, out: &mut [u8]) -> Result<(), Refusal>
     ensures { WriteIn version load out.old result out.new }
 {
-    if let Checked::Refused(refusal) = check_written(version, load) {
-        return Checked::Refused(refusal);
-    }
+    check_written(version, load)?;
     if out.len() < whole_size(version, load) {
-        return Checked::Refused(Refusal::OutputShort);
+        return Err(Refusal::OutputShort);
     }
     write_file(version, out, load);
-    Checked::Good
+    Ok(())
 }
 
 // Gives how many bytes the version 1 file of a load has; 0 where the load is refused, with its own
 // numbers or with 22.
+// docs/BELIEVE.md names it and the three calls below, so all stay: each is one line.
 pub fn version_1_size(load: Load) -> usize
     ensures { Version1Size load result }
 {
@@ -123,7 +120,7 @@ pub fn version_2_size(load: Load) -> usize
 // Writes a load as its version 1 file. Refuses, in this order, a load that its check refuses, one
 // with a class that is not 0 or a head that is not 1 (22), and an output that is shorter than the
 // file (9); a refusal alters no byte. Bytes past the file stay.
-pub fn write_version_1(load: Load, out: &mut [u8]) -> Checked
+pub fn write_version_1(load: Load, out: &mut [u8]) -> Result<(), Refusal>
     ensures { WriteVersion1 load out.old result out.new }
 {
     write_in(VERSION_1, load, out)
@@ -131,7 +128,7 @@ pub fn write_version_1(load: Load, out: &mut [u8]) -> Checked
 
 // Writes a load as its version 2 file. Refuses, in this order, a load that its check refuses and an
 // output that is shorter than the file (9); a refusal alters no byte. Bytes past the file stay.
-pub fn write_version_2(load: Load, out: &mut [u8]) -> Checked
+pub fn write_version_2(load: Load, out: &mut [u8]) -> Result<(), Refusal>
     ensures { WriteVersion2 load out.old result out.new }
 {
     write_in(VERSION_2, load, out)

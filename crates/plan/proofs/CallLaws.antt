@@ -7,7 +7,7 @@ use Rattle.load.specs.declared.Row.{Row}
 use Rattle.load.specs.declared.Window.{Window}
 use Rattle.load.specs.Load.{most_rows}
 use Rattle.plan.specs.declared.Look.{Look}
-use Rattle.plan.specs.Boards.{Board}
+use Rattle.plan.specs.declared.Board.{Board}
 use Rattle.plan.specs.declared.Chosen.{Chosen}
 use Rattle.plan.specs.Choices.{chosen_in, next_moment, row_or}
 use Rattle.plan.specs.Calls.{
@@ -31,14 +31,9 @@ LookOf-unique row finished end opening r s p q = p ∙ sym q
 pub LookAt-unique : (board : Board) (i : ℕ) (r s : Look) → LookAt board i r → LookAt board i s → r ≡ s
 LookAt-unique board i r s p q = p ∙ sym q
 
-pub PutLook-unique : (counts lengths moments : List ℕ) (i : ℕ) (look : Look) (c l m c' l' m' : List ℕ)
-    → PutLook counts lengths moments i look c l m → PutLook counts lengths moments i look c' l' m'
-    → (c ≡ c') × (l ≡ l') × (m ≡ m')
-PutLook-unique counts lengths moments i look c l m c' l' m' p q = (
-  p.0 ∙ sym q.0,
-  p.1 ∙ sym q.1,
-  p.2 ∙ sym q.2,
-)
+pub PutLook-unique : (board : Board) (i : ℕ) (look : Look) (r s : Board) → PutLook board i look r
+    → PutLook board i look s → r ≡ s
+PutLook-unique board i look r s p q = p ∙ sym q
 
 pub OpeningAfter-unique : (stays opened : Bool) (opening clock r s : ℕ) → OpeningAfter stays opened opening clock r
     → OpeningAfter stays opened opening clock s → r ≡ s

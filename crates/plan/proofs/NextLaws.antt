@@ -10,7 +10,8 @@ use Rattle.counting.proofs.tests.TestLaws.{true-false}
 use Rattle.counting.proofs.searches.FirstToLaws.{IsFirst, first_to-first, first_to-unique}
 use Rattle.load.specs.Load.{most_rows, most_steps, last_moment}
 use Rattle.plan.specs.declared.Chosen.{Chosen}
-use Rattle.plan.specs.Boards.{Board, look_in}
+use Rattle.plan.specs.declared.Board.{Board}
+use Rattle.plan.specs.Boards.{look_in}
 use Rattle.plan.specs.Choices.{chosen_in, next_moment, row_or}
 use Rattle.plan.specs.Calls.{ChosenRow, NextStart}
 use Rattle.plan.specs.inner.Turns.{PassedTo, SweptTo, StartsBefore}

@@ -6,7 +6,8 @@ use borrow.Author.Tests.{le-leb}
 use lib.Dec.{leb}
 use Rattle.counting.proofs.tests.TestLaws.{true-false}
 use Rattle.load.specs.Load.{most_steps}
-use Rattle.plan.specs.Boards.{Board, look_in}
+use Rattle.plan.specs.declared.Board.{Board}
+use Rattle.plan.specs.Boards.{look_in}
 use Rattle.plan.specs.Choices.{candidate_in, passes_in}
 use Rattle.plan.specs.inner.Searching.{LowestStep, tried_in}
 use Rattle.plan.proofs.SearchLaws.{candidate-ready}

@@ -6,7 +6,7 @@ use mathlib.Core.List.{List}
 use mathlib.Core.Path.{◌≡◌, refl, ap, sym, ◌∙◌, subst}
 use native.Mathlib.Decide.{dec_lt}
 use native.Mathlib.Omega.{arith}
-use borrow.Author.Tests.{ltb-true, leb-true, le-leb, lt-leb}
+use borrow.Author.Tests.{ltb-true, leb-true, le-leb}
 use lib.Dec.{leb, ltb}
 use Rattle.counting.specs.Sums.{all_to}
 use Rattle.counting.specs.Lists.{member_at, numbers_where}
@@ -19,47 +19,11 @@ use Rattle.counting.proofs.lists.EveryLaws.{every-numbers_where, found_at}
 use Rattle.counting.proofs.searches.SelectionLaws.{found-least, found_nothing}
 use Rattle.load.specs.Load.{most_rows, most_steps, last_moment, most_class}
 use Rattle.plan.specs.declared.Look.{Look}
-use Rattle.plan.specs.Boards.{Board, look_in}
+use Rattle.plan.specs.declared.Board.{Board}
+use Rattle.plan.specs.Boards.{look_in}
 use Rattle.plan.specs.Choices.{below_in, candidate_by, candidate_in, opening_by, passes_in, turn_in, chosen_in, row_or}
 use Rattle.plan.specs.Calls.{ChosenRow}
 use Rattle.plan.specs.inner.Turns.{PassedRows}
-
--- a row that has finished all its steps lowers nothing
-pub lower-finished : (j lowest finished steps : ℕ) → steps ≤ finished
-    → (leb j lowest && leb (min j steps) finished) ≡ leb j lowest
-lower-finished j lowest finished steps h =
-    rw (le-leb (min j steps) finished (omega arith)) (go (leb j lowest))
-  where
-    go : (b : Bool) → (b && true) ≡ b
-    go true = refl
-    go false = refl
-
--- nor does one that is not behind
-pub lower-ahead : (j lowest finished steps : ℕ) → lowest ≤ finished
-    → (leb j lowest && leb (min j steps) finished) ≡ leb j lowest
-lower-ahead j lowest finished steps h =
-    elim (dec_lt lowest j) [
-      | yes l ↦ rw (lt-leb j lowest l)
-      | no l ↦ rw (le-leb j lowest (omega arith), le-leb (min j steps) finished (omega arith))
-    ]
-
--- one that is behind takes the place
-pub lower-behind : (j lowest finished steps : ℕ) → finished < steps → finished < lowest
-    → (leb j lowest && leb (min j steps) finished) ≡ leb j finished
-lower-behind j lowest finished steps h g =
-    elim (dec_lt finished j) [
-      | yes l ↦ rw (lt-leb j finished l, lt-leb (min j steps) finished (omega arith)) (go (leb j lowest))
-      | no l ↦
-          rw (
-            le-leb j finished (omega arith),
-            le-leb j lowest (omega arith),
-            le-leb (min j steps) finished (omega arith),
-          )
-    ]
-  where
-    go : (b : Bool) → (b && false) ≡ false
-    go true = refl
-    go false = refl
 
 -- an opening is by 1,000,000 where the clock is
 pub opening_by-le : (stays opened : Bool) (opening clock : ℕ) → clock ≤ last_moment

@@ -9,13 +9,14 @@ use native.Mathlib.Decide.{ℕ_discrete, dec_lt}
 use native.Mathlib.Omega.{arith}
 use borrow.Author.Tests.{eqb-true, ltb-true, eq-eqb, ne_eqb, lt-ltb, le-ltb, le-leb, lt-leb, leb-true}
 use lib.Dec.{eqb, leb, ltb}
-use lib.ListN.{set, replicate, length-set, get_or-replicate}
+use lib.ListN.{set, length-set}
 use Rattle.counting.specs.Sums.{all_to}
 use Rattle.counting.specs.Lists.{is_marked}
 use Rattle.counting.specs.Searches.{Found, none}
 use Rattle.counting.proofs.tests.TestLaws.{and_left, and_right, true-false}
 use Rattle.load.specs.Load.{most_rows, most_steps, last_moment, most_class}
-use Rattle.plan.specs.Boards.{Board, look_in}
+use Rattle.plan.specs.declared.Board.{Board}
+use Rattle.plan.specs.Boards.{look_in}
 use Rattle.plan.specs.Choices.{below_in, candidate_in, passes_in, turn_in, chosen_in, row_or}
 use Rattle.plan.specs.Calls.{ChosenRow}
 use Rattle.plan.specs.inner.Searching.{LowestStep, tried_in, NumbersIn, RefusedTo, TriedUntil}
@@ -215,15 +216,7 @@ chosen_is board classes clock rows most f e =
     let same : rows ≡ min rows most_rows = omega arith in
     subst (λ n. row_or rows f ≡ row_or n (chosen_in board classes clock n)) same (ap (row_or rows) (sym e))
 
--- what is known of refused rows: nothing at first, and then of one that was asked
-pub refused_none : (board : Board) (clock rows : ℕ) → rows ≤ most_rows
-    → RefusedTo board clock rows (replicate most_rows 0)
-refused_none board clock rows most =
-    record {
-      long = refl;
-      refused = λ i l t a b. absurd (omega (arith, get_or-replicate {A = ℕ} most_rows i 0 0 (omega arith)));
-    }
-
+-- what is known of refused rows, and then of one that was asked
 pub refused-more : (board : Board) (clock rows : ℕ) (until : List ℕ) → rows ≤ most_rows
     → RefusedTo board clock rows until → (i r : ℕ) → i < rows → TriedUntil board clock rows i r
     → RefusedTo board clock rows (set until i r)

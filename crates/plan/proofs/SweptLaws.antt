@@ -11,7 +11,8 @@ use lib.Dec.{eqb, ltb}
 use Rattle.counting.specs.Lists.{member_at}
 use Rattle.counting.proofs.tests.TestLaws.{and_left, and_right, true-false}
 use Rattle.load.specs.Load.{most_steps, last_moment}
-use Rattle.plan.specs.Boards.{Board, look_in}
+use Rattle.plan.specs.declared.Board.{Board}
+use Rattle.plan.specs.Boards.{look_in}
 use Rattle.plan.specs.Choices.{candidate_in, passes_in, turn_in}
 use Rattle.plan.specs.inner.Searching.{LowestStep, tried_in, RefusedTo}
 use Rattle.plan.specs.inner.Searching.{TriedRow, PassesFirst}

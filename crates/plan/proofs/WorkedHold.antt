@@ -3,7 +3,6 @@ use mathlib.Core.Path.{refl}
 use Rattle.rules.proofs.worked.WorkedComputing.{computing}
 use Rattle.counting.specs.Searches.{first_to}
 use Rattle.plan.specs.Looks.{look_of}
-use Rattle.plan.specs.Boards.{numbers_from, marks_from, parts_with, counts_with, lengths_with, moments_with}
 use Rattle.plan.specs.Choices.{passes_in, chosen_in}
 use Rattle.plan.specs.WorkedLooks.{WorkedLooks}
 use Rattle.plan.specs.WorkedChoices.{WorkedChoices}
@@ -27,7 +26,7 @@ looks-hold =
     }
 
 pub choices-hold : WorkedChoices
-unfolding computing numbers_from marks_from parts_with counts_with lengths_with moments_with passes_in chosen_in
+unfolding computing passes_in chosen_in
 choices-hold =
     record {
       lower-step-first = refl;
@@ -48,7 +47,7 @@ choices-hold =
     }
 
 pub starts-hold : WorkedStarts
-unfolding computing numbers_from marks_from parts_with counts_with lengths_with moments_with passes_in
+unfolding computing passes_in
     chosen_in first_to
 starts-hold =
     record {

@@ -10,7 +10,8 @@ use Rattle.load.specs.View.{open_at}
 use Rattle.plan.specs.declared.Look.{Look}
 use Rattle.plan.specs.declared.Chosen.{Chosen}
 use Rattle.plan.specs.Looks.{view_alike, look_by}
-use Rattle.plan.specs.Boards.{Board, look_in, counts_with, lengths_with, moments_with}
+use Rattle.plan.specs.declared.Board.{Board}
+use Rattle.plan.specs.Boards.{look_in, with_look}
 use Rattle.plan.specs.Choices.{opening_by, chosen_in, next_moment, row_or}
 
 -- open_window(row, finished): the window that is open once so many steps are finished, and a window
@@ -27,13 +28,10 @@ LookOf row finished end opening r =
 abbrev pub LookAt : Board → ℕ → Look → Type 0
 LookAt board i r = r ≡ look_in board i
 
--- put_look(counts, lengths, moments, i, look): the board's arrays afterwards have that look of row
--- i, and are as they were past the last row
-abbrev pub PutLook : List ℕ → List ℕ → List ℕ → ℕ → Look → List ℕ → List ℕ → List ℕ → Type 0
-PutLook counts lengths moments i look counts' lengths' moments' =
-    (counts' ≡ cond (ltb i most_rows) (counts_with counts i look) counts)
-    × (lengths' ≡ cond (ltb i most_rows) (lengths_with lengths i look) lengths)
-    × (moments' ≡ cond (ltb i most_rows) (moments_with moments i look) moments)
+-- put_look(board, i, look): the board afterwards has that look of row i, and is as it was past the
+-- last row
+abbrev pub PutLook : Board → ℕ → Look → Board → Type 0
+PutLook board i look after = after ≡ cond (ltb i most_rows) (with_look board i look) board
 
 -- opening_after(stays, opened, opening, clock): a row's opening once its next step is over
 abbrev pub OpeningAfter : Bool → Bool → ℕ → ℕ → ℕ → Type 0

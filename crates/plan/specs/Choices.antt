@@ -10,7 +10,8 @@ use Rattle.counting.specs.Sorting.{sorted, by_keys}
 use Rattle.load.specs.Load.{most_steps, last_moment, most_class}
 use Rattle.rules.specs.Plan.{Jobs, plan_by}
 use Rattle.plan.specs.declared.Look.{Look}
-use Rattle.plan.specs.Boards.{Board, look_in}
+use Rattle.plan.specs.declared.Board.{Board}
+use Rattle.plan.specs.Boards.{look_in}
 
 -- row k has finished all its steps below place j
 abbrev pub below_in : Board → ℕ → ℕ → Bool

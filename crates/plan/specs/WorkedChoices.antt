@@ -2,9 +2,10 @@
 -- stacking plan starts": worked over boards of two rows. The answers come from documents 01 and 02
 -- by hand. To be read after Calls. Rests on D79.
 use Rattle.std.specs.Prelude.{ℕ, true, false, List, ◌∷◌, replicate}
+use Rattle.load.specs.Load.{most_rows}
 use Rattle.plan.specs.declared.Look.{Look}
-use Rattle.plan.specs.Boards.{Board, board_in, count_places, length_places, moment_places}
-use Rattle.plan.specs.Boards.{counts_with, lengths_with, moments_with}
+use Rattle.plan.specs.declared.Board.{Board}
+use Rattle.plan.specs.Boards.{with_look}
 use Rattle.plan.specs.Calls.{ChosenRow}
 
 -- a look of a row with no window ahead: steps finished and in all, cost and release
@@ -43,18 +44,32 @@ inside due =
       limit = 0;
     }
 
+-- a zero in every place of a list of a board
+abbrev pub zeros : List ℕ
+zeros = replicate most_rows 0
+
 -- a board of zeros
 abbrev pub no_rows : Board
-no_rows = board_in (replicate count_places 0) (replicate length_places 0)
-    (replicate moment_places 0)
+no_rows =
+    record {
+      finished = zeros;
+      steps = zeros;
+      opening = zeros;
+      cost = zeros;
+      release = zeros;
+      opened = replicate most_rows false;
+      left = zeros;
+      due = zeros;
+      wait = zeros;
+      stays = replicate most_rows false;
+      rest = zeros;
+      limit = zeros;
+    }
 
 -- a board of two rows, each look in its places
 abbrev pub two_rows : Look → Look → Board
 two_rows first second =
-    board_in
-    (counts_with (counts_with (replicate count_places 0) 0 first) 1 second)
-    (lengths_with (lengths_with (replicate length_places 0) 0 first) 1 second)
-    (moments_with (moments_with (replicate moment_places 0) 0 first) 1 second)
+    with_look (with_look no_rows 0 first) 1 second
 
 -- the classes of two rows
 abbrev pub classes : ℕ → ℕ → List ℕ

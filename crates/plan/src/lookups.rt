@@ -6,20 +6,18 @@ ghost use Rattle.plan.specs.Looks.{view_alike};
 ghost use Rattle.plan.specs.Calls.{OpenWindow, LookOf};
 
 use crate::Look;
-use crate::ranges::{at_most_moment, at_most_steps, at_most_windows};
-use load::{Row, Window, chain_between, step_at};
+use load::{LAST_MOMENT, MOST_STEPS, MOST_WINDOWS, Row, Window, chain_between, step_at};
 
-// Gives the window that is open once so many steps are finished, and a window of zeros where none.
-pub fn open_window(row: Row, finished: u8) -> Window
-    ensures { OpenWindow row finished result }
+// Gives the window of a row that is open once so many steps are finished, and a window of zeros
+// where none.
+fn window_of(row: &Row, finished: u8) -> Window
+    ensures { OpenWindow row.now finished result }
 {
-    let windows = at_most_windows(row.windows);
-    for k in 0..windows {
-        let window = row.window[k];
-        if window.first <= finished {
-            if finished < window.last {
-                return window;
-            }
+    let windows = (row.windows as usize).min(MOST_WINDOWS);
+    let places = &row.window[..];
+    for window in &places[..windows] {
+        if window.first <= finished && finished < window.last {
+            return *window;
         }
     }
     Window {
@@ -27,6 +25,14 @@ pub fn open_window(row: Row, finished: u8) -> Window
         last: 0,
         limit: 0,
     }
+}
+
+// Gives the window that is open once so many steps are finished, and a window of zeros where none.
+// Zeros and no Option: the relation OpenWindow gives such a window.
+pub fn open_window(row: Row, finished: u8) -> Window
+    ensures { OpenWindow row finished result }
+{
+    window_of(&row, finished)
 }
 
 // Gives the moment from which a row's next step may start: its phase before the first step, then
@@ -47,12 +53,12 @@ fn release_of(row: Row, finished: u8, end: u32) -> u32
 pub fn look_of(row: Row, finished: u8, end: u32, opening: u32) -> Look
     ensures { LookOf row finished end opening result }
 {
-    let done = at_most_steps(finished);
-    let ended = at_most_moment(end);
-    let since = at_most_moment(opening);
+    let done = finished.min(MOST_STEPS as u8);
+    let ended = end.min(LAST_MOMENT);
+    let since = opening.min(LAST_MOMENT);
     let step = step_at(row, done as usize);
-    let window = open_window(row, done);
-    let later = open_window(row, done + 1);
+    let window = window_of(&row, done);
+    let later = window_of(&row, done + 1);
     Look {
         finished: done,
         steps: row.steps,

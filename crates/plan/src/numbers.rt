@@ -1,12 +1,11 @@
 // The lowest unfinished step, and the step numbers that rows are tried with.
 ghost use Rattle.std.specs.Prelude.{◌≡◌, true, not, ◌&&◌, ℕ, min, ◌≤◌, ◌<◌, leb, set};
-ghost use Rattle.counting.specs.Lists.{member_at, is_marked};
+ghost use Rattle.counting.specs.Lists.{is_marked};
 ghost use Rattle.counting.specs.Sums.{any_to};
 ghost use Rattle.load.specs.Load.{most_rows, most_steps};
-ghost use Rattle.plan.specs.Boards.{numbers_from, marks_from};
-ghost use Rattle.plan.specs.inner.Searching.{LowestStep, tried_by, NumbersIn};
+ghost use Rattle.plan.specs.inner.Searching.{LowestStep, tried_in, NumbersIn};
 
-use crate::parts::{COUNT_PLACES, FINISHED, OPENED, STEPS, count_at, is_marked};
+use crate::Board;
 use load::MOST_STEPS;
 
 // Gives the lower of the lowest unfinished step so far and a row's, where the row has one. A row
@@ -17,58 +16,50 @@ fn lower_step(lowest: u16, finished: u8, steps: u8) -> u16
     ensures { (result ≤ lowest)
         × ((j : ℕ) → (leb j lowest && leb (min j steps) finished) ≡ leb j result) }
 {
-    let past = steps <= finished;
-    let number = finished as u16 + 8 * past as u16;
-    if number < lowest { number } else { lowest }
+    let past = (steps <= finished) as u16;
+    lowest.min(finished as u16 + 8 * past)
 }
 
 // Gives the lowest step that some row has not finished, 8 where there is none: the rows have
 // finished all their steps below a place where that is not after it.
-pub fn lowest_step(counts: &[u8; COUNT_PLACES], rows: usize) -> u8
+pub fn lowest_step(board: &Board, rows: usize) -> u8
     requires { rows ≤ most_rows }
-    ensures { LowestStep (numbers_from counts.now 0)
-        (numbers_from counts.now 24) rows result }
+    ensures { LowestStep board.now.finished board.now.steps rows result }
 {
     let mut lowest: u16 = 8;
-    for k in 0..rows {
-        lowest = lower_step(
-            lowest,
-            count_at(counts, FINISHED, k),
-            count_at(counts, STEPS, k),
-        );
+    for (i, finished) in board.finished[..rows].iter().enumerate() {
+        lowest = lower_step(lowest, *finished, board.steps[i]);
     }
     lowest as u8
 }
 
 // Says whether row i is tried with a step number: its next step has it, is there, and is the lowest
 // unfinished one or embedded.
-pub fn is_tried(counts: &[u8; COUNT_PLACES], i: usize, number: u8, lowest: u8) -> bool
+pub fn is_tried(board: &Board, i: usize, number: u8, lowest: u8) -> bool
     requires { i < most_rows }
-    ensures { result ≡ tried_by (member_at (numbers_from counts.now 0) i)
-        (member_at (numbers_from counts.now 24) i)
-        (is_marked (marks_from counts.now 48) i) number lowest }
+    ensures { result ≡ tried_in board.now number lowest i }
 {
-    if count_at(counts, FINISHED, i) != number {
+    if board.finished[i] != number {
         return false;
     }
-    if count_at(counts, STEPS, i) <= number {
+    if board.steps[i] <= number {
         return false;
     }
     if number == lowest {
         return true;
     }
-    is_marked(counts, OPENED, i)
+    board.opened[i]
 }
 
 // Says whether no row has an open window. All rows are asked, without an early exit, which lets
 // several be asked at once.
-pub fn none_open(counts: &[u8; COUNT_PLACES], rows: usize) -> bool
+pub fn none_open(board: &Board, rows: usize) -> bool
     requires { rows ≤ most_rows }
-    ensures { result ≡ not (any_to (is_marked (marks_from counts.now 48)) rows) }
+    ensures { result ≡ not (any_to (is_marked board.now.opened) rows) }
 {
     let mut any = false;
-    for i in 0..rows {
-        any = any | is_marked(counts, OPENED, i);
+    for opened in &board.opened[..rows] {
+        any = any | *opened;
     }
     !any
 }
@@ -83,24 +74,21 @@ fn mark_number(numbers: &mut [bool; MOST_STEPS], number: u8)
 
 // Gives marks of the step numbers that rows are tried with: the lowest unfinished step, and those
 // of the rows that have an open window.
-pub fn numbers_of(counts: &[u8; COUNT_PLACES], lowest: u8, rows: usize) -> [bool; MOST_STEPS]
+pub fn numbers_of(board: &Board, lowest: u8, rows: usize) -> [bool; MOST_STEPS]
     requires { rows ≤ most_rows }
-    ensures { NumbersIn (numbers_from counts.now 0)
-        (marks_from counts.now 48) lowest rows result }
+    ensures { NumbersIn board.now.finished board.now.opened lowest rows result }
 {
     let mut numbers = [false; MOST_STEPS];
     if lowest < MOST_STEPS as u8 {
         mark_number(&mut numbers, lowest);
     }
-    if none_open(counts, rows) {
+    if none_open(board, rows) {
         return numbers;
     }
-    for i in 0..rows {
-        if is_marked(counts, OPENED, i) {
-            let number = count_at(counts, FINISHED, i);
-            if number < MOST_STEPS as u8 {
-                mark_number(&mut numbers, number);
-            }
+    for (i, opened) in board.opened[..rows].iter().enumerate() {
+        let number = board.finished[i];
+        if *opened && number < MOST_STEPS as u8 {
+            mark_number(&mut numbers, number);
         }
     }
     numbers

@@ -1,93 +1,121 @@
 // The search at a moment: the candidates are tried by step number, then higher class, then row.
-ghost use Rattle.std.specs.Prelude.{◌≡◌, ◌&&◌, ◌<◌, leb};
-ghost use Rattle.counting.specs.Lists.{member_at, is_marked};
-ghost use Rattle.load.specs.Load.{most_rows};
-ghost use Rattle.plan.specs.Boards.{numbers_from, marks_from, board_in};
-ghost use Rattle.plan.specs.Calls.{ChosenRow};
-ghost use Rattle.plan.specs.inner.Searching.{tried_by, NumbersIn, SearchFits, RefusedTo};
+ghost use Rattle.std.specs.Prelude.{◌≡◌, ◌&&◌, ◌≤◌, ◌<◌, leb, length};
+ghost use Rattle.counting.specs.Lists.{is_marked, member_at};
+ghost use Rattle.load.specs.Load.{most_rows, last_moment};
+ghost use Rattle.rules.specs.Plan.{stack_by};
+ghost use Rattle.plan.specs.Boards.{look_in};
+ghost use Rattle.plan.specs.inner.Searching.{
+  LowestStep,
+  NumbersIn,
+  RefusedTo,
+  tried_in,
+  FirstRow,
+};
 ghost use Rattle.plan.specs.inner.Turns.{FirstTurn};
 
-use crate::numbers::is_tried;
-use crate::parts::{COUNT_PLACES, LENGTH_PLACES, MOMENT_PLACES, RELEASE, moment_at};
-use crate::passing::tried_until;
-use crate::turns::{TURNS, next_turn, turn_at};
+use crate::Board;
+use crate::numbers::{is_tried, lowest_step, numbers_of};
+use crate::turns::{TURNS, first_turn, next_turn, turn_at};
 use load::{MOST_ROWS, MOST_STEPS};
 
-// Says whether row i is tried with a step number, and its next step is ready at the clock.
-fn is_ready<'a>(
-    counts: &'a [u8; COUNT_PLACES],
-    moments: &'a [u32; MOMENT_PLACES],
-    i: usize,
-    number: u8,
-    lowest: u8,
-    clock: u32,
-) -> bool
-    requires { i < most_rows }
-    ensures { result ≡ (tried_by (member_at (numbers_from counts.now 0) i)
-        (member_at (numbers_from counts.now 24) i)
-        (is_marked (marks_from counts.now 48) i) number lowest
-        && leb (member_at (numbers_from moments.now 24) i) clock) }
-{
-    if !is_tried(counts, i, number, lowest) {
-        return false;
-    }
-    moment_at(moments, RELEASE, i) <= clock
+// What a search counts on: a board and the classes of its rows, how many rows there are, the rows
+// with an open window in the order of the stack, the lowest unfinished step, marks of the step
+// numbers that rows are tried with, and the turn of the highest class.
+#[derive(Clone, Copy)]
+pub struct Search<'a> {
+    pub board: &'a Board,
+    pub classes: &'a [u8; MOST_ROWS],
+    pub rows: usize,
+    pub stack: &'a [u8],
+    pub lowest: u8,
+    pub numbers: [bool; MOST_STEPS],
+    pub first: u8,
+    ghost rows_most: { rows ≤ most_rows },
+    ghost stack_most: { length stack.now ≤ most_rows },
+    ghost stack_is: { stack.now ≡ stack_by (is_marked board.now.opened)
+        (member_at board.now.due) rows },
+    ghost lowest_is: { LowestStep board.now.finished board.now.steps rows lowest },
+    ghost numbers_in: { NumbersIn board.now.finished board.now.opened lowest rows
+        numbers },
+    ghost first_turn: { FirstTurn classes.now first },
 }
 
-// Gives the row of the first candidate that passes at the clock, and the number of rows where none
-// does; until when each that was tried before it is refused is kept.
-pub fn search<'a>(
-    counts: &'a [u8; COUNT_PLACES],
-    lengths: &'a [u16; LENGTH_PLACES],
-    moments: &'a [u32; MOMENT_PLACES],
-    classes: &'a [u8; MOST_ROWS],
-    order: &[u8; MOST_ROWS],
-    count: usize,
-    numbers: &[bool; MOST_STEPS],
-    until: &mut [u32; MOST_ROWS],
-    lowest: u8,
-    first: u8,
-    clock: u32,
-    rows: usize,
-) -> usize
-    requires search_fits { SearchFits (board_in counts.now lengths.now moments.now)
-        order.now count lowest clock rows until.old }
-    requires numbers_in { NumbersIn (numbers_from counts.now 0) (marks_from counts.now 48)
-        lowest rows numbers.now }
-    requires first_turn { FirstTurn classes.now first }
-    ensures chosen_row { ChosenRow (board_in
-        counts.now lengths.now moments.now)
-        classes.now clock rows result }
-    ensures refused_to { RefusedTo (board_in
-        counts.now lengths.now moments.now)
-        clock rows until.new }
+// Says whether row i is tried with a step number, and its next step is ready at the clock.
+fn is_ready(board: &Board, i: usize, number: u8, lowest: u8, clock: u32) -> bool
+    requires { i < most_rows }
+    ensures { result ≡ (tried_in board.now number lowest i
+        && leb (look_in board.now i).release clock) }
 {
-    let mut row = rows;
-    'search: for number in lowest..8 {
-        if numbers[number as usize] {
-            let mut turn = first;
-            while turn < TURNS {
-                let mut next = TURNS;
-                for i in 0..rows {
-                    if is_ready(counts, moments, i, number, lowest, clock) {
-                        let here = turn_at(classes, i);
-                        if here != turn {
-                            next = next_turn(turn, here, next);
-                        } else {
-                            let moment = tried_until(
-                                counts, lengths, moments, order, count, clock, rows, i,
-                            );
-                            if moment == clock {
-                                row = i;
-                                break 'search;
-                            }
-                            until[i] = moment;
-                        }
-                    }
-                }
-                turn = next;
-            }
+    is_tried(board, i, number, lowest) && board.release[i] <= clock
+}
+
+impl<'a> Search<'a> {
+    // Gives the search of a board, whose stack was found.
+    pub(crate) fn of(
+        board: &'a Board,
+        classes: &'a [u8; MOST_ROWS],
+        stack: &'a [u8],
+        rows: usize,
+    ) -> Search<'a>
+        requires rows_most { rows ≤ most_rows }
+        requires stack_most { length stack.now ≤ most_rows }
+        requires stack_is { stack.now ≡ stack_by (is_marked board.now.opened)
+            (member_at board.now.due) rows }
+        ensures board_is { result.board ≡ board.entry }
+        ensures classes_are { result.classes ≡ classes.entry }
+        ensures rows_are { result.rows ≡ rows }
+    {
+        let lowest = lowest_step(board, rows);
+        Search {
+            board,
+            classes,
+            rows,
+            stack,
+            lowest,
+            numbers: numbers_of(board, lowest, rows),
+            first: first_turn(classes),
         }
     }
-    row
+
+    // Gives the row of the first candidate that passes at the clock, where one does; until when
+    // each that was tried before it is refused is kept.
+    pub(crate) fn first_row(&self, until: &mut [u32; MOST_ROWS], clock: u32) -> Option<usize>
+        requires clock_most { clock ≤ last_moment }
+        requires known { RefusedTo self.now.board.now clock self.now.rows until.old }
+        ensures chosen_row { FirstRow self.now.board.now self.now.classes.now clock
+            self.now.rows result }
+        ensures refused_to { RefusedTo self.now.board.now clock self.now.rows until.new }
+    {
+        // Copied, and so not read again for each row.
+        let board = self.board;
+        let rows = self.rows;
+        let lowest = self.lowest;
+        let mut row = None;
+        // Counted: the step number is handed on, and the row is stored and read in several arrays.
+        'search: for number in lowest..8 {
+            if self.numbers[number as usize] {
+                let mut turn = self.first;
+                while turn < TURNS {
+                    let mut next = TURNS;
+                    for i in 0..rows {
+                        if is_ready(board, i, number, lowest, clock) {
+                            let here = turn_at(self.classes, i);
+                            if here != turn {
+                                next = next_turn(turn, here, next);
+                            } else {
+                                let moment = self.tried_until(clock, i);
+                                if moment == clock {
+                                    row = Some(i);
+                                    break 'search;
+                                }
+                                until[i] = moment;
+                            }
+                        }
+                    }
+                    turn = next;
+                }
+            }
+        }
+        row
+    }
 }

@@ -13,11 +13,7 @@ pub const TURNS: u8 = 4;
 fn turn_of(class: u8) -> u8
     ensures { result ≡ most_class - class }
 {
-    if class < MOST_CLASS {
-        MOST_CLASS - class
-    } else {
-        0
-    }
+    MOST_CLASS.saturating_sub(class)
 }
 
 // Gives the turn of row i.
@@ -33,10 +29,9 @@ pub fn turn_at(classes: &[u8; MOST_ROWS], i: usize) -> u8
 pub fn first_turn(classes: &[u8; MOST_ROWS]) -> u8
     ensures { FirstTurn classes.now result }
 {
-    let mut highest = 0;
-    for i in 0..MOST_ROWS {
-        let class = classes[i];
-        highest = if highest < class { class } else { highest };
+    let mut highest: u8 = 0;
+    for class in classes {
+        highest = highest.max(*class);
     }
     turn_of(highest)
 }
@@ -49,5 +44,5 @@ pub fn next_turn(turn: u8, here: u8, next: u8) -> u8
     if here <= turn {
         return next;
     }
-    if here < next { here } else { next }
+    here.min(next)
 }

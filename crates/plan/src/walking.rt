@@ -1,21 +1,12 @@
 // The open rows, gone over in the stack's order but for the row whose step is tried: each finished
 // when the one before is and its own wait is over, and each in time.
-ghost use Rattle.std.specs.Prelude.{◌≡◌, ◌+◌, max, ◌≤◌, ltb};
+ghost use Rattle.std.specs.Prelude.{◌≡◌, ◌+◌, max, ◌≤◌, ltb, length, IfSome};
 ghost use Rattle.rules.specs.Plan.{in_time_by};
 ghost use Rattle.plan.specs.inner.Passing.{jobs_of};
-ghost use Rattle.plan.specs.inner.Walks.{
-  RowsIn,
-  WalkFits,
-  others_in,
-  rows_from,
-  walk_in,
-  walked_to,
-};
+ghost use Rattle.plan.specs.inner.Walks.{RowsIn, WalkFits, others_in, walk_in, walked_of};
 
 use crate::orders::stands_before;
-use crate::parts::{DUE, LEFT, MOMENT_PLACES, RELEASE, moment_at};
-use crate::{Plan, Walked};
-use load::MOST_ROWS;
+use crate::{Board, Plan, Walked};
 
 impl Plan {
     // Finishes a row's window, behind the one before and from its release on.
@@ -23,11 +14,7 @@ impl Plan {
         requires { self.time ≤ 4294967295 }
         ensures { (result.time ≡ max self.time release + left) × (result.time ≤ 8589934590) }
     {
-        if self.time < release as u64 {
-            self.time = release as u64 + left as u64;
-            return self;
-        }
-        self.time += left as u64;
+        self.time = self.time.max(release as u64) + left as u64;
         self
     }
 }
@@ -48,28 +35,19 @@ fn is_late(due: u32, time: u64) -> bool
     (due as u64) < time
 }
 
-// Says whether the rows of the order from a place on, but row i, are each in time, the first begun
-// at a moment.
-pub fn are_in_time(
-    moments: &[u32; MOMENT_PLACES],
-    order: &[u8; MOST_ROWS],
-    count: usize,
-    i: usize,
-    from: usize,
-    begin: u32,
-) -> bool
-    requires { RowsIn order.now count × (from ≤ count) }
+// Says whether the rows of a stack, but row i, are each in time, the first begun at a moment.
+pub fn are_in_time(board: &Board, stack: &[u8], i: usize, begin: u32) -> bool
+    requires { RowsIn stack.now }
     ensures { result ≡ in_time_by
-        (jobs_of moments.now) begin
-        (others_in i (rows_from order.now count from)) }
+        (jobs_of board.now) begin (others_in i stack.now) }
 {
     let mut plan = Plan { time: begin as u64 };
-    for place in from..count {
-        let row = order[place] as usize;
+    for row in stack {
+        let row = *row as usize;
         if row != i {
-            let left = moment_at(moments, LEFT, row);
-            plan = plan.finish(moment_at(moments, RELEASE, row), left);
-            if is_late(moment_at(moments, DUE, row), plan.time) {
+            let left = board.left[row];
+            plan = plan.finish(board.release[row], left);
+            if is_late(board.due[row], plan.time) {
                 return false;
             }
         }
@@ -77,51 +55,39 @@ pub fn are_in_time(
     true
 }
 
-// Gives what a walk has come to.
-fn walked_to(place: usize, plan: Plan, work: u64, late: bool) -> Walked
-    ensures { result ≡ walked_to place plan.time work late }
-{
-    Walked {
-        place,
-        time: plan.time,
-        work,
-        late,
-    }
-}
-
-// Goes over the rows of the order, but row i, that stand before row i where its window is due at
+// Goes over the rows of a stack, but row i, that stand before row i where its window is due at
 // own, the first begun at a moment: gives the place behind them, the moment at which they are
-// finished and the sum of what was left of them; or says that one was late, and goes no further.
-pub fn rows_before(
-    moments: &[u32; MOMENT_PLACES],
-    order: &[u8; MOST_ROWS],
-    count: usize,
-    i: usize,
-    own: u32,
-    begin: u32,
-) -> Walked
-    requires { RowsIn order.now count }
-    ensures value { result ≡ walk_in
-        (jobs_of moments.now) i own
-        (rows_from order.now count 0) 0 begin 0 }
-    ensures walk_fits { WalkFits count result }
+// finished and the sum of what was left of them; and nothing where one was late.
+pub fn rows_before(board: &Board, stack: &[u8], i: usize, own: u32, begin: u32) -> Option<Walked>
+    requires { RowsIn stack.now }
+    ensures value { result ≡ walked_of (walk_in
+        (jobs_of board.now) i own stack.now 0 begin 0) }
+    ensures walk_fits { IfSome result (WalkFits (length stack.now)) }
 {
     let mut plan = Plan { time: begin as u64 };
     let mut work: u64 = 0;
-    for place in 0..count {
-        let row = order[place] as usize;
+    for (place, row) in stack.iter().enumerate() {
+        let row = *row as usize;
         if row != i {
-            let due = moment_at(moments, DUE, row);
+            let due = board.due[row];
             if stands_before(own, i, due, row) {
-                return walked_to(place, plan, work, false);
+                return Some(Walked {
+                    place,
+                    time: plan.time,
+                    work,
+                });
             }
-            let left = moment_at(moments, LEFT, row);
-            plan = plan.finish(moment_at(moments, RELEASE, row), left);
+            let left = board.left[row];
+            plan = plan.finish(board.release[row], left);
             work = with_work(work, left);
             if is_late(due, plan.time) {
-                return walked_to(place + 1, plan, work, true);
+                return None;
             }
         }
     }
-    walked_to(count, plan, work, false)
+    Some(Walked {
+        place: stack.len(),
+        time: plan.time,
+        work,
+    })
 }

@@ -2,7 +2,7 @@
 use Prim.Native.Nat.{ℕ}
 use mathlib.Core.List.{List}
 use mathlib.Core.Path.{◌≡◌, ap, sym, ◌∙◌}
-use Rattle.refusals.specs.declared.Checked.{Checked}
+use Rattle.refusals.specs.Checked.{Checked}
 use Rattle.refusals.specs.Refusals.{number_given}
 use Rattle.refusals.proofs.CallLaws.{Given-unique-finding, Given-unique-output}
 use Rattle.reading_bench.specs.Calls.{Numbered, BenchBound, BenchVerdict, BenchMargins, BenchSchedule}

@@ -4,8 +4,8 @@ use mathlib.Core.List.{List, [], ◌∷◌}
 use mathlib.Core.Path.{◌≡◌, refl}
 use Rattle.words.specs.LittleEndian.{number_at}
 use Rattle.refusals.specs.declared.Refusal.TheVariants.{OutputShort, EndDiffers}
-use Rattle.refusals.specs.declared.Checked.{Checked}
-use Rattle.refusals.specs.declared.Checked.TheVariants.{Good, Refused}
+use Rattle.refusals.specs.Checked.{Checked}
+use Rattle.std.specs.Prelude.{Ok, Err}
 use Rattle.refusals.specs.FirstMet.{first_fault}
 use Rattle.refusals.specs.Refusals.{number_given}
 use Rattle.refusals.specs.Given.{if_good, written, room_for}
@@ -43,19 +43,19 @@ pub worked-calls : WorkedCalls
 unfolding reading
 worked-calls =
     record {
-      bound-bytes = told Good refl refl refl;
-      bound-room = told Good refl refl refl;
-      bound-short = told (Refused OutputShort) refl refl refl;
-      verdict-yes = told Good refl refl refl;
-      verdict-no = told Good refl refl refl;
-      verdict-room = told Good refl refl refl;
-      verdict-short = told (Refused OutputShort) refl refl refl;
-      margin-bytes = told Good refl refl refl;
-      margin-room = told Good refl refl refl;
-      margin-short = told (Refused OutputShort) refl refl refl;
-      schedule-bytes = told Good refl refl refl;
-      schedule-room = told Good refl refl refl;
-      schedule-short = told (Refused OutputShort) refl refl refl;
-      file-first = told (Refused EndDiffers) refl refl refl;
-      refused-alone = told (Refused EndDiffers) refl refl refl;
+      bound-bytes = told (Ok tt) refl refl refl;
+      bound-room = told (Ok tt) refl refl refl;
+      bound-short = told (Err OutputShort) refl refl refl;
+      verdict-yes = told (Ok tt) refl refl refl;
+      verdict-no = told (Ok tt) refl refl refl;
+      verdict-room = told (Ok tt) refl refl refl;
+      verdict-short = told (Err OutputShort) refl refl refl;
+      margin-bytes = told (Ok tt) refl refl refl;
+      margin-room = told (Ok tt) refl refl refl;
+      margin-short = told (Err OutputShort) refl refl refl;
+      schedule-bytes = told (Ok tt) refl refl refl;
+      schedule-room = told (Ok tt) refl refl refl;
+      schedule-short = told (Err OutputShort) refl refl refl;
+      file-first = told (Err EndDiffers) refl refl refl;
+      refused-alone = told (Err EndDiffers) refl refl refl;
     }

@@ -3,7 +3,7 @@
 use Rattle.std.specs.Prelude.{ℕ, List, [], ◌∷◌, ◌≡◌}
 use Rattle.counting.specs.Sums.{bit}
 use Rattle.words.specs.LittleEndian.{little_endian}
-use Rattle.refusals.specs.declared.Checked.{Checked}
+use Rattle.refusals.specs.Checked.{Checked}
 use Rattle.refusals.specs.Refusals.{number_given}
 use Rattle.refusals.specs.Given.{Given}
 use Rattle.load.specs.View.{View, view_of}

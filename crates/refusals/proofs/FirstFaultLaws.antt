@@ -7,8 +7,8 @@ use mathlib.Core.List.{List, [], ◌∷◌}
 use mathlib.Core.Path.{◌≡◌, refl, ap, ◌∙◌}
 use native.Mathlib.Omega.{arith}
 use Rattle.refusals.specs.declared.Refusal.{Refusal}
-use Rattle.refusals.specs.declared.Checked.{Checked}
-use Rattle.refusals.specs.declared.Checked.TheVariants.{Good, Refused}
+use Rattle.refusals.specs.Checked.{Checked}
+use Rattle.std.specs.Prelude.{Ok, Err}
 use Rattle.refusals.specs.FirstMet.{first_met, and_then, first_fault, first_fault_to}
 use Rattle.refusals.proofs.FirstMetLaws.{
   and_then-good-first,
@@ -25,27 +25,27 @@ test_at (t ∷ ts) (suc k) = test_at ts k
 
 -- the finding at a place, past the last Good
 abbrev pub finding_at : List Checked → ℕ → Checked
-finding_at [] k = Good
+finding_at [] k = Ok tt
 finding_at (f ∷ fs) zero = f
 finding_at (f ∷ fs) (suc k) = finding_at fs k
 
-pub first_met-good : (ts : List (Bool × Refusal)) → first_met ts ≡ Good → (k : ℕ) → test_at ts k ≡ false
+pub first_met-good : (ts : List (Bool × Refusal)) → first_met ts ≡ Ok tt → (k : ℕ) → test_at ts k ≡ false
 first_met-good [] e k = refl
 first_met-good (t ∷ ts) e zero = first_met-good-first t ts e
 first_met-good (t ∷ ts) e (suc k) = first_met-good ts (first_met-good-rest t ts e) k
 
-pub first_fault-good : (fs : List Checked) → first_fault fs ≡ Good → (k : ℕ) → finding_at fs k ≡ Good
+pub first_fault-good : (fs : List Checked) → first_fault fs ≡ Ok tt → (k : ℕ) → finding_at fs k ≡ Ok tt
 first_fault-good [] e k = refl
 first_fault-good (f ∷ fs) e zero = and_then-good-first f (first_fault fs) e
 first_fault-good (f ∷ fs) e (suc k) = first_fault-good fs (and_then-good-second f (first_fault fs) e) k
 
 -- one finding, and where it is Good the next
-pub and_then-agree : (a b x y : Checked) → a ≡ b → (a ≡ Good → x ≡ y) → and_then a x ≡ and_then b y
-and_then-agree Good b x y e h = h refl ∙ ap (λ c. and_then c y) e
-and_then-agree (Refused r) b x y e h = ap (λ c. and_then c y) e
+pub and_then-agree : (a b x y : Checked) → a ≡ b → (a ≡ Ok tt → x ≡ y) → and_then a x ≡ and_then b y
+and_then-agree (Ok tt) b x y e h = h refl ∙ ap (λ c. and_then c y) e
+and_then-agree (Err r) b x y e h = ap (λ c. and_then c y) e
 
 -- two first faults are one where the findings agree as long as those before them are Good
-pub first_fault_to-agree : (f g : ℕ → Checked) (m : ℕ) → ((i : ℕ) → i < m → first_fault_to f i ≡ Good → f i ≡ g i)
+pub first_fault_to-agree : (f g : ℕ → Checked) (m : ℕ) → ((i : ℕ) → i < m → first_fault_to f i ≡ Ok tt → f i ≡ g i)
     → first_fault_to f m ≡ first_fault_to g m
 unfolding first_fault_to
 first_fault_to-agree f g zero h = refl

@@ -7,38 +7,38 @@ use mathlib.Core.Path.{◌≡◌, refl}
 use native.Mathlib.Omega.{arith}
 use Rattle.counting.proofs.tests.TestLaws.{and_left, and_right}
 use Rattle.refusals.specs.declared.Refusal.{Refusal}
-use Rattle.refusals.specs.declared.Checked.{Checked}
-use Rattle.refusals.specs.declared.Checked.TheVariants.{Good, Refused}
+use Rattle.refusals.specs.Checked.{Checked}
+use Rattle.std.specs.Prelude.{Ok, Err}
 use Rattle.refusals.specs.FirstMet.{first_met, and_then, first_fault_to}
 
 -- each test's refusal passes
 abbrev pub each_passes : (Checked → Bool) → List (Bool × Refusal) → Bool
 each_passes p [] = true
-each_passes p (t ∷ ts) = p (Refused t.1) && each_passes p ts
+each_passes p (t ∷ ts) = p (Err t.1) && each_passes p ts
 
 -- what is found passes; a record, so that a finding is read off it
 pub record Passes (p : Checked → Bool) (found : Checked) : Type 0 where
   pub passes : p found ≡ true
 
-module _ (p : Checked → Bool) (good : Passes p Good) where
+module _ (p : Checked → Bool) (good : Passes p (Ok tt)) where
   pub first_met-passes : (ts : List (Bool × Refusal)) → each_passes p ts ≡ true → Passes p (first_met ts)
   first_met-passes [] each = good
   first_met-passes (t ∷ ts) each =
-      go t.0 (record { passes = and_left (p (Refused t.1)) (each_passes p ts) each })
-      (first_met-passes ts (and_right (p (Refused t.1)) (each_passes p ts) each))
+      go t.0 (record { passes = and_left (p (Err t.1)) (each_passes p ts) each })
+      (first_met-passes ts (and_right (p (Err t.1)) (each_passes p ts) each))
     where
-      go : (met : Bool) → Passes p (Refused t.1) → Passes p (first_met ts)
-          → Passes p (cond met (Refused t.1) (first_met ts))
+      go : (met : Bool) → Passes p (Err t.1) → Passes p (first_met ts)
+          → Passes p (cond met (Err t.1) (first_met ts))
       go true mine rest = mine
       go false mine rest = rest
 
-  pub and_then-passes : (a b : Checked) → Passes p a → (a ≡ Good → Passes p b) → Passes p (and_then a b)
-  and_then-passes Good b h next = next refl
-  and_then-passes (Refused refusal) b h next = h
+  pub and_then-passes : (a b : Checked) → Passes p a → (a ≡ Ok tt → Passes p b) → Passes p (and_then a b)
+  and_then-passes (Ok tt) b h next = next refl
+  and_then-passes (Err refusal) b h next = h
 
   -- nothing behind it
-  pub last-passes : (a : Checked) → Passes p a → Passes p (and_then a Good)
-  last-passes a h = and_then-passes a Good h (λ e. good)
+  pub last-passes : (a : Checked) → Passes p a → Passes p (and_then a (Ok tt))
+  last-passes a h = and_then-passes a (Ok tt) h (λ e. good)
 
   pub first_fault_to-passes : (f : ℕ → Checked) (n : ℕ) → ((i : ℕ) → i < n → Passes p (f i))
       → Passes p (first_fault_to f n)

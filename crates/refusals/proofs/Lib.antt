@@ -4,6 +4,8 @@ pub mod TableLaws
 pub mod FirstMetLaws
 pub mod FirstFaultLaws
 pub mod FoundLaws
+pub mod PassedOn
 pub mod GivenLaws
+pub mod GivenParts
 pub mod CallLaws
 pub mod WorkedHold

@@ -19,7 +19,7 @@ worked-hold =
       bytes_past = record { finding-is = refl; output-is = refl };
       refused-leaves = record { finding-is = refl; output-is = refl };
       nine-last = record { finding-is = refl; output-is = refl };
-      length-told = record { given = record { finding-is = refl; output-is = refl }; length-is = refl };
-      short-length = record { given = record { finding-is = refl; output-is = refl }; length-is = refl };
-      refused-length = record { given = record { finding-is = refl; output-is = refl }; length-is = refl };
+      length-told = record { length-is = refl; output-is = refl };
+      short-length = record { length-is = refl; output-is = refl };
+      refused-length = record { length-is = refl; output-is = refl };
     }

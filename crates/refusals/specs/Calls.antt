@@ -1,7 +1,7 @@
 -- What each public call's contract says: one relation a call, over what it takes and what it gives.
 use Rattle.std.specs.Prelude.{ℕ, ◌≡◌}
 use Rattle.refusals.specs.declared.Refusal.{Refusal}
-use Rattle.refusals.specs.declared.Checked.{Checked}
+use Rattle.refusals.specs.Checked.{Checked}
 use Rattle.refusals.specs.Refusals.{number_of, number_given}
 
 -- number_of(refusal): the table's number

@@ -1,10 +1,9 @@
 -- "Numbers given back": the number of each refusal, the last number, and the number of what a check
 -- finds.
-use Rattle.std.specs.Prelude.{ℕ}
+use Rattle.std.specs.Prelude.{ℕ, Ok, Err}
 use Rattle.refusals.specs.declared.Refusal.{Refusal}
 use Rattle.refusals.specs.declared.Refusal.TheVariants as refusal
-use Rattle.refusals.specs.declared.Checked.{Checked}
-use Rattle.refusals.specs.declared.Checked.TheVariants.{Good, Refused}
+use Rattle.refusals.specs.Checked.{Checked}
 
 -- the table's number of a refusal
 abbrev pub number_of : Refusal → ℕ
@@ -37,5 +36,5 @@ last_number = 22
 
 -- the number of what a check finds: 0 where it refuses nothing
 abbrev pub number_given : Checked → ℕ
-number_given Good = 0
-number_given (Refused refusal) = number_of refusal
+number_given (Ok tt) = 0
+number_given (Err refusal) = number_of refusal

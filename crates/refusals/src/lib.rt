@@ -4,7 +4,7 @@
 ghost use Rattle.refusals.specs.Calls.{NumberOf, NumberGiven};
 
 // The refusals, in the order of their numbers.
-#[derive(Clone, Copy)]
+#[derive(Clone, Copy, Debug, PartialEq, Eq)]
 pub enum Refusal {
     FileShort,
     MarkDiffers,
@@ -30,57 +30,53 @@ pub enum Refusal {
     NotCarried,
 }
 
-// What a check finds: nothing to refuse, or the refusal that comes first.
-#[derive(Clone, Copy)]
-pub enum Checked {
-    Good,
-    Refused(Refusal),
-}
+// A refusal's number.
+impl From<Refusal> for u32 {
+    ghost from_gives = { NumberOf };
 
-// What a call gives that writes and tells a length: Good and the length of what was written, or the
-// refusal and 0.
-#[derive(Clone, Copy)]
-pub struct Written {
-    pub answer: Checked,
-    pub length: usize,
+    // A match over the names, as each number of the table belongs to one refusal.
+    fn from(refusal: Refusal) -> u32 {
+        match refusal {
+            Refusal::FileShort => 1,
+            Refusal::MarkDiffers => 2,
+            Refusal::OutOfRange => 3,
+            Refusal::IdentifierTaken => 4,
+            Refusal::BoxTaken => 5,
+            Refusal::WindowSteps => 6,
+            Refusal::LimitBelowChain => 7,
+            Refusal::EndDiffers => 8,
+            Refusal::OutputShort => 9,
+            Refusal::StateShape => 10,
+            Refusal::ClockFull => 11,
+            Refusal::SlotCount => 12,
+            Refusal::NoSuchSlot => 13,
+            Refusal::SlotOverlaps => 14,
+            Refusal::SlotEarly => 15,
+            Refusal::WindowLate => 16,
+            Refusal::RowLate => 17,
+            Refusal::LineMalformed => 18,
+            Refusal::RowDiffers => 19,
+            Refusal::WindowDash => 20,
+            Refusal::FactoryIdentifier => 21,
+            Refusal::NotCarried => 22,
+        }
+    }
 }
 
 // Gives a refusal's number.
 pub fn number_of(refusal: Refusal) -> u32
     ensures { NumberOf refusal result }
 {
-    match refusal {
-        Refusal::FileShort => 1,
-        Refusal::MarkDiffers => 2,
-        Refusal::OutOfRange => 3,
-        Refusal::IdentifierTaken => 4,
-        Refusal::BoxTaken => 5,
-        Refusal::WindowSteps => 6,
-        Refusal::LimitBelowChain => 7,
-        Refusal::EndDiffers => 8,
-        Refusal::OutputShort => 9,
-        Refusal::StateShape => 10,
-        Refusal::ClockFull => 11,
-        Refusal::SlotCount => 12,
-        Refusal::NoSuchSlot => 13,
-        Refusal::SlotOverlaps => 14,
-        Refusal::SlotEarly => 15,
-        Refusal::WindowLate => 16,
-        Refusal::RowLate => 17,
-        Refusal::LineMalformed => 18,
-        Refusal::RowDiffers => 19,
-        Refusal::WindowDash => 20,
-        Refusal::FactoryIdentifier => 21,
-        Refusal::NotCarried => 22,
-    }
+    u32::from(refusal)
 }
 
 // Gives the number of what a check finds; 0 where it refuses nothing.
-pub fn number_given(found: Checked) -> u32
+// A number and no Option: it is what C is told, 0 as well (D47).
+pub fn number_given(found: Result<(), Refusal>) -> u32
     ensures { NumberGiven found result }
 {
     match found {
-        Checked::Good => 0,
-        Checked::Refused(refusal) => number_of(refusal),
+        Ok(()) => 0,
+        Err(refusal) => number_of(refusal),
     }
 }

@@ -27,6 +27,7 @@ fn answer(file: [u8; FILE_PLACES], size: usize) -> Text
 }
 
 // Reads, prints and writes.
+// As in blame, `answer` too, but for one call and one text: no library call may read (D85).
 fn main(rt: HostRuntime) -> io::Result<ExitCode> {
     let mut file = [0u8; FILE_PLACES];
     let size = read_full(rt.stdin(), &mut file);

@@ -1,4 +1,6 @@
 // Standard input, read as far as there is room, and what is told where a write fails.
+// It stands alike in each program: a library's call has a relation, and what comes from standard
+// input has none (D96).
 ghost use Rattle.std.specs.Prelude.{◌≤◌, length};
 
 use std::io::{self, Read};

@@ -9,7 +9,7 @@ use lib.IntN.{pos, negsuc, ◌-ℤ◌}
 use lib.ListN.{length}
 use borrow.Author.Tests.{not-true, ltb-false}
 use Rattle.counting.proofs.tests.TestLaws.{all_to-true, true-false}
-use Rattle.refusals.specs.declared.Checked.TheVariants as found
+use Rattle.std.specs.Prelude.{Ok}
 use Rattle.load.specs.declared.Load.{Load}
 use Rattle.load.specs.View.{View, view_of}
 use Rattle.load.specs.Check.{check_load}
@@ -122,10 +122,10 @@ pub demand3 : (L : View) → Acceptable L → Demand3 L
 demand3 L ok = runnable-demand3 L (acceptable-runnable L ok)
 
 -- a load in memory that is not refused
-module _ (load : Load) (accepted : check_load load ≡ found.Good) where
+module _ (load : Load) (accepted : check_load load ≡ Ok tt) where
   pub accepted-demand3 : Demand3 (view_of load)
   accepted-demand3 = demand3 (view_of load) (check-acceptable load accepted)
 
-  pub accepted-passes : verdict (view_of load) ≡ true → check_schedule load (schedule (view_of load)) ≡ found.Good
+  pub accepted-passes : verdict (view_of load) ≡ true → check_schedule load (schedule (view_of load)) ≡ Ok tt
   unfolding check_schedule
   accepted-passes v = rw (accepted, accepted-demand3.passes v)

@@ -14,7 +14,7 @@ use Rattle.refusals.specs.declared.Refusal.TheVariants.{
   WindowLate,
   RowLate,
 }
-use Rattle.refusals.specs.declared.Checked.{Checked}
+use Rattle.refusals.specs.Checked.{Checked}
 use Rattle.refusals.specs.FirstMet.{first_met, first_fault, first_fault_to}
 use Rattle.load.specs.declared.Load.{Load}
 use Rattle.load.specs.Load.{last_moment, shown}

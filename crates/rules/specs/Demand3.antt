@@ -1,10 +1,9 @@
 -- Demand 3: what is promised of the run of every load that is not refused, started fresh, each step
 -- at full cost. To be read after Run, Check, ScheduleRules and Margins.
-use Rattle.std.specs.Prelude.{ℕ, ◌≤◌, ◌<◌, true, ◌≡◌, length}
+use Rattle.std.specs.Prelude.{ℕ, ◌≤◌, ◌<◌, true, ◌≡◌, length, Ok, Err}
 use Rattle.counting.specs.Lists.{join_to}
 use Rattle.refusals.specs.declared.Refusal.TheVariants.{RowLate}
-use Rattle.refusals.specs.declared.Checked.{Checked}
-use Rattle.refusals.specs.declared.Checked.TheVariants as finding
+use Rattle.refusals.specs.Checked.{Checked}
 use Rattle.load.specs.View.{View, is_free}
 use Rattle.rules.specs.declared.Outcome.TheVariants.{Done}
 use Rattle.rules.specs.Bound.{bound}
@@ -19,8 +18,8 @@ use Rattle.rules.specs.ScheduleRules.{SlotRules, ScheduleRules}
 
 -- Good, or 17
 pub data GoodOrLate (c : Checked) : Type 0 where
-  good : c ≡ finding.Good → GoodOrLate c
-  late : c ≡ finding.Refused RowLate → GoodOrLate c
+  good : c ≡ Ok tt → GoodOrLate c
+  late : c ≡ Err RowLate → GoodOrLate c
 
 -- the promise, for the view of a load
 pub record Demand3 (L : View) : Type 0 where
@@ -55,4 +54,4 @@ pub record Demand3 (L : View) : Type 0 where
   pub checked : GoodOrLate (check_slots L (schedule L))
   -- where no margin is negative, deadlines are kept, and the check says yes
   pub deadlines : verdict L ≡ true → ScheduleRules L (schedule L)
-  pub passes : verdict L ≡ true → check_slots L (schedule L) ≡ finding.Good
+  pub passes : verdict L ≡ true → check_slots L (schedule L) ≡ Ok tt

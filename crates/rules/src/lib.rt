@@ -12,6 +12,7 @@ pub const MOST_PLACES: usize = MOST_STEPS - 1;
 pub const SLOT_PLACES: usize = 256;
 
 // The largest W of a place, and its row, counted from 1; 0 and 0 where nothing is left of a wait.
+// Zeros and no Option: the relation PlaceWaitsOf gives these numbers.
 #[derive(Clone, Copy)]
 pub struct LargestW {
     pub left: u16,
@@ -19,6 +20,7 @@ pub struct LargestW {
 }
 
 // The place and the row with the largest W, both counted from 1; 0 and 0 where every W is 0.
+// Zeros and no Option: the relations BlamesOf and AnswersOf give these numbers.
 #[derive(Clone, Copy)]
 pub struct Blame {
     pub place: u8,
@@ -34,6 +36,7 @@ pub struct Slot {
 }
 
 // What a move answers.
+// Refused is a case, and no Err: by NextMove a refused move hands the bench back too (D25).
 #[derive(Clone, Copy)]
 pub enum Outcome {
     Start(Slot),

@@ -1,6 +1,6 @@
 -- What each public call's contract says: one relation a call, over what it takes and what it gives.
 use Rattle.std.specs.Prelude.{ℕ, min, List, ◌≡◌, take}
-use Rattle.refusals.specs.declared.Checked.{Checked}
+use Rattle.refusals.specs.Checked.{Checked}
 use Rattle.load.specs.declared.Load.{Load}
 use Rattle.rules.specs.declared.Slot.{Slot}
 use Rattle.rules.specs.Slots.{slot_places}

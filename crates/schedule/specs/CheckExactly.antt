@@ -1,7 +1,6 @@
 -- Demand 2 for schedules: "the schedule check says yes exactly when document 01's rules hold". Over
 -- the definition that the check's contract cites. To be read after Calls.
-use Rattle.std.specs.Prelude.{List, ◌↔◌, ◌≡◌}
-use Rattle.refusals.specs.declared.Checked.TheVariants.{Good}
+use Rattle.std.specs.Prelude.{List, ◌↔◌, ◌≡◌, Ok}
 use Rattle.load.specs.declared.Load.{Load}
 use Rattle.load.specs.View.{view_of}
 use Rattle.load.specs.Check.{check_load}
@@ -11,10 +10,10 @@ use Rattle.rules.specs.ScheduleRules.{ScheduleRules}
 
 -- a load that is not refused, and slots that keep the rules
 pub record KeepsRules (load : Load) (slots : List Slot) : Type 0 where
-  pub accepted : check_load load ≡ Good
+  pub accepted : check_load load ≡ Ok tt
   pub rules : ScheduleRules (view_of load) slots
 
 -- the check says yes exactly of these
 abbrev pub CheckExactly : Type 0
 CheckExactly =
-    (load : Load) (slots : List Slot) → (check_schedule load slots ≡ Good) ↔ KeepsRules load slots
+    (load : Load) (slots : List Slot) → (check_schedule load slots ≡ Ok tt) ↔ KeepsRules load slots

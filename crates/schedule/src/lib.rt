@@ -6,10 +6,9 @@ mod check;
 mod found;
 mod seen;
 
-pub use check::{check_array, check_schedule};
+pub use check::{at_most_places, check_array, check_schedule};
 use load::{MOST_ROWS, MOST_STEPS};
 pub use rules::SLOT_PLACES;
-pub use seen::at_most_places;
 
 // A schedule has at most 192 slots: 24 rows of 8 steps.
 pub const MOST_SLOTS: usize = MOST_ROWS * MOST_STEPS;

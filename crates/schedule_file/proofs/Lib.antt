@@ -1,7 +1,6 @@
 -- The laws of the calls that write slots: what the code gathers is what the definitions say of all slots.
 pub mod FileLaws
 pub mod RoomLaws
-pub mod ArrayLaws
-pub mod GatheredLaws
+pub mod RecordLaws
 pub mod CallLaws
 pub mod WorkedHold

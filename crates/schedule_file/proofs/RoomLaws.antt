@@ -12,15 +12,15 @@ use borrow.Author.Tests.{lt-ltb, ltb-false}
 use Rattle.words.proofs.OverwriteLaws.{sets-front}
 use Rattle.refusals.specs.declared.Refusal.{Refusal}
 use Rattle.refusals.specs.declared.Refusal.TheVariants.{OutOfRange, OutputShort}
-use Rattle.refusals.specs.declared.Checked.{Checked}
-use Rattle.refusals.specs.declared.Checked.TheVariants.{Good, Refused}
+use Rattle.refusals.specs.Checked.{Checked}
+use Rattle.std.specs.Prelude.{Ok, Err}
 use Rattle.refusals.specs.FirstMet.{first_met, first_fault}
 use Rattle.refusals.specs.Given.{room_for, Given}
 use Rattle.refusals.proofs.FirstMetLaws.{and_then-good-first, and_then-good-second, first_met-good-first}
 use Rattle.rules.specs.Slots.{most_slots}
 use Rattle.schedule_file.specs.ScheduleFile.{slot_place, count_fault, room_fault}
 
-module _ (n room : ℕ) (good : room_fault n room ≡ Good) where
+module _ (n room : ℕ) (good : room_fault n room ≡ Ok tt) where
   -- what is found of the room
   abbrev room_found : Checked
   room_found = first_fault (first_met ((ltb room (slot_place n), OutputShort) ∷ []) ∷ [])
@@ -34,7 +34,7 @@ module _ (n room : ℕ) (good : room_fault n room ≡ Good) where
   room_fits =
       ltb-false room (slot_place n)
       (first_met-good-first (ltb room (slot_place n), OutputShort) []
-      (and_then-good-first _ Good (and_then-good-second (count_fault n) room_found good)))
+      (and_then-good-first _ (Ok tt) (and_then-good-second (count_fault n) room_found good)))
 
 module _ (n : ℕ) (answer out : List ℕ) (long : n ≤ most_slots → length answer ≡ slot_place n) where
   room-found : room_fault n (length out) ≡ first_fault (count_fault n ∷ room_for answer out ∷ [])
@@ -44,12 +44,12 @@ module _ (n : ℕ) (answer out : List ℕ) (long : n ≤ most_slots → length a
         | no l ↦ rw (long (omega arith))
       ]
 
-  pub room-refused : (refusal : Refusal) → room_fault n (length out) ≡ Refused refusal
-      → Given (count_fault n) answer out (Refused refusal) out
+  pub room-refused : (refusal : Refusal) → room_fault n (length out) ≡ Err refusal
+      → Given (count_fault n) answer out (Err refusal) out
   room-refused refusal e = record { finding-is = sym e ∙ room-found; output-is = refl }
 
-  pub room-written : (after : List ℕ) → room_fault n (length out) ≡ Good → after ≡ sets out 0 answer
-      → Given (count_fault n) answer out Good after
+  pub room-written : (after : List ℕ) → room_fault n (length out) ≡ Ok tt → after ≡ sets out 0 answer
+      → Given (count_fault n) answer out (Ok tt) after
   room-written after e w =
       let size : length answer ≡ slot_place n = long (room-few n (length out) e) in
       record {

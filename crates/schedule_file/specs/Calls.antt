@@ -1,7 +1,7 @@
 -- What each public call's contract says: one relation a call, over what it takes, what it gives,
 -- and what the lent bytes hold afterwards. To be read after ScheduleFile.
 use Rattle.std.specs.Prelude.{ℕ, List, ◌≡◌}
-use Rattle.refusals.specs.declared.Checked.{Checked}
+use Rattle.refusals.specs.Checked.{Checked}
 use Rattle.refusals.specs.Given.{Given}
 use Rattle.rules.specs.declared.Slot.{Slot}
 use Rattle.schedule.specs.Calls.{first_slots}

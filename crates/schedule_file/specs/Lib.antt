@@ -2,4 +2,3 @@
 pub mod ScheduleFile
 pub mod Calls
 pub mod WorkedCases
-pub mod inner

@@ -5,7 +5,7 @@ use Rattle.std.specs.Prelude.{ℕ, ◌+◌, ◌*◌, List, [], ◌∷◌, ◌++�
 use Rattle.counting.specs.Lists.{join_in}
 use Rattle.words.specs.LittleEndian.{little_endian}
 use Rattle.refusals.specs.declared.Refusal.TheVariants.{OutOfRange, OutputShort}
-use Rattle.refusals.specs.declared.Checked.{Checked}
+use Rattle.refusals.specs.Checked.{Checked}
 use Rattle.refusals.specs.FirstMet.{first_met, first_fault}
 use Rattle.rules.specs.declared.Slot.{Slot}
 use Rattle.rules.specs.Slots.{most_slots}

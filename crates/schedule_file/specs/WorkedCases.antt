@@ -2,9 +2,8 @@
 -- 4C, row (1), step (1), start (4)"; "their numbers unchecked, with 3 for more than 192"; "nothing
 -- lent is altered"; "Output beyond what is written stays". Worked by hand from those words. To be
 -- read after Calls.
-use Rattle.std.specs.Prelude.{ℕ, List, [], ◌∷◌, ◌++◌, ◌≡◌, replicate}
+use Rattle.std.specs.Prelude.{ℕ, List, [], ◌∷◌, ◌++◌, ◌≡◌, replicate, Ok, Err}
 use Rattle.refusals.specs.declared.Refusal.TheVariants.{OutOfRange, OutputShort}
-use Rattle.refusals.specs.declared.Checked.TheVariants.{Good, Refused}
 use Rattle.rules.specs.declared.Slot.{Slot}
 use Rattle.schedule.specs.Calls.{first_slots}
 use Rattle.schedule_file.specs.ScheduleFile.{slots_fault, schedule_bytes}
@@ -45,11 +44,11 @@ pub record WorkedCases : Type 0 where
   pub slot : SlotRecord 1 2 12
       (0x53 ∷ 0x4C ∷ 0x01 ∷ 0x02 ∷ 0x0C ∷ 0x00 ∷ 0x00 ∷ 0x00 ∷ [])
   -- two slots take 20 bytes: one byte less is 9
-  pub room-short : CheckRoom 2 19 (Refused OutputShort)
-  pub room-exact : CheckRoom 2 20 Good
+  pub room-short : CheckRoom 2 19 (Err OutputShort)
+  pub room-exact : CheckRoom 2 20 (Ok tt)
   -- the room for 192 slots, and 3 for one more, whatever the room
-  pub room_most : CheckRoom 192 1540 Good
-  pub room-never : (room : ℕ) → CheckRoom 193 room (Refused OutOfRange)
+  pub room_most : CheckRoom 192 1540 (Ok tt)
+  pub room-never : (room : ℕ) → CheckRoom 193 room (Err OutOfRange)
   -- the file of no slot
   pub none : schedule_bytes [] ≡ 0x53 ∷ 0x43 ∷ 0x00 ∷ 0x00 ∷ []
   -- the file of one slot, byte for byte
@@ -57,22 +56,22 @@ pub record WorkedCases : Type 0 where
   -- the file of two slots, whatever their numbers
   pub two : schedule_bytes (a_slot ∷ odd_slot ∷ []) ≡ file_of_two
   -- 192 slots are not too many
-  pub most : slots_fault (replicate 192 a_slot) ≡ Good
+  pub most : slots_fault (replicate 192 a_slot) ≡ Ok tt
   -- 193 are refused with 3
-  pub one_more : slots_fault (replicate 193 a_slot) ≡ Refused OutOfRange
+  pub one_more : slots_fault (replicate 193 a_slot) ≡ Err OutOfRange
   -- 192 slots are written where there is room for 4 + 8 * 192 bytes
-  pub most-fit : WriteSchedule (replicate 192 a_slot) (room_of 1540) Good
+  pub most-fit : WriteSchedule (replicate 192 a_slot) (room_of 1540) (Ok tt)
       (schedule_bytes (replicate 192 a_slot))
   -- 3 comes before 9: 193 slots into no room
-  pub three-first : WriteSchedule (replicate 193 a_slot) [] (Refused OutOfRange) []
+  pub three-first : WriteSchedule (replicate 193 a_slot) [] (Err OutOfRange) []
   -- what is refused with 3 leaves the output
   pub three-leaves : WriteSchedule (replicate 193 a_slot) (room_of 5)
-      (Refused OutOfRange) (room_of 5)
+      (Err OutOfRange) (room_of 5)
   -- a room of one byte less than the file is refused with 9, and stays
-  pub short : WriteSchedule (a_slot ∷ []) (room_of 11) (Refused OutputShort) (room_of 11)
+  pub short : WriteSchedule (a_slot ∷ []) (room_of 11) (Err OutputShort) (room_of 11)
   -- a room of the file's length is enough
-  pub exact : WriteSchedule (a_slot ∷ []) (room_of 12) Good file_of_one
+  pub exact : WriteSchedule (a_slot ∷ []) (room_of 12) (Ok tt) file_of_one
   -- bytes past the file stay
-  pub longer : WriteSchedule (a_slot ∷ []) (room_of 14) Good (file_of_one ++ room_of 2)
+  pub longer : WriteSchedule (a_slot ∷ []) (room_of 14) (Ok tt) (file_of_one ++ room_of 2)
   -- the first two slots of an array of three
   pub front : first_slots (a_slot ∷ odd_slot ∷ a_slot ∷ []) 2 ≡ a_slot ∷ odd_slot ∷ []

@@ -3,10 +3,8 @@
 // them one by one, asks for the room, and writes the head and each record itself.
 #![tactic(auto)]
 
-mod array;
 mod records;
 mod write;
 
-pub use array::write_array;
 pub use records::{HEADER_SIZE, SLOT_SIZE, check_room, head_record, slot_record};
-pub use write::write_schedule;
+pub use write::{write_array, write_schedule};

@@ -2,7 +2,7 @@
 // whether there is room.
 ghost use Rattle.schedule_file.specs.Calls.{CheckRoom, HeadRecord, SlotRecord};
 
-use refusals::{Checked, Refusal};
+use refusals::Refusal;
 use schedule::MOST_SLOTS;
 use words::{bytes16, bytes32};
 
@@ -46,14 +46,14 @@ pub fn slot_record(row: u8, step: u8, start: u32) -> [u8; SLOT_SIZE]
 }
 
 // Gives what the writing of n slots into so many bytes is refused for: 3 for more than 192, then 9.
-pub fn check_room(n: usize, room: usize) -> Checked
+pub fn check_room(n: usize, room: usize) -> Result<(), Refusal>
     ensures { CheckRoom n room result }
 {
     if MOST_SLOTS < n {
-        return Checked::Refused(Refusal::OutOfRange);
+        return Err(Refusal::OutOfRange);
     }
     if room < HEADER_SIZE + SLOT_SIZE * n {
-        return Checked::Refused(Refusal::OutputShort);
+        return Err(Refusal::OutputShort);
     }
-    Checked::Good
+    Ok(())
 }

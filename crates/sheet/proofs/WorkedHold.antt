@@ -49,10 +49,10 @@ pub sheets-hold : WorkedSheets
 unfolding computing
 sheets-hold =
     record {
-      written = record { given = record { finding-is = refl; output-is = refl }; length-is = refl };
-      room-more = record { given = record { finding-is = refl; output-is = refl }; length-is = refl };
-      room-less = record { given = record { finding-is = refl; output-is = refl }; length-is = refl };
-      none_written = record { given = record { finding-is = refl; output-is = refl }; length-is = refl };
+      written = record { length-is = refl; output-is = refl };
+      room-more = record { length-is = refl; output-is = refl };
+      room-less = record { length-is = refl; output-is = refl };
+      none_written = record { length-is = refl; output-is = refl };
       none_read = refl;
       read = refl;
       refused = refl;
@@ -87,14 +87,15 @@ pub urgent-hold : WorkedUrgent
 unfolding computing
 urgent-hold =
     record {
-      plain = record { given = record { finding-is = refl; output-is = refl }; length-is = refl };
-      with-room = record { given = record { finding-is = refl; output-is = refl }; length-is = refl };
-      room-less = record { given = record { finding-is = refl; output-is = refl }; length-is = refl };
-      no_room = record { given = record { finding-is = refl; output-is = refl }; length-is = refl };
-      last_row = record { given = record { finding-is = refl; output-is = refl }; length-is = refl };
-      class-four = record { given = record { finding-is = refl; output-is = refl }; length-is = refl };
-      head-two = record { given = record { finding-is = refl; output-is = refl }; length-is = refl };
-      own_first = record { given = record { finding-is = refl; output-is = refl }; length-is = refl };
+      plain = record { length-is = refl; output-is = refl };
+      with-room = record { length-is = refl; output-is = refl };
+      room-less = record { length-is = refl; output-is = refl };
+      no_room = record { length-is = refl; output-is = refl };
+      last_row = record { length-is = refl; output-is = refl };
+      class-four = record { length-is = refl; output-is = refl };
+      head-two = record { length-is = refl; output-is = refl };
+      own_first = record { length-is = refl; output-is = refl };
+      read = refl;
       read-classes = refl;
       read-heads = refl;
     }

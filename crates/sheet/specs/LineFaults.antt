@@ -5,7 +5,7 @@ use Rattle.std.specs.Prelude.{ℕ, zero, suc, Bool, true, false, not, ◌&&◌, 
 use Rattle.std.specs.Prelude.{ltb}
 use Rattle.refusals.specs.declared.Refusal.{Refusal}
 use Rattle.refusals.specs.declared.Refusal.TheVariants.{LineMalformed, RowDiffers, WindowDash}
-use Rattle.refusals.specs.declared.Checked.{Checked}
+use Rattle.refusals.specs.Checked.{Checked}
 use Rattle.refusals.specs.FirstMet.{first_met, first_fault, first_fault_to}
 use Rattle.sheet_line.specs.declared.Mark.{Mark}
 use Rattle.sheet_line.specs.declared.Mark.TheVariants.{Nothing, Dash, Limit}

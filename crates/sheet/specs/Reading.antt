@@ -1,12 +1,12 @@
 -- Reading a sheet: 18, 19 and 20 "before 3 to 7, of which too many rows comes first". To be read
 -- after SheetRows.
-use Rattle.std.specs.Prelude.{ℕ, List, [], ◌∷◌}
-use Rattle.refusals.specs.declared.Checked.{Checked}
+use Rattle.std.specs.Prelude.{ℕ, List, [], ◌∷◌, Result}
+use Rattle.refusals.specs.declared.Refusal.{Refusal}
+use Rattle.refusals.specs.Checked.{Checked}
 use Rattle.refusals.specs.FirstMet.{first_fault}
-use Rattle.refusals.specs.Given.{if_good}
-use Rattle.load.specs.Load.{zero_load}
+use Rattle.refusals.specs.Given.{given}
+use Rattle.load.specs.declared.Load.{Load}
 use Rattle.load.specs.Check.{check_load}
-use Rattle.load_file.specs.declared.Reading.{Reading}
 use Rattle.sheet.specs.LineFaults.{lines_fault}
 use Rattle.sheet.specs.SheetRows.{load_in_sheet}
 
@@ -14,7 +14,6 @@ use Rattle.sheet.specs.SheetRows.{load_in_sheet}
 unfoldable pub sheet_fault : List ℕ → Checked
 sheet_fault bs = first_fault (lines_fault bs ∷ check_load (load_in_sheet bs) ∷ [])
 
--- what reading a sheet gives: a refused reading gives the all-zero load
-unfoldable pub read_sheet : List ℕ → Reading
-read_sheet bs =
-    record { answer = sheet_fault bs; load = if_good (sheet_fault bs) (load_in_sheet bs) zero_load }
+-- what reading a sheet gives: its load, or the refusal alone
+unfoldable pub read_sheet : List ℕ → Result Load Refusal
+read_sheet bs = given (sheet_fault bs) (load_in_sheet bs)

@@ -1,12 +1,12 @@
 -- "An exported sheet reads back as the same load, and an accepted sheet exports to the same bytes."
 -- To be read after Writing and Reading, and after load_file's RoundTrip.
-use Rattle.std.specs.Prelude.{ℕ, ◌≤◌, List, ◌≡◌, length}
+use Rattle.std.specs.Prelude.{ℕ, ◌≤◌, List, ◌≡◌, length, Ok}
 use Rattle.words.specs.LittleEndian.{Bytes}
-use Rattle.refusals.specs.declared.Checked.TheVariants.{Good}
 use Rattle.load.specs.declared.Load.{Load}
 use Rattle.load.specs.Plain.{check_plain}
 use Rattle.load_file.specs.RoundTrip.{Held, accepted}
-use Rattle.sheet.specs.Reading.{read_sheet}
+use Rattle.sheet.specs.SheetRows.{load_in_sheet}
+use Rattle.sheet.specs.Reading.{sheet_fault, read_sheet}
 use Rattle.sheet.specs.Writing.{sheet_bytes, most_sheet_bytes}
 
 -- bytes that are an accepted sheet, and the load that they read to
@@ -18,15 +18,15 @@ pub record AcceptedSheet (bs : List ℕ) (load : Load) : Type 0 where
 pub record ExportedLoad (load : Load) (bs : List ℕ) : Type 0 where
   pub held : Held load
   -- neither the load's own numbers nor 22: each of its rows has class 0 and head 1 (2026-05)
-  pub plain : check_plain load ≡ Good
+  pub plain : check_plain load ≡ Ok tt
   pub sheet : bs ≡ sheet_bytes load
 
 -- the two round trips: of bytes and a load, the bytes read to the load exactly when the load is
 -- exported as the bytes
 pub record SheetTrip : Type 0 where
   -- a sheet that is not refused reads to a load
-  pub some-load : (bs : List ℕ) → Bytes bs → (read_sheet bs).answer ≡ Good
-      → AcceptedSheet bs (read_sheet bs).load
+  pub some-load : (bs : List ℕ) → Bytes bs → sheet_fault bs ≡ Ok tt
+      → AcceptedSheet bs (load_in_sheet bs)
   -- and to no other
   pub one-load : (bs : List ℕ) (load other : Load)
       → AcceptedSheet bs load → AcceptedSheet bs other → load ≡ other

@@ -1,14 +1,12 @@
 -- "Route sheets as text", worked: load B as its five lines, and the numbers that sheets are refused
 -- with. The answers are the documents', taken by hand, and were asked of the second program too. To
 -- be read after Calls. Rests on D86 to D88.
-use Rattle.std.specs.Prelude.{ℕ, List, [], ◌∷◌, ◌++◌, map, ◌≡◌, replicate, take}
+use Rattle.std.specs.Prelude.{ℕ, List, [], ◌∷◌, ◌++◌, map, ◌≡◌, replicate, take, Ok, Err}
 use Prim.Native.String.{String}
 use Rattle.counting.specs.Lists.{join_in}
 use Rattle.words.specs.Decimal.{text}
 use Rattle.refusals.specs.declared.Refusal.TheVariants.{OutputShort, WindowDash}
-use Rattle.refusals.specs.declared.Checked.TheVariants.{Good, Refused}
 use Rattle.refusals.specs.Refusals.{number_given}
-use Rattle.refusals.specs.WorkedCases.{told}
 use Rattle.load.specs.declared.Load.{Load}
 use Rattle.load.specs.Load.{zero_load}
 use Rattle.load.specs.Notation.{◌w◌, window, row, load_of}
@@ -47,22 +45,19 @@ lines_b =
 -- sheets that are written, and sheets that are read
 pub record WorkedSheets : Type 0 where
   -- B is written into a room of exactly its 124 bytes
-  pub written : WriteSheet load_b (replicate 124 7) (told Good 124) (sheet_of lines_b)
+  pub written : WriteSheet load_b (replicate 124 7) (Ok 124) (sheet_of lines_b)
   -- into a room of one byte more, which stays
-  pub room-more : WriteSheet load_b (replicate 125 7) (told Good 124) (sheet_of lines_b ++ 7 ∷ [])
+  pub room-more : WriteSheet load_b (replicate 125 7) (Ok 124) (sheet_of lines_b ++ 7 ∷ [])
   -- and into one of a byte less it is not written
   pub room-less :
-      WriteSheet load_b (replicate 123 7) (told (Refused OutputShort) 0) (replicate 123 7)
+      WriteSheet load_b (replicate 123 7) (Err OutputShort) (replicate 123 7)
   -- the load of no rows is written as no byte, and no byte is read as that load
-  pub none_written : WriteSheet zero_load [] (told Good 0) []
+  pub none_written : WriteSheet zero_load [] (Ok 0) []
   pub none_read : ReadSheet [] (accepted zero_load)
   -- B is read back
   pub read : ReadSheet (sheet_of lines_b) (accepted load_b)
-  -- a refused sheet gives the load of zeros: B without its last line
-  pub refused :
-      ReadSheet
-      (sheet_of (take 4 lines_b))
-      (record { answer = Refused WindowDash; load = zero_load })
+  -- a refused sheet gives the refusal alone: B without its last line
+  pub refused : ReadSheet (sheet_of (take 4 lines_b)) (Err WindowDash)
   -- a row whose steps in order are window, no window, window of three: first, last and limit
   pub windows :
       ReadSheet

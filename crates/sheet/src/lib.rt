@@ -3,7 +3,6 @@
 // numbers, 22 or 9.
 #![tactic(auto)]
 
-mod fields;
 mod line_marks;
 mod lines;
 mod reading;

@@ -1,13 +1,13 @@
 // The lines of a sheet in their order, each beside the one before it: 18, 19 and 20, on one line in
 // this order, and at the end a window of one step.
-ghost use Rattle.std.specs.Prelude.{◌&&◌, ◌≡◌};
+ghost use Rattle.std.specs.Prelude.{◌&&◌, ◌≡◌, true};
 ghost use Rattle.refusals.specs.FirstMet.{first_met};
 ghost use Rattle.sheet_line.specs.Calls.{no_line};
 ghost use Rattle.sheet.specs.LineFaults.{row_differs, line_tests, end_tests, lines_fault};
 ghost use Rattle.sheet.specs.inner.Walk.{goes_on_from};
 
 use crate::line_marks::{dash_alone, is_limit, limit_alone};
-use refusals::{Checked, Refusal};
+use refusals::Refusal;
 use sheet_line::{Line, Mark, line_at};
 
 // Gives what stands before the first line.
@@ -30,76 +30,58 @@ fn no_line() -> Line
 fn goes_on_from(at: usize, before: Line, line: Line) -> bool
     ensures { result ≡ goes_on_from at before line }
 {
-    if 0 < at {
-        return line.identifier == before.identifier;
-    }
-    false
+    0 < at && line.identifier == before.identifier
 }
 
 // Tells whether a line goes on with the row of the line before, and box, phase or deadline differs.
 fn row_differs(goes_on: bool, before: Line, line: Line) -> bool
     ensures { result ≡ (goes_on && row_differs line before) }
 {
-    if !goes_on {
-        return false;
-    }
-    if line.box_number != before.box_number {
-        return true;
-    }
-    if line.phase != before.phase {
-        return true;
-    }
-    line.deadline != before.deadline
+    goes_on
+        && (line.box_number != before.box_number
+            || line.phase != before.phase
+            || line.deadline != before.deadline)
 }
 
-// Checks what stands at a line's place beside the line before: 18, 19, then 20.
-fn check_line(is_line: bool, goes_on: bool, before: Line, line: Line) -> Checked
-    ensures { result ≡ first_met (line_tests is_line goes_on before line) }
+// Checks a line beside the line before: 19, then 20.
+#[tactic(auto, unfolding(crate::specs::LineFaults::line_tests))]
+fn check_line(goes_on: bool, before: Line, line: Line) -> Result<(), Refusal>
+    ensures { result ≡ first_met (line_tests true goes_on before line) }
 {
-    if !is_line {
-        return Checked::Refused(Refusal::LineMalformed);
-    }
     if row_differs(goes_on, before, line) {
-        return Checked::Refused(Refusal::RowDiffers);
+        return Err(Refusal::RowDiffers);
     }
-    let mark_before = before.mark;
-    let mark = line.mark;
-    if dash_alone(goes_on, mark_before, mark) {
-        return Checked::Refused(Refusal::WindowDash);
+    if dash_alone(goes_on, before.mark, line.mark) || limit_alone(goes_on, before.mark, line.mark) {
+        return Err(Refusal::WindowDash);
     }
-    if limit_alone(goes_on, mark_before, mark) {
-        return Checked::Refused(Refusal::WindowDash);
-    }
-    Checked::Good
+    Ok(())
 }
 
 // Checks the end behind the last line: 20 where a window has one step.
-fn check_end(before: Line) -> Checked
+fn check_end(before: Line) -> Result<(), Refusal>
     ensures { result ≡ first_met (end_tests before) }
 {
-    let mark = before.mark;
-    if is_limit(mark) {
-        return Checked::Refused(Refusal::WindowDash);
+    if is_limit(before.mark) {
+        return Err(Refusal::WindowDash);
     }
-    Checked::Good
+    Ok(())
 }
 
-// Checks the lines of a sheet in their order, and then its end.
-pub fn check_lines(bytes: &[u8]) -> Checked
+// Checks the lines of a sheet in their order, and then its end: what stands at a line's place is 18
+// where it is no line.
+pub fn check_lines(bytes: &[u8]) -> Result<(), Refusal>
     ensures { result ≡ lines_fault bytes.now }
 {
     let mut at = 0;
     let mut before = no_line();
     while at < bytes.len() {
-        let read = line_at(bytes, at);
-        let line = read.line;
-        let goes_on = goes_on_from(at, before, line);
-        match check_line(read.is_line, goes_on, before, line) {
-            Checked::Good => {}
-            Checked::Refused(refusal) => return Checked::Refused(refusal),
-        }
+        let Some(read) = line_at(bytes, at) else {
+            return Err(Refusal::LineMalformed);
+        };
+        let goes_on = goes_on_from(at, before, read.line);
+        check_line(goes_on, before, read.line)?;
         at = read.next;
-        before = line;
+        before = read.line;
     }
     check_end(before)
 }

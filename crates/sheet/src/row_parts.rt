@@ -1,9 +1,11 @@
-// The parts of a row, as its lines say them: its steps, and the windows that its marks spell.
-ghost use Rattle.std.specs.Prelude.{◌≡◌, length, ◌+◌, ◌≤◌};
+// A row, as its lines say it: its own fields, its steps, and the windows that its marks spell, with
+// the numbers cut to their fields.
+ghost use Rattle.std.specs.Prelude.{◌≡◌, true, length, ◌+◌, ◌<◌, ◌≤◌};
 ghost use Rattle.load.specs.Load.{most_steps, shown};
+ghost use Rattle.sheet_line.specs.Line.{is_line, line_in, next_line};
 ghost use Rattle.sheet.specs.Lines.{line_from};
-ghost use Rattle.sheet.specs.SheetRows.{window_places};
-ghost use Rattle.sheet.specs.inner.Narrow.{Marked, narrow_window};
+ghost use Rattle.sheet.specs.SheetRows.{row_of, window_places};
+ghost use Rattle.sheet.specs.inner.Narrow.{Marked, narrow_row, narrow_window};
 ghost use Rattle.sheet.specs.inner.Walk.{
   LinesStand,
   kept_step,
@@ -12,42 +14,48 @@ ghost use Rattle.sheet.specs.inner.Walk.{
   kept_windows,
 };
 
-use crate::fields::{at_most_16, or_zero_16};
-use crate::line_marks::{is_dash, is_limit, limit_of};
-use load::{MOST_STEPS, MOST_WINDOWS, Step, Window};
-use sheet_line::{Line, line_at};
+use crate::line_marks::is_dash;
+use load::{BoxNumber, Identifier, MOST_STEPS, MOST_WINDOWS, ONLY_HEAD, Row, Step, Window};
+use sheet_line::{Line, LineRead, Mark, line_at};
 
-// The windows of a row: so many, and zeros in the places behind them.
+// A row of at most eight lines, as it stands in a sheet: so many lines from a place on, which 18 to
+// 20 do not refuse.
 #[derive(Clone, Copy)]
-pub struct Windows {
-    pub count: u8,
-    pub window: [Window; MOST_WINDOWS],
+pub struct SheetRow<'a> {
+    pub bytes: &'a [u8],
+    pub at: usize,
+    pub count: usize,
+    ghost count_some: { 0 < count },
+    ghost count_most: { count ≤ most_steps },
+    ghost lines_stand: { LinesStand bytes.now at count },
+    ghost marked: { Marked (λ j. (line_from bytes.now at j).mark) count },
 }
 
-// Gives the step that a line says.
+// The windows of a row: so many, and zeros in the places behind them.
+// An array and a count, as the crate has no heap: a Row holds its windows in the same form.
+#[derive(Clone, Copy)]
+struct Windows {
+    count: u8,
+    window: [Window; MOST_WINDOWS],
+}
+
+// Reads the line at a place where one stands.
+pub fn line_there(bytes: &[u8], at: usize) -> LineRead
+    requires { is_line bytes.now at ≡ true }
+    ensures { result ≡ record { line = line_in bytes.now at; next = next_line bytes.now at } }
+{
+    line_at(bytes, at).unwrap()
+}
+
+// Gives the step that a line says. A number that does not fit its field is refused with 3, and so
+// is what is kept for it: 0 where the range begins with 1, else the largest.
 fn step_of(line: Line) -> Step
     ensures { result ≡ kept_step line }
 {
     Step {
-        cost: or_zero_16(line.cost),
-        wait: at_most_16(line.wait),
+        cost: u16::try_from(line.cost).unwrap_or(0),
+        wait: u16::try_from(line.wait).unwrap_or(u16::MAX),
     }
-}
-
-// Gives the steps of so many lines from a place on, and zeros in the places behind them.
-pub fn steps_from(bytes: &[u8], from: usize, count: usize) -> [Step; MOST_STEPS]
-    requires count_le_most_steps { count ≤ most_steps }
-    requires lines_stand { LinesStand bytes.now from count }
-    ensures { result ≡ kept_steps bytes.now from count }
-{
-    let mut steps = [Step { cost: 0, wait: 0 }; MOST_STEPS];
-    let mut at = from;
-    for j in 0..count {
-        let read = line_at(bytes, at);
-        steps[j] = step_of(read.line);
-        at = read.next;
-    }
-    steps
 }
 
 // Gives how many of so many lines from a place on have a dash, before the first that has none.
@@ -57,10 +65,8 @@ fn dashes_from(bytes: &[u8], from: usize, left: usize) -> usize
 {
     let mut at = from;
     for k in 0..left {
-        let read = line_at(bytes, at);
-        let line = read.line;
-        let mark = line.mark;
-        if !is_dash(mark) {
+        let read = line_there(bytes, at);
+        if !is_dash(read.line.mark) {
             return k;
         }
         at = read.next;
@@ -77,42 +83,77 @@ fn window_of(j: usize, behind: usize, limit: u64) -> Window
     Window {
         first: (j + 1) as u8,
         last: (j + 1 + behind) as u8,
-        limit: or_zero_16(limit),
+        limit: u16::try_from(limit).unwrap_or(0),
     }
 }
 
-// Gives the windows that the marks of so many lines from a place on spell: each begins with a
-// limit, and goes on as long as dashes follow.
-pub fn windows_from(bytes: &[u8], from: usize, count: usize) -> Windows
-    requires count_le_most_steps { count ≤ most_steps }
-    requires lines_stand { LinesStand bytes.now from count }
-    requires marked { Marked (λ j. (line_from bytes.now from j).mark) count }
-    ensures { result
-        ≡ record {
-          count = length (kept_windows bytes.now from count);
-          window = window_places (kept_windows bytes.now from count);
-        } }
-{
-    let mut window = [Window {
-        first: 0,
-        last: 0,
-        limit: 0,
-    }; MOST_WINDOWS];
-    let mut stored = 0;
-    let mut at = from;
-    for j in 0..count {
-        let read = line_at(bytes, at);
-        at = read.next;
-        let line = read.line;
-        let mark = line.mark;
-        if is_limit(mark) {
-            let behind = dashes_from(bytes, at, count - (j + 1));
-            window[stored] = window_of(j, behind, limit_of(mark));
-            stored += 1;
+impl SheetRow<'_> {
+    // Gives the steps, and zeros in the places behind them.
+    fn steps(&self) -> [Step; MOST_STEPS]
+        ensures { result ≡ kept_steps self.now.bytes.now self.now.at self.now.count }
+    {
+        let bytes = self.bytes;
+        let mut steps = [Step::default(); MOST_STEPS];
+        let mut at = self.at;
+        for step in &mut steps[..self.count] {
+            let read = line_there(bytes, at);
+            *step = step_of(read.line);
+            at = read.next;
+        }
+        steps
+    }
+
+    // Gives the windows that the marks spell: each begins with a limit, and goes on as long as
+    // dashes follow.
+    fn windows(&self) -> Windows
+        ensures { result
+            ≡ record {
+              count = length (kept_windows self.now.bytes.now self.now.at self.now.count);
+              window =
+                  window_places (kept_windows self.now.bytes.now self.now.at self.now.count);
+            } }
+    {
+        let bytes = self.bytes;
+        let count = self.count;
+        let mut window = [Window::default(); MOST_WINDOWS];
+        let mut stored = 0;
+        let mut at = self.at;
+        for j in 0..count {
+            let read = line_there(bytes, at);
+            at = read.next;
+            if let Mark::Limit(limit) = read.line.mark {
+                let behind = dashes_from(bytes, at, count - (j + 1));
+                window[stored] = window_of(j, behind, limit);
+                stored += 1;
+            }
+        }
+        Windows {
+            count: stored as u8,
+            window,
         }
     }
-    Windows {
-        count: stored as u8,
-        window,
+
+    // Gives the row. No line carries a class or a head: they are 0 and the only head. A number that
+    // does not fit its field is refused with 3, and so is what is kept for it: 0 where the range
+    // begins with 1, else the largest.
+    pub(crate) fn row(&self) -> Row
+        ensures { result
+            ≡ narrow_row (row_of (line_from self.now.bytes.now self.now.at) self.now.count) }
+    {
+        let line = line_there(self.bytes, self.at).line;
+        let step = self.steps();
+        let Windows { count, window } = self.windows();
+        Row {
+            identifier: Identifier(u32::try_from(line.identifier).unwrap_or(0)),
+            box_number: BoxNumber(u32::try_from(line.box_number).unwrap_or(0)),
+            phase: u32::try_from(line.phase).unwrap_or(u32::MAX),
+            deadline: u32::try_from(line.deadline).unwrap_or(0),
+            steps: self.count as u8,
+            windows: count,
+            class: 0,
+            head: ONLY_HEAD,
+            step,
+            window,
+        }
     }
 }

@@ -1,16 +1,13 @@
 // The rows of a sheet that 18 to 20 do not refuse: how many lines each has, and the row that they
-// say, with its numbers cut to their fields.
-ghost use Rattle.std.specs.Prelude.{◌≡◌, ◌<◌, ◌≤◌};
-ghost use Rattle.load.specs.Load.{most_steps};
-ghost use Rattle.sheet.specs.Lines.{line_place, line_from};
-ghost use Rattle.sheet.specs.SheetRows.{steps_from, row_of};
-ghost use Rattle.sheet.specs.inner.Narrow.{Marked, narrow_row, kept_from};
-ghost use Rattle.sheet.specs.inner.Walk.{LinesStand, RowStands};
+// say.
+ghost use Rattle.std.specs.Prelude.{◌≡◌};
+ghost use Rattle.sheet.specs.Lines.{line_place};
+ghost use Rattle.sheet.specs.SheetRows.{steps_from};
+ghost use Rattle.sheet.specs.inner.Narrow.{kept_from};
+ghost use Rattle.sheet.specs.inner.Walk.{RowStands};
 
-use crate::fields::{at_most_32, or_zero_32};
-use crate::row_parts::{steps_from, windows_from};
-use load::{BoxNumber, Identifier, MOST_STEPS, ONLY_HEAD, Row};
-use sheet_line::line_at;
+use crate::row_parts::{SheetRow, line_there};
+use load::{MOST_STEPS, Row};
 
 // A row, and the place behind its lines.
 #[derive(Clone, Copy)]
@@ -35,47 +32,18 @@ fn run_from(bytes: &[u8], at: usize) -> Run
           next = line_place bytes.now at (steps_from bytes.now at);
         } }
 {
-    let begin = line_at(bytes, at);
-    let first = begin.line;
+    let first = line_there(bytes, at);
     let mut steps = 1;
-    let mut next = begin.next;
+    let mut next = first.next;
     while next < bytes.len() {
-        let read = line_at(bytes, next);
-        let line = read.line;
-        if line.identifier != first.identifier {
-            return Run { steps, next };
+        let read = line_there(bytes, next);
+        if read.line.identifier != first.line.identifier {
+            break;
         }
         steps += 1;
         next = read.next;
     }
     Run { steps, next }
-}
-
-// Gives the row of so many lines from a place on. No line carries a class or a head: they are 0 and
-// the only head.
-fn row_of(bytes: &[u8], at: usize, steps: usize) -> Row
-    requires steps_nonzero { (0 < steps) × (steps ≤ most_steps) }
-    requires lines_stand { LinesStand bytes.now at steps }
-    requires marked { Marked (λ j. (line_from bytes.now at j).mark) steps }
-    ensures { result ≡ narrow_row (row_of (line_from bytes.now at) steps) }
-{
-    let read = line_at(bytes, at);
-    let line = read.line;
-    let step = steps_from(bytes, at, steps);
-    let windows = windows_from(bytes, at, steps);
-    let window = windows.window;
-    Row {
-        identifier: Identifier(or_zero_32(line.identifier)),
-        box_number: BoxNumber(or_zero_32(line.box_number)),
-        phase: at_most_32(line.phase),
-        deadline: or_zero_32(line.deadline),
-        steps: steps as u8,
-        windows: windows.count,
-        class: 0,
-        head: ONLY_HEAD,
-        step,
-        window,
-    }
 }
 
 // Reads the row that begins at a place. For a row of more than eight lines, which the check of the
@@ -88,13 +56,16 @@ pub fn row_from(bytes: &[u8], at: usize) -> RowRead
           next = line_place bytes.now at (steps_from bytes.now at);
         } }
 {
-    let run = run_from(bytes, at);
-    let steps = run.steps;
-    let next = run.next;
-    if MOST_STEPS < steps {
-        let row = load::zero_row();
-        return RowRead { row, next };
-    }
-    let row = row_of(bytes, at, steps);
+    let Run { steps, next } = run_from(bytes, at);
+    let row = if MOST_STEPS < steps {
+        load::zero_row()
+    } else {
+        let there = SheetRow {
+            bytes,
+            at,
+            count: steps,
+        };
+        there.row()
+    };
     RowRead { row, next }
 }

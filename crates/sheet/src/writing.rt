@@ -1,7 +1,7 @@
 // Writes a load as its sheet: the lines of each row in the order of its steps, row by row. Refuses
 // a load that its check refuses, one whose classes or heads no sheet carries, and an output shorter
 // than the sheet.
-ghost use Rattle.std.specs.Prelude.{◌≡◌, ◌+◌, ◌≤◌, length};
+ghost use Rattle.std.specs.Prelude.{◌≡◌, ◌+◌, ◌≤◌, length, Ok};
 ghost use Rattle.std.proofs.lemmas.List.Edits.{sets};
 ghost use Rattle.load.specs.Load.{most_steps};
 ghost use Rattle.load.specs.Check.{check_load};
@@ -9,7 +9,7 @@ ghost use Rattle.sheet.specs.Writing.{row_lines, sheet_bytes};
 ghost use Rattle.sheet.specs.Calls.{WriteSheet};
 
 use load::{Load, Row};
-use refusals::{Checked, Refusal, Written};
+use refusals::Refusal;
 
 // Writes the lines of a row from a place on, and gives the place behind them.
 fn write_row(out: &mut [u8], at: usize, row: Row) -> usize
@@ -18,12 +18,11 @@ fn write_row(out: &mut [u8], at: usize, row: Row) -> usize
     ensures out_after { out.new ≡ sets out.old at (row_lines row) }
 {
     let mut place = at;
+    // Counted, as line_of takes the place of the step.
     for j in 0..row.steps as usize {
         let line = sheet_line::line_of(row, j);
-        let length = line.length;
-        let bytes = line.bytes;
-        words::overwrite(out, place, &bytes[..length]);
-        place += length;
+        words::overwrite(out, place, &line.bytes[..line.length]);
+        place += line.length;
     }
     place
 }
@@ -31,13 +30,13 @@ fn write_row(out: &mut [u8], at: usize, row: Row) -> usize
 // Writes the sheet of a load at the output's front, and gives how many bytes it has. Bytes that
 // would lie past the end are not written, so into a small output it only measures.
 fn write_rows(out: &mut [u8], load: Load) -> usize
-    requires { check_load load ≡ Checked.Good }
+    requires { check_load load ≡ Ok tt }
     ensures value { result ≡ length (sheet_bytes load) }
     ensures out_after { out.new ≡ sets out.old 0 (sheet_bytes load) }
 {
     let mut at: usize = 0;
-    for i in 0..load.rows as usize {
-        at = write_row(out, at, load.row[i]);
+    for row in &load.row[..load.rows as usize] {
+        at = write_row(out, at, *row);
     }
     at
 }
@@ -45,26 +44,14 @@ fn write_rows(out: &mut [u8], load: Load) -> usize
 // Writes a load as its sheet at the output's front, and gives the length. Refuses, in this order, a
 // load that its check refuses, one with a class that is not 0 or a head that is not 1 (22), and an
 // output that is shorter than the sheet (9); a refusal alters no byte. Bytes past the sheet stay.
-pub fn write_sheet(load: Load, out: &mut [u8]) -> Written
+pub fn write_sheet(load: Load, out: &mut [u8]) -> Result<usize, Refusal>
     ensures { WriteSheet load out.old result out.new }
 {
-    if let Checked::Refused(refusal) = load::check_plain(load) {
-        return Written {
-            answer: Checked::Refused(refusal),
-            length: 0,
-        };
-    }
+    load::check_plain(load)?;
     let mut nowhere = [0u8; 1];
     let size = write_rows(&mut nowhere, load);
     if out.len() < size {
-        return Written {
-            answer: Checked::Refused(Refusal::OutputShort),
-            length: 0,
-        };
+        return Err(Refusal::OutputShort);
     }
-    let length = write_rows(out, load);
-    Written {
-        answer: Checked::Good,
-        length,
-    }
+    Ok(write_rows(out, load))
 }

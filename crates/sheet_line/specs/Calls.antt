@@ -1,6 +1,7 @@
 -- What each public call's contract says: one relation a call, over what it takes and what it gives.
 -- To be read after Line.
-use Rattle.std.specs.Prelude.{ℕ, ◌-◌, true, false, cond, List, ◌++◌, ◌≡◌, length, replicate}
+use Rattle.std.specs.Prelude.{ℕ, ◌-◌, cond, List, ◌++◌, ◌≡◌, length, replicate}
+use Rattle.std.specs.Prelude.{Option, Some, None}
 use Rattle.load.specs.declared.Row.{Row}
 use Rattle.sheet_line.specs.declared.Mark.TheVariants.{Nothing}
 use Rattle.sheet_line.specs.declared.Line.{Line}
@@ -9,7 +10,7 @@ use Rattle.sheet_line.specs.declared.LineText.{LineText}
 use Rattle.sheet_line.specs.LineText.{line_of, line_bytes}
 use Rattle.sheet_line.specs.Line.{is_line, line_in, next_line}
 
--- what stands beside a refused line
+-- what stands for a line where there is none
 abbrev pub no_line : Line
 no_line =
     record {
@@ -22,15 +23,15 @@ no_line =
       mark = Nothing;
     }
 
--- line_at(bs, at): whether a line stands at a place, what it says, and where the next one stands;
--- where none does, a line of zeros and the place itself
-abbrev pub LineAt : List ℕ → ℕ → LineRead → Type 0
+-- line_at(bs, at): the line at a place, where one stands there: what it says, and where the next
+-- one stands
+abbrev pub LineAt : List ℕ → ℕ → Option LineRead → Type 0
 LineAt bs at r =
     r
     ≡ cond
     (is_line bs at)
-    (record { is_line = true; line = line_in bs at; next = next_line bs at })
-    (record { is_line = false; line = no_line; next = at })
+    (Some (record { line = line_in bs at; next = next_line bs at }))
+    None
 
 -- the most bytes that the line of a row in memory has: four numbers of ten digits, a cost, a wait
 -- and a limit of five, six commas, CR LF

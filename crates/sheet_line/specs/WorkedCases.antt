@@ -1,6 +1,6 @@
 -- "Route sheets as text", worked by hand: the lines of a row's steps, and what is read where a line
 -- stands and where the nearest wrong one does. To be read after Calls.
-use Rattle.std.specs.Prelude.{ℕ, true, false, List, [], ◌∷◌, ◌++◌, replicate}
+use Rattle.std.specs.Prelude.{ℕ, Some, None, List, [], ◌∷◌, ◌++◌, replicate}
 use Prim.Native.String.{String}
 use Rattle.words.specs.Decimal.{text}
 use Rattle.load.specs.declared.Row.{Row}
@@ -8,7 +8,7 @@ use Rattle.load.specs.Notation.{◌w◌, window, row_placed, row}
 use Rattle.sheet_line.specs.declared.Mark.{Mark}
 use Rattle.sheet_line.specs.declared.Mark.TheVariants.{Nothing, Dash, Limit}
 use Rattle.sheet_line.specs.declared.Line.{Line}
-use Rattle.sheet_line.specs.Calls.{no_line, LineAt, LineOf}
+use Rattle.sheet_line.specs.Calls.{LineAt, LineOf}
 
 -- a row of three steps, and a window over the first two, of ticks 2, 4, 2 and a limit of 8
 abbrev pub windowed : Row
@@ -47,11 +47,11 @@ line_of101 cost wait mark =
 
 -- a line stands at a place
 abbrev pub Reads : List ℕ → ℕ → Line → ℕ → Type 0
-Reads bs at line next = LineAt bs at (record { is_line = true; line = line; next = next })
+Reads bs at line next = LineAt bs at (Some (record { line = line; next = next }))
 
 -- none does
 abbrev pub ReadsNone : List ℕ → ℕ → Type 0
-ReadsNone bs at = LineAt bs at (record { is_line = false; line = no_line; next = at })
+ReadsNone bs at = LineAt bs at None
 
 -- one line, both ways
 pub record WorkedCases : Type 0 where

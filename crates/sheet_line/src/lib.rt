@@ -32,10 +32,9 @@ pub struct Line {
     pub mark: Mark,
 }
 
-// What stands at a place: whether it is a line, what it says, and where the next line stands.
+// A line as it is read: what it says, and where the next line stands.
 #[derive(Clone, Copy)]
 pub struct LineRead {
-    pub is_line: bool,
     pub line: Line,
     pub next: usize,
 }

@@ -2,10 +2,10 @@
 // no digits.
 pub const NUMBERS: usize = 6;
 
-pub const COMMA: u8 = 44;
+pub const COMMA: u8 = b',';
 
-pub const DASH: u8 = 45;
+pub const DASH: u8 = b'-';
 
-pub const RETURN: u8 = 13;
+pub const RETURN: u8 = b'\r';
 
-pub const FEED: u8 = 10;
+pub const FEED: u8 = b'\n';

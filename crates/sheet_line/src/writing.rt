@@ -1,6 +1,7 @@
 // The text of a step's line, put together piece by piece: six numbers, each with a comma behind it;
 // a limit, a dash or nothing; CR LF.
 ghost use Rattle.std.specs.Prelude.{cond, ◌≡◌, ◌≤◌, ◌<◌, eqb, length};
+ghost use Rattle.std.specs.Bool.{OnTrue};
 ghost use Rattle.counting.specs.Lists.{join_to, member_at};
 ghost use Rattle.words.specs.Decimal.{decimal};
 ghost use Rattle.load.specs.Load.{shown};
@@ -12,7 +13,7 @@ ghost use Rattle.sheet_line.specs.inner.Behind.{behind, Marked};
 
 use crate::signs::{COMMA, DASH, FEED, NUMBERS, RETURN};
 use crate::{LineText, MOST_LINE_BYTES};
-use load::{Row, Window};
+use load::{MOST_WINDOWS, Row, Window};
 
 // Gives a text with bytes behind it. Here and below a text is asked to be so short that its length
 // cannot wrap.
@@ -20,11 +21,10 @@ fn with_bytes(text: LineText, bytes: &[u8]) -> LineText
     requires { (text.length ≤ 4096) × (length bytes.now ≤ 4096) }
     ensures { result ≡ behind text bytes.now }
 {
-    let at = text.length;
     let mut written = text.bytes;
-    words::overwrite(&mut written, at, bytes);
+    words::overwrite(&mut written, text.length, bytes);
     LineText {
-        length: at + bytes.len(),
+        length: text.length + bytes.len(),
         bytes: written,
     }
 }
@@ -35,9 +35,7 @@ fn with_number(text: LineText, number: u32) -> LineText
     ensures { result ≡ behind text (decimal number) }
 {
     let word = words::decimal_of(number);
-    let length = word.length;
-    let bytes = word.bytes;
-    with_bytes(text, &bytes[..length])
+    with_bytes(text, &word.bytes[..word.length])
 }
 
 // Gives a text with a number and a comma behind it.
@@ -45,8 +43,7 @@ fn with_field(text: LineText, number: u32) -> LineText
     requires { text.length ≤ 1024 }
     ensures { result ≡ behind text (field_bytes number) }
 {
-    let comma = [COMMA];
-    with_bytes(with_number(text, number), &comma)
+    with_bytes(with_number(text, number), &[COMMA])
 }
 
 // Gives a text with the numbers behind it, a comma behind each.
@@ -56,35 +53,34 @@ fn with_fields(text: LineText, numbers: &[u32; NUMBERS]) -> LineText
         ≡ behind text (join_to (λ k. field_bytes (member_at numbers.now k)) 6) }
 {
     let mut held = text;
-    for k in 0..NUMBERS {
-        held = with_field(held, numbers[k]);
+    for number in numbers {
+        held = with_field(held, *number);
     }
     held
 }
 
 // Says whether the step at a place is in a window.
 fn is_within(window: Window, j: usize) -> bool
-    ensures { result ≡ in_window (shown j) window }
+    ensures says { result ≡ in_window (shown j) window }
+    ensures shown_fits { OnTrue result (j < 255) }
 {
-    if window.last as usize <= j {
-        return false;
-    }
-    window.first as usize <= j + 1
+    j < usize::from(window.last) && usize::from(window.first) <= j + 1
 }
 
 // Gives a text with the mark behind it of a step in a window: the limit on its first step, a dash
 // on its other steps.
 fn with_mark_in(text: LineText, window: Window, j: usize) -> LineText
     requires { (text.length ≤ 512) × (j < 255) }
-    ensures { result
+    ensures is { result
         ≡ behind text
         (mark_bytes (cond (eqb (shown j) window.first) (Limit window.limit) Dash)) }
+    ensures few { length (mark_bytes (cond (eqb (shown j) window.first) (Limit window.limit) Dash))
+        ≤ 5 }
 {
-    if j + 1 == window.first as usize {
-        return with_number(text, window.limit as u32);
+    if j + 1 == usize::from(window.first) {
+        return with_number(text, u32::from(window.limit));
     }
-    let dash = [DASH];
-    with_bytes(text, &dash)
+    with_bytes(text, &[DASH])
 }
 
 // Gives a text with a step's mark behind it, by the first window that the step is in; where it is
@@ -93,10 +89,10 @@ fn with_mark(text: LineText, row: Row, j: usize) -> LineText
     requires { text.length ≤ 512 }
     ensures { Marked text row j result }
 {
-    for k in 0..row.windows as usize {
-        let window = load::window_at(row, k);
-        if is_within(window, j) {
-            return with_mark_in(text, window, j);
+    let used = usize::from(row.windows).min(MOST_WINDOWS);
+    for window in &row.window[..used] {
+        if is_within(*window, j) {
+            return with_mark_in(text, *window, j);
         }
     }
     text
@@ -112,13 +108,13 @@ pub fn line_of(row: Row, j: usize) -> LineText
         row.box_number.0,
         row.phase,
         row.deadline,
-        step.cost as u32,
-        step.wait as u32,
+        u32::from(step.cost),
+        u32::from(step.wait),
     ];
     let nothing = LineText {
         length: 0,
         bytes: [0; MOST_LINE_BYTES],
     };
-    let end = [RETURN, FEED];
-    with_bytes(with_mark(with_fields(nothing, &numbers), row, j), &end)
+    let marked = with_mark(with_fields(nothing, &numbers), row, j);
+    with_bytes(marked, &[RETURN, FEED])
 }

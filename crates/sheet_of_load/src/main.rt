@@ -12,7 +12,7 @@ ghost use Rattle.sheet.specs.Inputs.{Places, IsLong};
 ghost use Rattle.sheet_of_load.specs.Program.{Answer};
 
 use load_file::read_load;
-use refusals::{Checked, Written, number_given};
+use refusals::Refusal;
 use sheet::{MOST_SHEET_BYTES, write_sheet};
 use std::io;
 use std::process::ExitCode;
@@ -41,20 +41,11 @@ fn is_long(size: usize) -> bool
 
 // Makes the sheet of a file's load, in a room that is large enough for every sheet. Refuses with
 // the file's own numbers, then with 22.
-fn answer(file: &[u8], sheet: &mut [u8]) -> Written
+fn answer(file: &[u8], sheet: &mut [u8]) -> Result<usize, Refusal>
     requires { most_sheet_bytes ≤ length sheet.old }
     ensures { Answer file.now sheet.old result sheet.new }
 {
-    let reading = read_load(file);
-    let found = reading.answer;
-    let load = reading.load;
-    match found {
-        Checked::Good => write_sheet(load, sheet),
-        Checked::Refused(refusal) => Written {
-            answer: Checked::Refused(refusal),
-            length: 0,
-        },
-    }
+    write_sheet(read_load(file)?, sheet)
 }
 
 // Reads, makes the sheet and writes it.
@@ -66,14 +57,13 @@ fn main(rt: HostRuntime) -> io::Result<ExitCode> {
         return Ok(ExitCode::FAILURE);
     }
     let mut sheet = [0u8; MOST_SHEET_BYTES];
-    let made = answer(&input[..size], &mut sheet);
-    let found = made.answer;
-    let length = made.length;
-    let number = number_given(found);
-    if number > 0 {
-        eprintln!(rt; "refused {number}")?;
-        return Ok(ExitCode::FAILURE);
-    }
+    let length = match answer(&input[..size], &mut sheet) {
+        Ok(length) => length,
+        Err(refusal) => {
+            eprintln!(rt; "refused {}", u32::from(refusal))?;
+            return Ok(ExitCode::FAILURE);
+        }
+    };
     match rt.write_all(&sheet[..length]) {
         Ok(()) => Ok(ExitCode::SUCCESS),
         Err(error) => tell_failed(&rt, "sheet-of-load: standard output", error),

@@ -16,27 +16,30 @@ mod reports;
 
 use given::{from_file, from_memory};
 use input::read_whole;
+use lines::{print_blames, print_lines};
 use output::write_text;
 use std::io::{BufReader, BufWriter, Read, Result, Write};
 
 // Reads what follows a question's letter, and answers it. Says no where there is no such letter, or
 // the question is cut short.
+// A match, and no table of functions: the questions take different arguments.
 fn answer_kind(input: &mut impl Read, output: &mut impl Write, letter: u8) -> Result<bool> {
     match letter {
-        b'F' => reports::answer(false, input, output),
-        b'B' => reports::answer(true, input, output),
+        b'F' => reports::answer(print_lines, input, output),
+        b'B' => reports::answer(print_blames, input, output),
         b'P' => blames::answer(from_file(input), false, output),
-        b'p' => blames::answer(from_memory(input), true, output),
+        b'p' => blames::answer(from_memory(input).map(Ok), true, output),
         b'M' => moves::answer(from_file(input), input, output),
-        b'N' => moves::answer(from_memory(input), input, output),
+        b'N' => moves::answer(from_memory(input).map(Ok), input, output),
         _ => Ok(false),
     }
 }
 
 // Answers the next question. Says no at the end of the input, and after `bad`.
+// It stands twice, and `main` too: a library's call would need a contract on reading (D77).
 fn answer_next(input: &mut impl Read, output: &mut impl Write) -> Result<bool> {
     let mut letter = [0u8; 1];
-    if !read_whole(input, &mut letter) {
+    if read_whole(input, &mut letter).is_none() {
         return Ok(false);
     }
     let is_answered = answer_kind(input, output, letter[0])?;

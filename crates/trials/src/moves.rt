@@ -9,7 +9,6 @@ use crate::marked::write_marked;
 use crate::output::{write_byte, write_number, write_text};
 use bench::{Bench, Moved, fresh, next_move};
 use load::MOST_ROWS;
-use refusals::number_of;
 use rules::Outcome;
 use std::io::{Read, Result, Write};
 use words::{byte_at, number32_at};
@@ -26,6 +25,7 @@ const ROW_SIZE: usize = 9;
 fn bench_from(bytes: &[u8]) -> Bench {
     let mut bench = fresh();
     bench.clock = number32_at(bytes, 0);
+    // Counted, as three arrays are filled at one place.
     for i in 0..MOST_ROWS {
         let at = CLOCK_SIZE + ROW_SIZE * i;
         bench.finished[i] = byte_at(bytes, at);
@@ -45,10 +45,7 @@ fn write_outcome(output: &mut impl Write, outcome: Outcome) -> Result<()> {
         }
         Outcome::Idle => write_text(output, b"idle"),
         Outcome::Done => write_text(output, b"done"),
-        Outcome::Refused(refusal) => {
-            write_refused(output, number_of(refusal))?;
-            Ok(())
-        }
+        Outcome::Refused(refusal) => write_refused(output, refusal),
     }
 }
 
@@ -62,6 +59,7 @@ fn write_row(output: &mut impl Write, finished: u8, end: u32, opening: u32) -> R
 // Writes what a state holds: the clock, and then every row.
 fn write_bench(output: &mut impl Write, bench: Bench) -> Result<()> {
     write_number(output, b" clock ", bench.clock)?;
+    // Counted, as three arrays are read at one place.
     for i in 0..MOST_ROWS {
         write_row(output, bench.finished[i], bench.end[i], bench.opening[i])?;
     }
@@ -70,8 +68,7 @@ fn write_bench(output: &mut impl Write, bench: Bench) -> Result<()> {
 
 // Writes all that a move hands back.
 fn write_moved(output: &mut impl Write, moved: Moved) -> Result<()> {
-    let outcome = moved.outcome;
-    write_outcome(output, outcome)?;
+    write_outcome(output, moved.outcome)?;
     write_number(output, b" lamps ", moved.lamps)?;
     write_number(output, b" count ", moved.count)?;
     write_bench(output, moved.bench)
@@ -79,15 +76,16 @@ fn write_moved(output: &mut impl Write, moved: Moved) -> Result<()> {
 
 // Reads and answers the question. Says no where it is cut short, or the file too long.
 pub fn answer(given: Given, input: &mut impl Read, output: &mut impl Write) -> Result<bool> {
-    if !given.is_whole {
+    let Some(given) = given else {
         return Ok(false);
-    }
+    };
     let mut state = [0u8; STATE_SIZE];
-    if !read_whole(input, &mut state) {
+    if read_whole(input, &mut state).is_none() {
         return Ok(false);
     }
-    if !write_refused(output, given.found)? {
-        write_moved(output, next_move(given.load, bench_from(&state)))?;
+    match given {
+        Ok(load) => write_moved(output, next_move(load, bench_from(&state)))?,
+        Err(refusal) => write_refused(output, refusal)?,
     }
     write_byte(output, b'\n')?;
     Ok(true)

@@ -1,4 +1,5 @@
 // What is answered, by pieces: texts, and numbers as decimal digits.
+// The other program of trials has the same file (D77).
 use std::io::{Result, Write};
 
 // Writes a text.

@@ -3,6 +3,7 @@ use Prim.Native.Nat.{ℕ}
 use mathlib.Core.List.{List}
 use mathlib.Core.Path.{◌≡◌, sym, ◌∙◌}
 use lib.IntN.{ℤ}
+use Rattle.std.specs.Prelude.{Option}
 use Rattle.words.specs.declared.Digits.{Digits}
 use Rattle.words.specs.declared.Word.{Word}
 use Rattle.words.specs.Calls.{
@@ -39,5 +40,5 @@ DecimalOf-unique n r s p q = p ∙ sym q
 pub SignedOf-unique : (z : ℤ) (r s : Word) → SignedOf z r → SignedOf z s → r ≡ s
 SignedOf-unique z r s p q = p ∙ sym q
 
-pub DecimalAt-unique : (bs : List ℕ) (at : ℕ) (r s : Digits) → DecimalAt bs at r → DecimalAt bs at s → r ≡ s
+pub DecimalAt-unique : (bs : List ℕ) (at : ℕ) (r s : Option Digits) → DecimalAt bs at r → DecimalAt bs at s → r ≡ s
 DecimalAt-unique bs at r s p q = p ∙ sym q

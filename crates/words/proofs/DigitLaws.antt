@@ -1,16 +1,19 @@
 -- Laws of the digits that stand from a place on: how many there are, and what they spell, digit by digit; it is below
 -- the power of ten of their count. Only the bytes from the place on matter.
-use Prim.Native.Nat.{ℕ, zero, suc, ◌+◌, ◌-◌, ◌*◌, ◌^◌, ◌≤◌, ◌<◌}
+use Prim.Native.Nat.{ℕ, zero, suc, min, ◌+◌, ◌-◌, ◌*◌, ◌^◌, ◌≤◌, ◌<◌}
 use mathlib.Core.Bool.{true, false, not}
 use mathlib.Core.List.{List}
-use mathlib.Core.Path.{◌≡◌, refl, ap, ap₂}
+use mathlib.Core.Path.{◌≡◌, refl, ap, ap₂, sym, ◌∙◌}
 use native.Mathlib.Decide.{dec_lt, ℕ_discrete}
 use native.Mathlib.Nat.{pow-suc, zero-add}
 use native.Mathlib.Numerals.{add-one}
 use native.Mathlib.Omega.{arith}
 use borrow.Author.Tests.{le-leb, leb-true, not-false}
 use lib.Dec.{leb}
-use lib.ListN.{length, drop, get_or-eq_default}
+use lib.ListN.{length, take, drop, length-take, get_or-eq_default}
+use Rattle.std.specs.List.{prefix_len}
+use Rattle.std.proofs.lemmas.List.{get_or-take}
+use Rattle.std.proofs.lemmas.List.Sums.{prefix_len-le-length, prefix_len_passes, prefix_len_stops}
 use lib.Seq.{get_or-drop}
 use Rattle.counting.proofs.searches.FirstToLaws.{IsFirst, first_to-first, first_to-unique}
 use Rattle.counting.proofs.tests.TestLaws.{and_left, and_right, and_both}
@@ -78,6 +81,32 @@ module _ (bs : List ℕ) (at : ℕ) where
   value_at-lt (suc n) run =
       let sign = is_digit-true (byte_at bs (at + n)) (run n (omega arith)) in
       rw (pow-suc 10 n) (omega (arith, sign.most, value_at-lt n (λ d l. run d (omega arith))))
+
+-- so many of the first eleven bytes are digits in front of any other
+pub digits_at-prefix : (bs : List ℕ) → prefix_len is_digit (take 11 bs) ≡ digits_at bs 0
+digits_at-prefix bs =
+    let n : ℕ = prefix_len is_digit (take 11 bs) in
+    let long : length (take 11 bs) ≡ min 11 (length bs) = length-take 11 bs in
+    let few = prefix_len-le-length is_digit (take 11 bs) in
+    digits_at-is bs 0 n (omega arith)
+    (λ d l.
+    rw zero-add
+    (ap is_digit (sym (get_or-take 11 bs d 0 (omega arith))) ∙ prefix_len_passes is_digit (take 11 bs) d 0 l))
+    (λ l.
+    rw zero-add
+    (elim (dec_lt n (length (take 11 bs))) [
+      | yes g ↦
+          ap is_digit (sym (get_or-take 11 bs n 0 l)) ∙ prefix_len_stops is_digit (take 11 bs) 0 g
+      | no g ↦ ap is_digit (get_or-eq_default bs 0 (omega arith))
+    ]))
+
+-- nor do those behind the digits that are taken
+pub value_at-take : (bs : List ℕ) (most n : ℕ) → n ≤ most → value_at (take most bs) 0 n ≡ value_at bs 0 n
+unfolding value_at
+value_at-take bs most zero l = refl
+value_at-take bs most (suc n) l =
+    ap₂ (λ v b. 10 * v + (b - 48)) (value_at-take bs most n (omega arith))
+    (rw zero-add (get_or-take most bs n 0 l))
 
 -- the bytes before the place do not matter
 pub digits_at-drop : (bs : List ℕ) (at : ℕ) → digits_at (drop at bs) 0 ≡ digits_at bs at

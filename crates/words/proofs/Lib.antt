@@ -7,6 +7,7 @@ pub mod ByteLaws
 pub mod DigitLaws
 pub mod SpellLaws
 pub mod PlainLaws
+pub mod ReadLaws
 pub mod SignLaws
 pub mod LampLaws
 pub mod CallLaws

@@ -3,7 +3,7 @@
 use Prim.Native.Nat.{ℕ, zero, suc, ◌+◌, ◌*◌, ◌/◌, ◌%◌, ◌^◌, ◌≤◌, ◌<◌}
 use mathlib.Core.List.{List, [], ◌∷◌, ◌++◌}
 use mathlib.Core.Path.{◌≡◌, refl, ap, ap₂, sym, ◌∙◌}
-use native.Mathlib.Nat.{pow-suc}
+use native.Mathlib.Nat.{pow-suc, zero-add}
 use native.Mathlib.Numerals.{add-one}
 use native.Mathlib.Omega.{arith}
 use lib.ListN.{length, take, drop}
@@ -53,15 +53,28 @@ number_at-first width bs rest at e =
     let z : at ≡ at + 0 = omega arith in
     ap (number_at width bs) z ∙ sym (number_at-drop width bs at 0) ∙ ap (λ l. number_at width l 0) (sym e)
 
--- the number of four bytes, by their weights
-pub number_at-four : (bs : List ℕ) (at : ℕ)
-    → number_at 4 bs at
-    ≡ byte_at bs at + 256 * byte_at bs (at + 1) + 65536 * byte_at bs (at + 2) + 16777216 * byte_at bs (at + 3)
+-- only so many bytes from the place on count
+number_at-same : (width : ℕ) (xs ys : List ℕ) (i at : ℕ)
+    → ((k : ℕ) → k < width → byte_at xs (i + k) ≡ byte_at ys (at + k))
+    → number_at width xs i ≡ number_at width ys at
 unfolding number_at
-number_at-four bs at =
-    let third : byte_at bs (at + 1 + 1) ≡ byte_at bs (at + 2) = ap (byte_at bs) (omega arith) in
-    let fourth : byte_at bs (at + 1 + 1 + 1) ≡ byte_at bs (at + 3) = ap (byte_at bs) (omega arith) in
-    omega (arith, third, fourth)
+number_at-same zero xs ys i at h = refl
+number_at-same (suc width) xs ys i at h =
+    let a : i + 0 ≡ i = omega arith in
+    let b : at + 0 ≡ at = omega arith in
+    ap₂ (λ b n. b + 256 * n) (rw (a, b) at (h 0 (omega arith)))
+    (number_at-same width xs ys (i + 1) (at + 1)
+    (λ k l.
+    let one : i + suc k ≡ i + 1 + k = omega arith in
+    let other : at + suc k ≡ at + 1 + k = omega arith in
+    rw (one, other) at (h (suc k) (omega arith))))
+
+-- the number at a place is that of so many bytes that were taken from there on
+pub number_at-taken : (width : ℕ) (bs taken : List ℕ) (at : ℕ)
+    → ((k : ℕ) → k < width → byte_at taken k ≡ byte_at bs (at + k))
+    → number_at width taken 0 ≡ number_at width bs at
+number_at-taken width bs taken at h =
+    number_at-same width taken bs 0 at (λ k l. ap (byte_at taken) (zero-add k) ∙ h k l)
 
 read_head : (width n : ℕ) (ys : List ℕ) → n < 256 ^ width → number_at width (little_endian width n ++ ys) 0 ≡ n
 unfolding number_at little_endian

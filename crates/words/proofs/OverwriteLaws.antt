@@ -1,15 +1,16 @@
 -- Laws of bytes written over a list from a place on: past the end nothing is written, and what is written in two
 -- pieces, or in many, one behind the other, is written as one.
-use Prim.Native.Nat.{ℕ, zero, suc, ◌+◌, ◌-◌, ◌*◌, ◌≤◌, ◌<◌}
+use Prim.Native.Nat.{ℕ, zero, suc, min, ◌+◌, ◌-◌, ◌≤◌}
 use mathlib.Core.List.{List, [], ◌∷◌, ◌++◌}
+use Rattle.std.proofs.lemmas.List.{append_assoc}
 use mathlib.Core.Path.{◌≡◌, refl, ap, sym, ◌∙◌}
-use native.Mathlib.Nat.{mul_comm, sub-zero, zero-sub, suc-sub-suc}
-use native.Mathlib.Numerals.{add-one}
+use native.Mathlib.Nat.{sub-zero, zero-sub, suc-sub-suc}
 use native.Mathlib.Omega.{arith}
-use lib.ListN.{length, drop, get_or, set, replicate, length-replicate}
-use lib.Seq.{sets, sets-eq, set_out, set_comm, drop-cons}
+use native.Mathlib.Decide.{dec_lt}
+use lib.ListN.{length, take, drop, set, replicate, length-take, length-replicate, drop_of_length-le, take-append-drop}
+use lib.Seq.{sets, length-sets, sets-eq, set_out, set_comm, drop-drop}
 use Rattle.counting.specs.Lists.{join_to}
-use Rattle.counting.proofs.lists.ListLaws.{join_to-zero, join_to-next, join_to-length-same}
+use Rattle.counting.proofs.lists.ListLaws.{join_to-zero, join_to-next}
 
 module _ {A : Type 0} where
   -- from the end on nothing is written
@@ -19,13 +20,6 @@ module _ {A : Type 0} where
       let e : set out at x ≡ out = set_out out at x h in
       ap (λ l. sets l (suc at) xs) e ∙ sets-past out (suc at) xs (omega arith)
 
-  -- one element, and those behind it
-  pub sets-next : (out : List A) (at : ℕ) (xs : List A) (i : ℕ) (z : A) → i < length xs
-      → sets out (at + i) (drop i xs) ≡ sets (set out (at + i) (get_or xs i z)) (at + (i + 1)) (drop (i + 1) xs)
-  sets-next out at xs i z l =
-      let e : at + (i + 1) ≡ suc (at + i) = omega arith in
-      rw (e, add-one i, drop-cons xs i z l)
-
   -- one piece behind the other
   pub sets-append : (out : List A) (at : ℕ) (xs ys : List A)
       → sets (sets out at xs) (at + length xs) ys ≡ sets out at (xs ++ ys)
@@ -33,6 +27,39 @@ module _ {A : Type 0} where
   sets-append out at (x ∷ xs) ys =
       let e : at + suc (length xs) ≡ suc at + length xs = omega arith in
       rw e (sets-append (set out at x) (suc at) xs ys)
+
+  -- what does not fit is not written: that much of it is, from the place or the end on
+  sets-fitting : (out xs : List A) (at start count : ℕ) → start ≡ min at (length out)
+      → count ≡ min (length xs) (length out - start) → sets out at xs ≡ sets out start (take count xs)
+  sets-fitting out xs at start count s n =
+      elim (dec_lt (length out) at) [
+        | yes l ↦ sets-past out at xs (omega arith) ∙ sym (sets-past out start (take count xs) (omega arith))
+        | no l ↦
+            let here : start ≡ at = omega arith in
+            let front : List A = take count xs in
+            let fits : length front ≡ count = omega (arith, length-take count xs) in
+            let so_far : List A = sets out at front in
+            let all : sets so_far (at + length front) (drop count xs) ≡ so_far =
+            elim (dec_lt count (length xs)) [
+              | yes g ↦ sets-past so_far (at + length front) (drop count xs) (omega (arith, length-sets out at front))
+              | no g ↦ ap (sets so_far (at + length front)) (drop_of_length-le xs {i = count} (omega arith))
+            ] in
+            rw here
+            (ap (sets out at) (sym (take-append-drop count xs)) ∙ sym (sets-append out at front (drop count xs)) ∙ all)
+      ]
+
+  -- and what stands before and behind it stays
+  pub copied-fitting : (out xs part : List A) (at start count size : ℕ) → start ≡ min at (length out)
+      → count ≡ min (length xs) (length out - start) → size ≡ count → part ≡ take count xs
+      → take start out ++ (part ++ drop size (drop start out)) ≡ sets out at xs
+  copied-fitting out xs part at start count size s n e p =
+      let front : List A = take count xs in
+      let long : length front ≡ count = omega (arith, length-take count xs) in
+      let behind : drop size (drop start out) ≡ drop (start + length front) out =
+      drop-drop size start out ∙ ap (λ k. drop (start + k) out) (e ∙ sym long) in
+      rw (p, behind)
+      (sym (rw append_assoc at (sets-eq front out start (omega arith)))
+      ∙ sym (sets-fitting out xs at start count s n))
 
   -- what is written behind a piece may be written before it
   pub sets-set : (out : List A) (at place : ℕ) (xs : List A) (x : A) → at + length xs ≤ place
@@ -79,13 +106,3 @@ module _ {A : Type 0} where
       → after ≡ sets out at (join_to f (n + 1))
   sets-joined-next f out so_far after at next n e p q =
       sets_more out so_far after at next (join_to f n) (f n) e p q ∙ ap (sets out at) (sym (join_to-next f n))
-
-  -- the same, of pieces of one length, where the next was made beforehand
-  pub sets-same-next : (f : ℕ → List A) (size : ℕ) → ((i : ℕ) → length (f i) ≡ size)
-      → (out so_far after piece : List A) (at n : ℕ)
-      → so_far ≡ sets out at (join_to f n) → piece ≡ f n → after ≡ sets so_far (at + size * n) piece
-      → after ≡ sets out at (join_to f (n + 1))
-  sets-same-next f size h out so_far after piece at n p made q =
-      let so-long : length (join_to f n) ≡ n * size = join_to-length-same f size n h in
-      let e : at + size * n ≡ at + length (join_to f n) = rw (so-long, mul_comm size n) in
-      sets-joined-next f out so_far after at (at + size * n) n e p (q ∙ ap (sets so_far (at + size * n)) made)

@@ -9,8 +9,7 @@ use native.Mathlib.Nat.{pow-le-pow_right}
 use native.Mathlib.Omega.{arith}
 use borrow.Author.Tests.{le-leb, leb-true, eqb-false, ne_eqb, not-true}
 use lib.Dec.{leb, eqb}
-use lib.ListN.{length, drop}
-use lib.Seq.{get_or-drop}
+use lib.ListN.{length}
 use Rattle.counting.proofs.lists.PieceLaws.{Stands}
 use Rattle.counting.proofs.tests.TestLaws.{and_left, and_right, and_both, never_true}
 use Rattle.words.specs.LittleEndian.{byte_at}
@@ -18,16 +17,7 @@ use Rattle.words.specs.Decimal.{decimal}
 use Rattle.words.specs.PlainDecimal.{is_digit, digits_at, value_at, is_plain, plain_at, plain_value}
 use Rattle.words.proofs.DecimalLaws.{decimal-small, decimal-length-le, decimal-length-lt}
 use Rattle.words.proofs.SpellLaws.{DecimalStands, decimal-spells, run-stands}
-use Rattle.words.proofs.DigitLaws.{
-  IsSign,
-  is_digit-true,
-  Run,
-  digit-inside,
-  digits_at-run,
-  digits_at-is,
-  digits_at-drop,
-  value_at-lt,
-}
+use Rattle.words.proofs.DigitLaws.{IsSign, is_digit-true, Run, digit-inside, digits_at-run, digits_at-is, value_at-lt}
 
 -- so many digits are a plain decimal whose first byte is b
 pub record IsPlain (d b : ℕ) : Type 0 where
@@ -45,7 +35,7 @@ front-other true zeros h = refl
 front-other false zeros h = rw (h refl)
 
 module _ (bs : List ℕ) (at : ℕ) where
-  is_plain-true : (d : ℕ) → is_plain bs at d ≡ true → IsPlain d (byte_at bs at)
+  pub is_plain-true : (d : ℕ) → is_plain bs at d ≡ true → IsPlain d (byte_at bs at)
   is_plain-true d e =
       let counted = and_left (leb 1 d && leb d 10) (eqb d 1 || not (eqb (byte_at bs at) 48)) e in
       let fronted = and_right (leb 1 d && leb d 10) (eqb d 1 || not (eqb (byte_at bs at) 48)) e in
@@ -57,7 +47,7 @@ module _ (bs : List ℕ) (at : ℕ) where
             (front-alone (eqb d 1) (eqb (byte_at bs at) 48) fronted (ne_eqb d 1 (λ e. absurd (omega arith))));
       }
 
-  plain-is_plain : (d : ℕ) → IsPlain d (byte_at bs at) → is_plain bs at d ≡ true
+  pub plain-is_plain : (d : ℕ) → IsPlain d (byte_at bs at) → is_plain bs at d ≡ true
   plain-is_plain d h =
       and_both (leb 1 d && leb d 10) (eqb d 1 || not (eqb (byte_at bs at) 48))
       (and_both (leb 1 d) (leb d 10) (le-leb 1 d h.some) (le-leb d 10 h.few))
@@ -116,19 +106,9 @@ module _ (bs : List ℕ) (at : ℕ) where
       let all = plain_at-digits (omega arith) in
       digits_at-run bs at d (omega arith)
 
-  -- the digits of a plain decimal, and what the first n of them spell
-  module _ (n : ℕ) (l : n < plain_at bs at) where
-    pub plain-sign : IsSign (byte_at bs (at + n))
-    plain-sign = is_digit-true (byte_at bs (at + n)) (plain_at-run-of n l)
-
-    pub plain-front-lt : value_at bs at n < 10 ^ 9
-    plain-front-lt =
-        let few = plain_at-le in
-        omega (
-          arith,
-          value_at-lt bs at n (λ d g. plain_at-run-of d (omega arith)),
-          pow-le-pow_right {n = 10} (omega arith) {i = n} {j = 9} (omega arith),
-        )
+  -- the digits of a plain decimal
+  pub plain-sign : (n : ℕ) → n < plain_at bs at → IsSign (byte_at bs (at + n))
+  plain-sign n l = is_digit-true (byte_at bs (at + n)) (plain_at-run-of n l)
 
   pub plain_value-lt : plain_value bs at < 10 ^ 10
   plain_value-lt =
@@ -142,13 +122,6 @@ module _ (bs : List ℕ) (at : ℕ) where
   plain_at-inside l =
       let last = digit-inside bs (at + (plain_at bs at - 1)) (plain_at-run-of (plain_at bs at - 1) (omega arith)) in
       omega arith
-
-pub plain_at-drop : (bs : List ℕ) (at : ℕ) → plain_at (drop at bs) 0 ≡ plain_at bs at
-unfolding plain_at
-plain_at-drop bs at =
-    let e : at + 0 ≡ at = omega arith in
-    let front : byte_at (drop at bs) 0 ≡ byte_at bs at = get_or-drop at bs 0 0 ∙ ap (byte_at bs) e in
-    rw (digits_at-drop bs at, front)
 
 module _ (bs : List ℕ) (at : ℕ) where
   -- what is read where the decimal of n stands

@@ -1,6 +1,7 @@
 -- What each public call's contract says: one relation a call, over what it takes, what it gives,
 -- and what the lent bytes hold afterwards. Places past the end read as 0 and are not written.
-use Rattle.std.specs.Prelude.{ℕ, ◌-◌, List, ◌++◌, ◌≡◌, ℤ, length, replicate}
+use Rattle.std.specs.Prelude.{ℕ, ◌-◌, cond, List, ◌++◌, ◌≡◌, ltb, ℤ, length, replicate}
+use Rattle.std.specs.Prelude.{Option, Some, None}
 use Rattle.std.proofs.lemmas.List.Edits.{sets}
 use Rattle.words.specs.declared.Word.{Word}
 use Rattle.words.specs.declared.Digits.{Digits}
@@ -46,7 +47,12 @@ DecimalOf n r = r ≡ word_holding (decimal n)
 abbrev pub SignedOf : ℤ → Word → Type 0
 SignedOf z r = r ≡ word_holding (signed_decimal z)
 
--- decimal_at(bs, at): the plain decimal at a place: how many digits it has, and the number; 0 and 0
--- where none stands there
-abbrev pub DecimalAt : List ℕ → ℕ → Digits → Type 0
-DecimalAt bs at r = r ≡ record { count = plain_at bs at; value = plain_value bs at }
+-- decimal_at(bs, at): the plain decimal at a place, where one stands there: how many digits it has,
+-- and the number
+abbrev pub DecimalAt : List ℕ → ℕ → Option Digits → Type 0
+DecimalAt bs at r =
+    r
+    ≡ cond
+    (ltb 0 (plain_at bs at))
+    (Some (record { count = plain_at bs at; value = plain_value bs at }))
+    None

@@ -6,7 +6,7 @@
 mod decimal;
 mod plain;
 
-ghost use Rattle.std.specs.Prelude.{◌≡◌, ◌+◌, ◌-◌, ◌≤◌, ◌<◌, length, drop};
+ghost use Rattle.std.specs.Prelude.{ℕ, ◌≡◌, ◌+◌, ◌<◌, drop, slice_index};
 ghost use Rattle.words.specs.LittleEndian.{byte_at};
 ghost use Rattle.words.specs.Calls.{ByteAt, NumberAt, Overwrite, LittleEndian, Complement};
 
@@ -23,8 +23,7 @@ pub struct Word {
     pub bytes: [u8; WORD_PLACES],
 }
 
-// A number that was read as text: how many digits it has, none where no number stands there, and
-// what they spell.
+// A number that was read as text: how many digits it has, and what they spell.
 #[derive(Clone, Copy)]
 pub struct Digits {
     pub count: usize,
@@ -35,85 +34,48 @@ pub struct Digits {
 pub fn byte_at(bytes: &[u8], at: usize) -> u8
     ensures { ByteAt bytes.now at result }
 {
-    if at < bytes.len() { bytes[at] } else { 0 }
+    bytes.get(at).copied().unwrap_or(0)
 }
 
 // The bytes from a place on; none past the end.
 fn bytes_from(bytes: &[u8], at: usize) -> &[u8]
     ensures { result.now ≡ drop at bytes.now }
 {
-    if at < bytes.len() {
-        &bytes[at..]
-    } else {
-        &bytes[bytes.len()..]
+    bytes.get(at..).unwrap_or(&[])
+}
+
+// So many bytes from a place on; 0 for each that is past the end. Most numbers are read where all
+// their bytes are, and there one test is enough for all: first_chunk would ask twice, and copying
+// what is there would keep the array in memory.
+fn bytes_at<const SIZE: usize>(bytes: &[u8], at: usize) -> [u8; SIZE]
+    ensures { (k : ℕ) → k < SIZE → slice_index result k ≡ byte_at bytes.now (at + k) }
+{
+    if SIZE <= bytes.len() && at <= bytes.len() - SIZE {
+        let mut all = [0; SIZE];
+        all.copy_from_slice(&bytes[at..at + SIZE]);
+        return all;
     }
-}
-
-// The byte at a place, 0 past the end, as a number to be counted with.
-fn wide_at(bytes: &[u8], at: usize) -> u32
-    ensures { (result ≡ byte_at bytes.now at) × (result < 256) }
-{
-    byte_at(bytes, at) as u32
-}
-
-// The number of the two bytes from a place on, which are all there.
-fn inside16(bytes: &[u8], at: usize) -> u16
-    requires { at + 2 ≤ length bytes.now }
-    ensures { NumberAt 2 bytes.now at result }
-{
-    (wide_at(bytes, at) + 256 * wide_at(bytes, at + 1)) as u16
+    let rest = bytes_from(bytes, at);
+    let mut some = [0; SIZE];
+    for (k, byte) in some.iter_mut().enumerate() {
+        *byte = byte_at(rest, k);
+    }
+    some
 }
 
 // The number of the two bytes from a place on, the lowest first; a byte past the end counts as 0.
-// Most numbers are read where all their bytes are, and there one test is enough for both.
+// docs/BELIEVE.md names it and number32_at, so both stay: each is one line over bytes_at.
 pub fn number16_at(bytes: &[u8], at: usize) -> u16
     ensures { NumberAt 2 bytes.now at result }
 {
-    if 2 <= bytes.len() {
-        if at <= bytes.len() - 2 {
-            return inside16(bytes, at);
-        }
-    }
-    let rest = bytes_from(bytes, at);
-    (wide_at(rest, 0) + 256 * wide_at(rest, 1)) as u16
-}
-
-// The number of the four bytes from a place on, which are all there.
-fn inside32(bytes: &[u8], at: usize) -> u32
-    requires { at + 4 ≤ length bytes.now }
-    ensures { NumberAt 4 bytes.now at result }
-{
-    wide_at(bytes, at)
-        + 256 * wide_at(bytes, at + 1)
-        + 65536 * wide_at(bytes, at + 2)
-        + 16777216 * wide_at(bytes, at + 3)
+    u16::from_le_bytes(bytes_at(bytes, at))
 }
 
 // The number of the four bytes from a place on, the lowest first; a byte past the end counts as 0.
-// Most numbers are read where all their bytes are, and there one test is enough for all four.
 pub fn number32_at(bytes: &[u8], at: usize) -> u32
     ensures { NumberAt 4 bytes.now at result }
 {
-    if 4 <= bytes.len() {
-        if at <= bytes.len() - 4 {
-            return inside32(bytes, at);
-        }
-    }
-    let rest = bytes_from(bytes, at);
-    wide_at(rest, 0)
-        + 256 * wide_at(rest, 1)
-        + 65536 * wide_at(rest, 2)
-        + 16777216 * wide_at(rest, 3)
-}
-
-// How many of so many bytes lie before the end, where the first is put at a place.
-fn fitting(asked: usize, at: usize, end: usize) -> usize
-    ensures { (result ≤ asked) × (result ≤ end - at) × ((result < asked → end ≤ at + result)) }
-{
-    if end <= at {
-        return 0;
-    }
-    if end - at < asked { end - at } else { asked }
+    u32::from_le_bytes(bytes_at(bytes, at))
 }
 
 // Writes the bytes over the output from a place on. Bytes that would lie past the end are not
@@ -121,32 +83,29 @@ fn fitting(asked: usize, at: usize, end: usize) -> usize
 pub fn overwrite(out: &mut [u8], at: usize, bytes: &[u8])
     ensures { Overwrite out.old at bytes.now out.new }
 {
-    let count = fitting(bytes.len(), at, out.len());
-    for i in 0..count {
-        out[at + i] = bytes[i];
-    }
+    let start = at.min(out.len());
+    let count = bytes.len().min(out.len() - start);
+    out[start..start + count].copy_from_slice(&bytes[..count]);
 }
 
 // The two bytes of a number, the lowest first.
+// docs/BELIEVE.md names it and bytes32, so both stay: each is one call of the library.
 pub fn bytes16(number: u16) -> [u8; 2]
     ensures { LittleEndian 2 number result }
 {
-    [(number % 256) as u8, (number / 256) as u8]
+    u16::to_le_bytes(number)
 }
 
 // The four bytes of a number, the lowest first.
 pub fn bytes32(number: u32) -> [u8; 4]
     ensures { LittleEndian 4 number result }
 {
-    let low = bytes16((number % 65536) as u16);
-    let high = bytes16((number / 65536) as u16);
-    [low[0], low[1], high[0], high[1]]
+    u32::to_le_bytes(number)
 }
 
 // The word of 32 bits in which a whole number is written, in two's complement.
 pub fn complement32(number: i32) -> u32
     ensures { Complement 32 number result }
 {
-    let raised = number as i64 + 4294967296;
-    ((raised as u64) % 4294967296) as u32
+    number.cast_unsigned()
 }

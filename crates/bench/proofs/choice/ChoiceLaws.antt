@@ -36,7 +36,8 @@ use Rattle.rules.proofs.plan.StackLaws.{
 use Rattle.bench.specs.declared.Bench.{Bench}
 use Rattle.bench.specs.Held.{state_of}
 use Rattle.plan.specs.Looks.{further}
-use Rattle.plan.specs.Boards.{Board, look_in}
+use Rattle.plan.specs.declared.Board.{Board}
+use Rattle.plan.specs.Boards.{look_in}
 use Rattle.bench.specs.inner.Boards.{Wide, Shows, ClassesOf}
 use Rattle.plan.specs.Choices.{below_in, candidate_in, opening_in, open_after, jobs_in, passes_in, turn_in, chosen_in}
 use Rattle.plan.proofs.StoreLaws.{stored}

@@ -7,7 +7,7 @@ use mathlib.Core.Path.{◌≡◌, ap, ap₂, sym, ◌∙◌}
 use native.Mathlib.Decide.{dec_lt}
 use native.Mathlib.Omega.{arith}
 use lib.Dec.{leb}
-use lib.ListN.{length, set}
+use lib.ListN.{set}
 use Rattle.counting.specs.Sums.{all_to, bit, count_to}
 use Rattle.counting.specs.Lists.{member_at, is_marked}
 use Rattle.counting.specs.Searches.{at, none}
@@ -15,7 +15,7 @@ use Rattle.counting.proofs.sums.SumLaws.{sum_to-ext}
 use Rattle.counting.proofs.tests.TestLaws.{all_to-ext}
 use Rattle.refusals.specs.declared.Refusal.{Refusal}
 use Rattle.refusals.specs.declared.Refusal.TheVariants.{StateShape, ClockFull}
-use Rattle.refusals.specs.declared.Checked.TheVariants.{Good, Refused}
+use Rattle.std.specs.Prelude.{Ok, Err}
 use Rattle.words.specs.LampWord.{word_of}
 use Rattle.load.specs.declared.Load.{Load}
 use Rattle.load.specs.Load.{last_moment}
@@ -32,24 +32,24 @@ use Rattle.bench.specs.declared.Bench.{Bench}
 use Rattle.bench.specs.declared.Moved.{Moved}
 use Rattle.bench.specs.Held.{state_of, bench_of, HeldBench, bench_at, handed_on, refused_with, next_move}
 use Rattle.plan.specs.declared.Look.{Look}
-use Rattle.plan.specs.Boards.{Board, count_places, marks_from, board_in, look_in}
+use Rattle.plan.specs.declared.Board.{Board}
+use Rattle.plan.specs.Boards.{look_in}
 use Rattle.bench.specs.inner.Boards.{Shows, ClassesOf}
 use Rattle.plan.specs.Choices.{opening_by, opening_in, open_after, chosen_in}
 use Rattle.plan.specs.Calls.{ChosenRow}
 use Rattle.bench.specs.inner.Moves.{bench_started, slot_of, finished_in, handed_with, started_in, Stepped}
-use Rattle.plan.proofs.BoardLaws.{marks_from-set}
 use Rattle.plan.proofs.SearchLaws.{candidate-more, chosen-there, search-row, search-none}
 use Rattle.bench.proofs.shown.HeldLaws.{bench_of-state_of, ticked-is, bench_started-is}
 use Rattle.bench.proofs.choice.JoinLaws.{rows_are, finished-same, steps-same, cost-same, opened-same}
 use Rattle.bench.proofs.choice.ChoiceLaws.{opening-after, open_after-is, chosen-same}
 
 -- a load that is accepted, and one that is refused
-pub next_move-good : (load : Load) (bench : Bench) → check_load load ≡ Good
+pub next_move-good : (load : Load) (bench : Bench) → check_load load ≡ Ok tt
     → next_move load bench ≡ handed_on bench (move (view_of load) (state_of bench))
 unfolding next_move
 next_move-good load bench e = rw (e, next_move)
 
-pub next_move-refused : (load : Load) (bench : Bench) (refusal : Refusal) → check_load load ≡ Refused refusal
+pub next_move-refused : (load : Load) (bench : Bench) (refusal : Refusal) → check_load load ≡ Err refusal
     → next_move load bench ≡ refused_with bench refusal
 unfolding next_move
 next_move-refused load bench refusal e = rw (e, next_move)
@@ -188,22 +188,12 @@ module _ (load : Load) (bench : Bench) (board : Board) (shows : Shows load bench
         same = chosen-same load bench board shows classes told most
 
 -- what is handed back of a start, by what was looked up of its row
-pub handed-start : (bench next : Bench) (counts lengths moments lit : List ℕ) (rows i opening : ℕ) (look : Look)
-    (slot : Slot) (moved : Moved) → i < 24 → length counts ≡ count_places
-    → look ≡ look_in (board_in counts lengths moments) i
+pub handed-start : (bench next : Bench) (board : Board) (lit : List Bool) (rows i opening : ℕ) (look : Look)
+    (slot : Slot) (moved : Moved) → look ≡ look_in board i
     → opening ≡ opening_by look.stays look.opened look.opening bench.clock
-    → lit ≡ set counts (48 + i) (bit look.stays) → slot ≡ slot_of i look.finished bench.clock
-    → next ≡ bench_started bench i look.cost opening → moved ≡ handed_with next (Start slot) (marks_from lit 48) rows
-    → moved ≡ started_in bench (board_in counts lengths moments) rows i
+    → lit ≡ set board.opened i look.stays → slot ≡ slot_of i look.finished bench.clock
+    → next ≡ bench_started bench i look.cost opening → moved ≡ handed_with next (Start slot) lit rows
+    → moved ≡ started_in bench board rows i
 unfolding started_in
-handed-start bench next counts lengths moments lit rows i opening look slot moved inside long looked opens lights slots
-    begins e =
-    e
-    ∙ rw (
-      begins,
-      slots,
-      lights,
-      opens,
-      looked,
-      marks_from-set counts 48 i (look_in (board_in counts lengths moments) i).stays inside (omega (arith, long)),
-    )
+handed-start bench next board lit rows i opening look slot moved looked opens lights slots begins e =
+    e ∙ rw (begins, slots, lights, opens, looked)

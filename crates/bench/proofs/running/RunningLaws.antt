@@ -14,7 +14,7 @@ use Rattle.counting.specs.Searches.{none, is_found}
 use Rattle.counting.proofs.sums.SumLaws.{sum_to-ext}
 use Rattle.counting.proofs.tests.TestLaws.{true-false}
 use Rattle.counting.proofs.searches.FirstToLaws.{first_to-first}
-use Rattle.refusals.specs.declared.Checked.TheVariants.{Good}
+use Rattle.std.specs.Prelude.{Ok}
 use Rattle.load.specs.declared.Load.{Load}
 use Rattle.load.specs.Load.{most_rows, last_moment}
 use Rattle.load.specs.View.{View, view_of}
@@ -33,7 +33,7 @@ use Rattle.rules.proofs.invariant.FullSetting.{full_setting}
 use Rattle.rules.proofs.invariant.MoveKeeps.{Accounted, fresh-accounted, accounted-time, accounted-shaped}
 use Rattle.rules.proofs.run.StretchLaws.{Quiet, starts-done, quiet-accounted, quiet-starts}
 use Rattle.bench.specs.declared.Bench.{Bench}
-use Rattle.plan.specs.Boards.{Board}
+use Rattle.plan.specs.declared.Board.{Board}
 use Rattle.bench.specs.Held.{state_of, bench_of, HeldBench, bench_at}
 use Rattle.bench.specs.inner.Boards.{Shows, ClassesOf}
 use Rattle.plan.specs.declared.Chosen.{Chosen}
@@ -65,7 +65,7 @@ pub record Running (load : Load) (board : Board) (clock count : ℕ) : Type 0 wh
   pub count-is : length before ≡ count
   pub schedule-is : schedule (view_of load) ≡ before ++ starts (view_of load) moves (state_of bench)
 
-module _ (load : Load) (accepted : check_load load ≡ Good) (most : load.rows ≤ 24) where
+module _ (load : Load) (accepted : check_load load ≡ Ok tt) (most : load.rows ≤ 24) where
   abbrev L : View
   L = view_of load
 
@@ -107,9 +107,9 @@ module _ (load : Load) (accepted : check_load load ≡ Good) (most : load.rows �
   -- after the last
   pub running-done : (steps k : ℕ) (slots : List Slot) → k ≡ steps → steps ≡ length (schedule L)
       → slots ≡ filled (slot_at (schedule L)) k slot_places no_slot
-      → record { answer = Good; count = steps; slots = slots } ≡ ran_with Good (schedule L)
+      → record { count = steps; slots = slots } ≡ ran_with (schedule L)
   running-done steps k slots e counted made =
-      ap₂ (λ n l. record { answer = Good; count = n; slots = l }) counted
+      ap₂ (λ n l. record { count = n; slots = l }) counted
       (made ∙ ap (λ n. filled (slot_at (schedule L)) n slot_places no_slot) (e ∙ counted))
 
   module _ (board : Board) (clock count : ℕ) (r : Running load board clock count) where
@@ -191,7 +191,7 @@ module _ (load : Load) (accepted : check_load load ≡ Good) (most : load.rows �
           quiet d l = none-at (r.bench.clock + d) (omega (arith, r.clock-is)) (omega (arith, r.clock-is))
 
 -- with work left there is a next start: else the clock would go on to the last moment
-module _ (load : Load) (accepted : check_load load ≡ Good) (most : load.rows ≤ 24) (board : Board) (clock count : ℕ)
+module _ (load : Load) (accepted : check_load load ≡ Ok tt) (most : load.rows ≤ 24) (board : Board) (clock count : ℕ)
     (r : Running load board clock count) (nd : finished_in board load.rows ≡ false) (classes : List ℕ)
     (told : ClassesOf load load.rows classes) (next : Chosen) (n : NextStart board classes clock load.rows next)
   where

@@ -8,7 +8,7 @@ use native.Mathlib.Omega.{arith}
 use lib.ListN.{length, length-append}
 use lib.Seq.{get_or_at}
 use Rattle.counting.specs.Searches.{at}
-use Rattle.refusals.specs.declared.Checked.TheVariants.{Good}
+use Rattle.std.specs.Prelude.{Ok}
 use Rattle.load.specs.declared.Load.{Load}
 use Rattle.load.specs.declared.Row.{Row}
 use Rattle.load.specs.Load.{most_steps, last_moment, row_at}
@@ -31,7 +31,8 @@ use Rattle.bench.specs.declared.Bench.{Bench}
 use Rattle.bench.specs.declared.Started.{Started}
 use Rattle.bench.specs.Held.{state_of}
 use Rattle.plan.specs.Looks.{look_by}
-use Rattle.plan.specs.Boards.{Board, look_in}
+use Rattle.plan.specs.declared.Board.{Board}
+use Rattle.plan.specs.Boards.{look_in}
 use Rattle.plan.specs.Choices.{opening_in, candidate_in, chosen_in}
 use Rattle.plan.specs.declared.Chosen.{Chosen}
 use Rattle.plan.specs.Calls.{ChosenRow, NextStart}
@@ -64,7 +65,7 @@ started-look row board clock i finished end opening can d e f =
     ap₂ (λ a b. look_by row a b (min opening last_moment)) g h
     ∙ ap (look_by row (look.finished + 1) (clock + look.cost)) o
 
-module _ (load : Load) (accepted : check_load load ≡ Good) (most : load.rows ≤ 24) (board : Board) (clock count : ℕ)
+module _ (load : Load) (accepted : check_load load ≡ Ok tt) (most : load.rows ≤ 24) (board : Board) (clock count : ℕ)
     (r : Running load board clock count) where
   abbrev L : View
   L = view_of load
@@ -203,7 +204,7 @@ pub record NextUp (load : Load) (board : Board) (count : ℕ) (next : Chosen) : 
       → RowStarted (row_at load next.row) board next.row next.moment started after
       → Running load after started.end (count + 1)
 
-pub next_up : (load : Load) → check_load load ≡ Good → load.rows ≤ 24 → (board : Board) (clock count : ℕ)
+pub next_up : (load : Load) → check_load load ≡ Ok tt → load.rows ≤ 24 → (board : Board) (clock count : ℕ)
     → Running load board clock count → count < length (schedule (view_of load)) → (classes : List ℕ)
     → ClassesOf load load.rows classes → (next : Chosen) → NextStart board classes clock load.rows next
     → NextUp load board count next

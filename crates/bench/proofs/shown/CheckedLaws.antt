@@ -8,7 +8,7 @@ use borrow.Author.Tests.{leb-true}
 use lib.Dec.{eqb, leb}
 use Rattle.counting.specs.Sums.{all_to, all_from}
 use Rattle.counting.proofs.tests.TestLaws.{and_left, and_right, all_to-true}
-use Rattle.refusals.specs.declared.Checked.TheVariants.{Good}
+use Rattle.std.specs.Prelude.{Ok}
 use Rattle.load.specs.declared.Load.{Load}
 use Rattle.load.specs.Load.{most_rows, most_steps, last_moment, row_at}
 use Rattle.load.specs.Check.{check_load}
@@ -16,7 +16,7 @@ use Rattle.load.specs.View.{View, view_of}
 use Rattle.load.proofs.AcceptableLaws.{check-acceptable}
 use Rattle.rules.specs.State.{State, is_open, end_fits, opening_fits, row_shaped, row_unused, shaped}
 
-module _ (load : Load) (ok : check_load load ≡ Good) where
+module _ (load : Load) (ok : check_load load ≡ Ok tt) where
   pub checked-rows : load.rows ≤ most_rows
   unfolding view_of
   checked-rows = (check-acceptable load ok).rows-most

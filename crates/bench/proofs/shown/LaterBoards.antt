@@ -15,7 +15,8 @@ use Rattle.bench.specs.declared.Bench.{Bench}
 use Rattle.plan.specs.declared.Look.{Look}
 use Rattle.bench.specs.Held.{state_of, HeldBench, bench_at}
 use Rattle.plan.specs.Looks.{look_of, look_by}
-use Rattle.plan.specs.Boards.{Board, look_in}
+use Rattle.plan.specs.declared.Board.{Board}
+use Rattle.plan.specs.Boards.{look_in}
 use Rattle.bench.specs.inner.Boards.{Shows, Renewed}
 use Rattle.plan.specs.Choices.{opening_in}
 use Rattle.bench.specs.inner.Moves.{bench_started}

@@ -1,47 +1,37 @@
--- A look that is put in a board held in three arrays renews its row.
+-- A look that is put in a board renews its row.
 use Prim.Native.Nat.{ℕ, ◌<◌}
-use mathlib.Core.List.{List}
-use mathlib.Core.Path.{◌≡◌, ◌∙◌, subst}
+use mathlib.Core.Path.{◌≡◌, ◌∙◌, sym, subst}
 use borrow.Author.Tests.{lt-ltb}
 use Rattle.plan.specs.declared.Look.{Look}
-use Rattle.plan.specs.Boards.{board_in, counts_with, lengths_with, moments_with}
+use Rattle.plan.specs.declared.Board.{Board}
+use Rattle.plan.specs.Boards.{with_look}
 use Rattle.plan.specs.Calls.{PutLook}
-use Rattle.plan.proofs.BoardLaws.{numbers_from-length, marks_from-length, parts_with-length}
-use Rattle.plan.proofs.BoardLaws.{put_same, put_other}
-use Rattle.bench.specs.inner.Boards.{Placed, Wide, Renewed}
+use Rattle.plan.proofs.BoardLaws.{Placed, put_same, put_other, put-placed}
+use Rattle.bench.specs.inner.Boards.{Wide, Renewed}
 
--- a board in three arrays has all places
-pub board_in-wide : (counts lengths moments : List ℕ) → Wide (board_in counts lengths moments)
-board_in-wide counts lengths moments =
+-- a board that has all places has those of the lists that a start changes
+pub placed-wide : (board : Board) → Placed board → Wide board
+placed-wide board placed =
     record {
-      opened-length = marks_from-length counts 48;
-      release_length = numbers_from-length moments 24;
-      left-length = numbers_from-length moments 48;
-      due-length = numbers_from-length moments 72;
+      opened-length = placed.in-opened;
+      release_length = placed.in-release;
+      left-length = placed.in-left;
+      due-length = placed.in-due;
     }
 
-module _ (counts lengths moments : List ℕ) (i : ℕ) (look : Look) (c l m : List ℕ)
-    (put : PutLook counts lengths moments i look c l m) (inside : i < 24) (placed : Placed counts lengths moments) where
-  renewed : Renewed (board_in counts lengths moments) i look (board_in c l m)
-  renewed =
-      rw (put.0, put.1, put.2, lt-ltb i 24 inside)
-      (record {
-        wide = board_in-wide _ _ _;
-        same = put_same i inside counts lengths moments look placed.counts-length placed.lengths-length
-            placed.moments-length;
-        others = put_other i inside counts lengths moments look;
-      })
+module _ (board : Board) (i : ℕ) (look : Look) (after : Board) (put : PutLook board i look after) (inside : i < 24)
+    (placed : Placed board) where
+  after-is : after ≡ with_look board i look
+  after-is = rw (lt-ltb i 24 inside) at put
 
-  pub put-renewed : (seen : Look) → look ≡ seen → Renewed (board_in counts lengths moments) i seen (board_in c l m)
+  pub put-renewed : (seen : Look) → look ≡ seen → Renewed board i seen after
   put-renewed seen e =
-      subst (λ (s : Look). Renewed (board_in counts lengths moments) i s (board_in c l m)) e renewed
-
-  pub put-placed : Placed c l m
-  unfolding counts_with lengths_with moments_with
-  put-placed =
-      rw (put.0, put.1, put.2, lt-ltb i 24 inside)
+      rw after-is
       (record {
-        counts-length = parts_with-length _ counts 0 i ∙ placed.counts-length;
-        lengths-length = parts_with-length _ lengths 0 i ∙ placed.lengths-length;
-        moments-length = parts_with-length _ moments 0 i ∙ placed.moments-length;
+        wide = placed-wide _ (put-placed board i look placed);
+        same = put_same board i look placed inside ∙ e;
+        others = λ k l ne. put_other board i look k ne;
       })
+
+  pub after-placed : Placed after
+  after-placed = subst Placed (sym after-is) (put-placed board i look placed)

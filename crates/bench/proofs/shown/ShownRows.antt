@@ -10,15 +10,14 @@ use Rattle.counting.specs.Lists.{member_at}
 use Rattle.load.specs.declared.Load.{Load}
 use Rattle.load.specs.Load.{most_steps, last_moment, row_at}
 use Rattle.load.specs.View.{view_of}
-use Rattle.rules.specs.State.{State, fresh}
 use Rattle.plan.specs.declared.Look.{Look}
 use Rattle.plan.specs.Looks.{look_of, look_by}
-use Rattle.plan.specs.Boards.{Board, look_in}
+use Rattle.plan.specs.declared.Board.{Board}
+use Rattle.plan.specs.Boards.{look_in}
 use Rattle.plan.proofs.StoreLaws.{stored}
 use Rattle.bench.specs.declared.Bench.{Bench}
-use Rattle.bench.specs.Held.{state_of, bench_of}
+use Rattle.bench.specs.Held.{state_of}
 use Rattle.bench.specs.inner.Boards.{Wide, Shows, ClassesOf, Renewed}
-use Rattle.bench.proofs.shown.HeldLaws.{fresh-state}
 use Rattle.bench.proofs.shown.CheckedLaws.{InShape}
 use Rattle.bench.proofs.shown.LookLaws.{look-of-row}
 
@@ -57,28 +56,6 @@ module _ (load : Load) (bench : Bench) (i : ℕ) (steps : (row_at load i).steps 
   pub row-opening : (look_of (view_of load) (state_of bench) i).opening ≤ last_moment
   unfolding look_of
   row-opening = omega (arith, shape.opening-le)
-
--- a row of the load, looked up for the fresh bench
-module _ (load : Load) (i : ℕ) (steps : (row_at load i).steps ≤ most_steps) where
-  abbrev begun : Bench
-  begun = bench_of fresh
-
-  pub fresh-looked : look_by (row_at load i) 0 0 0 ≡ look_of (view_of load) (state_of begun) i
-  unfolding fresh
-  fresh-looked =
-      sym
-      (ap₂ (λ a b. look_by (row_at load i) a b (member_at begun.opening i))
-      (ap (λ (s : State). s.finished i) fresh-state) (ap (λ (s : State). s.end i) fresh-state)
-      ∙ ap (look_by (row_at load i) 0 0) (ap (λ (s : State). s.opening i) fresh-state))
-      ∙ look-of-row load begun i
-
-  pub fresh-steps : (look_of (view_of load) (state_of begun) i).steps ≤ most_steps
-  unfolding look_of view_of
-  fresh-steps = steps
-
-  pub fresh-opening : (look_of (view_of load) (state_of begun) i).opening ≤ last_moment
-  unfolding look_of fresh
-  fresh-opening = omega (arith, ap (λ (s : State). s.opening i) fresh-state)
 
 -- the same look has the same numbers
 few : {a b : Look} → a ≡ b → b.steps ≤ most_steps → a.steps ≤ most_steps

@@ -6,15 +6,10 @@ use Rattle.load.specs.Load.{most_rows, most_steps, last_moment, row_at}
 use Rattle.load.specs.View.{view_of}
 use Rattle.plan.specs.declared.Look.{Look}
 use Rattle.plan.specs.Looks.{look_of}
-use Rattle.plan.specs.Boards.{Board, look_in, count_places, length_places, moment_places}
+use Rattle.plan.specs.declared.Board.{Board}
+use Rattle.plan.specs.Boards.{look_in}
 use Rattle.bench.specs.declared.Bench.{Bench}
 use Rattle.bench.specs.Held.{state_of}
-
--- the arrays of a board have all their places
-pub record Placed (counts lengths moments : List ℕ) : Type 0 where
-  pub counts-length : length counts ≡ count_places
-  pub lengths-length : length lengths ≡ length_places
-  pub moments-length : length moments ≡ moment_places
 
 -- the lists that a start changes have a place for each of 24 rows
 pub record Wide (board : Board) : Type 0 where

@@ -11,7 +11,8 @@ use Rattle.rules.specs.declared.Slot.{Slot}
 use Rattle.bench.specs.declared.Bench.{Bench}
 use Rattle.bench.specs.declared.Moved.{Moved}
 use Rattle.bench.specs.Held.{bench_at}
-use Rattle.plan.specs.Boards.{Board, look_in}
+use Rattle.plan.specs.declared.Board.{Board}
+use Rattle.plan.specs.Boards.{look_in}
 use Rattle.plan.specs.Choices.{opening_in, open_after}
 use Rattle.plan.specs.Calls.{ChosenRow}
 

@@ -4,7 +4,8 @@ use Rattle.load.specs.declared.Row.{Row}
 use Rattle.load.specs.Load.{most_rows, most_steps, last_moment}
 use Rattle.plan.specs.declared.Look.{Look}
 use Rattle.plan.specs.Looks.{look_by}
-use Rattle.plan.specs.Boards.{Board, look_in}
+use Rattle.plan.specs.declared.Board.{Board}
+use Rattle.plan.specs.Boards.{look_in}
 use Rattle.plan.specs.Choices.{opening_in}
 use Rattle.bench.specs.declared.Started.{Started}
 use Rattle.bench.specs.inner.Boards.{Renewed}

@@ -9,7 +9,8 @@ use native.Mathlib.Numerals.{add-one}
 use native.Mathlib.Omega.{arith}
 use borrow.Author.Tests.{lt-ltb, le-ltb}
 use lib.Dec.{ltb}
-use lib.ListN.{length, get_or, set, replicate, length-append, length-replicate, get_or-replicate, get_or-append}
+use lib.ListN.{length, get_or, set, take, replicate, length-append, length-replicate, get_or-replicate, get_or-append}
+use Rattle.std.proofs.lemmas.List.{take_more}
 use lib.Seq.{ext_get_or, get_or-append-add, get_or_at, set_at}
 use Rattle.counting.specs.Sums.{sum_to}
 use Rattle.counting.specs.Lists.{join_to, join_in, list_to, filled}
@@ -97,6 +98,16 @@ module _ {A : Type 0} where
       → set l n v ≡ filled f (n + 1) last z
   filled-stored f n last z v l e q h = ap₂ (λ l v. set l n v) e q ∙ set-filled f n last z h
 
+  -- a place that is to hold z is filled as it stands
+  pub filled-skipped : (f : ℕ → A) (n last : ℕ) (z : A) → z ≡ f n → n < last
+      → filled f n last z ≡ filled f (n + 1) last z
+  filled-skipped f n last z q h =
+      let e : last - n ≡ suc (last - (n + 1)) = omega arith in
+      ap (λ k. list_to f n ++ replicate k z) e
+      ∙ ap (λ a. list_to f n ++ (a ∷ replicate (last - (n + 1)) z)) q
+      ∙ sym (append_assoc (list_to f n) (f n ∷ []) (replicate (last - (n + 1)) z))
+      ∙ ap (λ l. l ++ replicate (last - (n + 1)) z) (sym (list_to-next f n))
+
   -- an array that is filled to the last place
   pub filled-all : (f : ℕ → A) (n : ℕ) (z : A) → filled f n n z ≡ list_to f n
   filled-all f n z =
@@ -126,3 +137,22 @@ unfolding join_in
 join_in-append f [] t = refl
 join_in-append f (a ∷ s) t =
     ap (λ l. f a ++ l) (join_in-append f s t) ∙ sym (append_assoc (f a) (join_in f s) (join_in f t))
+
+-- one member more
+pub join_in-next : {A B : Type 0} → (f : B → List A) (s : List B) (i : ℕ) (z : B) → i < length s
+    → join_in f (take (i + 1) s) ≡ join_in f (take i s) ++ f (get_or s i z)
+unfolding join_in
+join_in-next f s i z h =
+    ap (join_in f) (take_more s i z h)
+    ∙ join_in-append f (take i s) (get_or s i z ∷ [])
+    ∙ ap (λ l. join_in f (take i s) ++ l) (append-nil (f (get_or s i z)))
+
+-- of the first members, place by place
+pub join_in-take : {A B : Type 0} → (f : B → List A) (s : List B) (z : B) (n : ℕ) → n ≤ length s
+    → join_in f (take n s) ≡ join_to (λ i. f (get_or s i z)) n
+unfolding join_in join_to
+join_in-take f s z zero h = refl
+join_in-take f s z (suc n) h =
+    ap (λ k. join_in f (take k s)) (sym (add-one n))
+    ∙ join_in-next f s n z (omega arith)
+    ∙ ap (λ l. l ++ f (get_or s n z)) (join_in-take f s z n (omega arith))

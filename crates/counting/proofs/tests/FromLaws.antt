@@ -9,7 +9,7 @@ use Rattle.counting.specs.Sums.{all_to, all_from}
 use Rattle.counting.proofs.tests.TestLaws.{all_to-ext}
 
 -- the first number below n + 1, and the others
-all_to-first : (p : ℕ → Bool) (n : ℕ) → all_to p (suc n) ≡ (p 0 && all_to (λ k. p (suc k)) n)
+pub all_to-first : (p : ℕ → Bool) (n : ℕ) → all_to p (suc n) ≡ (p 0 && all_to (λ k. p (suc k)) n)
 unfolding all_to
 all_to-first p zero = sym (and-true (p 0))
 all_to-first p (suc n) =

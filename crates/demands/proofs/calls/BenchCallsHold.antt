@@ -1,13 +1,9 @@
 -- The calls on plan and bench: each contract is its relation in BenchCalls, which a result meets, and one only.
 use mathlib.Core.Path.{refl}
-use mathlib.Core.Bool.{cond}
-use lib.Dec.{ltb}
-use Rattle.load.specs.Load.{most_rows}
 use Rattle.load.specs.View.{view_of}
 use Rattle.load_file.specs.Places.{load_in}
 use Rattle.load_file.specs.Reading.{file_for_bench}
 use Rattle.rules.specs.Run.{schedule}
-use Rattle.plan.specs.Boards.{board_in, counts_with, lengths_with, moments_with}
 use Rattle.plan.proofs.CallLaws.{
   OpenWindow-unique,
   LookOf-unique,
@@ -33,11 +29,11 @@ bench-relations =
     record {
       open-window = λ row finished. listed;
       look-of = λ row finished end opening. listed;
-      look_at = λ counts lengths moments i. listed;
-      put-look = λ counts lengths moments i look. listed;
+      look_at = λ board i. listed;
+      put-look = λ board i look. listed;
       opening-after = λ stays opened opening clock. listed;
-      chosen-row = λ counts lengths moments classes clock rows. listed;
-      next_start = λ counts lengths moments classes clock rows. listed;
+      chosen-row = λ board classes clock rows. listed;
+      next_start = λ board classes clock rows. listed;
       fresh = listed;
       next-move = λ load bench. listed;
       run = λ load. listed;
@@ -65,13 +61,11 @@ bench-same =
     record {
       open-window = OpenWindow-unique;
       look-of = LookOf-unique;
-      look_at = λ counts lengths moments. LookAt-unique (board_in counts lengths moments);
-      put-look = λ counts lengths moments i look r s p q.
-          let same = PutLook-unique counts lengths moments i look _ _ _ _ _ _ p q in
-          λ n. record { counts = same.0 n; lengths = same.1 n; moments = same.2 n };
+      look_at = LookAt-unique;
+      put-look = PutLook-unique;
       opening-after = OpeningAfter-unique;
-      chosen-row = λ counts lengths moments. ChosenRow-unique (board_in counts lengths moments);
-      next_start = λ counts lengths moments. NextStart-unique (board_in counts lengths moments);
+      chosen-row = ChosenRow-unique;
+      next_start = NextStart-unique;
       fresh = Fresh-unique;
       next-move = NextMove-unique;
       run = Runs-unique;
@@ -83,19 +77,11 @@ bench-answers =
     record {
       open-window = λ row finished. is _;
       look-of = λ row finished end opening. is _;
-      look_at = λ counts lengths moments i. is _;
-      put-look = λ counts lengths moments i look. record {
-        result = record {
-          counts = cond (ltb i most_rows) (counts_with counts i look) counts;
-          lengths = cond (ltb i most_rows) (lengths_with lengths i look) lengths;
-          moments = cond (ltb i most_rows) (moments_with moments i look) moments;
-        };
-        met = (refl, refl, refl);
-      };
+      look_at = λ board i. is _;
+      put-look = λ board i look. is _;
       opening-after = λ stays opened opening clock. is _;
-      chosen-row = λ counts lengths moments classes clock rows. is _;
-      next_start = λ counts lengths moments classes clock rows.
-          let board = board_in counts lengths moments in
+      chosen-row = λ board classes clock rows. is _;
+      next_start = λ board classes clock rows.
           record { result = next_start board classes clock rows; met = NextStart-met board classes clock rows };
       fresh = is _;
       next-move = λ load bench. is _;

@@ -4,10 +4,11 @@ use Prim.Native.Nat.{ℕ}
 use mathlib.Core.List.{List, [], ◌∷◌}
 use mathlib.Core.Path.{◌≡◌, refl}
 use lib.ListN.{length}
-use Rattle.refusals.specs.declared.Checked.{Checked}
-use Rattle.refusals.specs.declared.Written.{Written}
+use Rattle.std.specs.Prelude.{Result}
+use Rattle.refusals.specs.declared.Refusal.{Refusal}
+use Rattle.refusals.specs.Checked.{Checked}
 use Rattle.refusals.specs.FirstMet.{first_fault}
-use Rattle.refusals.specs.Given.{if_good, written, room_for, Given, WritesOut}
+use Rattle.refusals.specs.Given.{if_good, given as alone, written, room_for, Given, WritesOut}
 use Rattle.demands.specs.FileCalls.{Wrote, Writes}
 use Rattle.demands.specs.Sameness.{OneResult}
 use Rattle.demands.specs.JoinedContract.{Relation}
@@ -38,16 +39,12 @@ given finding answer out =
       met = record { finding-is = refl; output-is = refl };
     }
 
--- and one that tells a length by that besides
+-- and one that tells a length by that
 pub writes-out : (finding : Checked) (answer out : List ℕ)
-    → Answer (Wrote Written) (Writes (WritesOut finding answer out))
+    → Answer (Wrote (Result ℕ Refusal)) (Writes (WritesOut finding answer out))
 writes-out finding answer out =
-    let g = given finding answer out in
-    let found = g.result.gives in
+    let told = alone (first_fault (finding ∷ room_for answer out ∷ [])) (length answer) in
     record {
-      result = record {
-        gives = record { answer = found; length = if_good found (length answer) 0 };
-        after = g.result.after;
-      };
-      met = record { given = g.met; length-is = refl };
+      result = record { gives = told; after = if_good told (written answer out) out };
+      met = record { length-is = refl; output-is = refl };
     }

@@ -2,7 +2,7 @@
 use Prim.Native.Nat.{ℕ}
 use mathlib.Core.List.{List}
 use mathlib.Core.Path.{refl}
-use Rattle.refusals.specs.declared.Checked.TheVariants.{Good}
+use Rattle.std.specs.Prelude.{Ok}
 use Rattle.refusals.specs.Refusals.{number_given}
 use Rattle.load.specs.View.{View, view_of}
 use Rattle.load_file.specs.Places.{load_in}
@@ -78,8 +78,8 @@ host-answers =
     record {
       text_of = λ bs. is _;
       blamed-text-of = λ bs. is _;
-      print-lines = λ bs out. writes-out Good (printed bs) out;
-      print-blames = λ bs out. writes-out Good (printed_blamed bs) out;
+      print-lines = λ bs out. writes-out (Ok tt) (printed bs) out;
+      print-blames = λ bs out. writes-out (Ok tt) (printed_blamed bs) out;
       bench-bound = for-c bound_bytes;
       bench-verdict = for-c verdict_bytes;
       bench-margins = for-c margin_bytes;

@@ -10,8 +10,8 @@ use Rattle.counting.specs.Sums.{all_from}
 use Rattle.counting.specs.Lists.{any_in}
 use Rattle.counting.specs.Searches.{Found, at, none}
 use Rattle.refusals.specs.declared.Refusal.TheVariants.{OutOfRange, SlotCount}
-use Rattle.refusals.specs.declared.Checked.{Checked}
-use Rattle.refusals.specs.declared.Checked.TheVariants as finding
+use Rattle.refusals.specs.Checked.{Checked}
+use Rattle.std.specs.Prelude.{Ok, Err}
 use Rattle.refusals.specs.Refusals.{number_of, number_given}
 use Rattle.refusals.specs.FirstMet.{first_met}
 use Rattle.load.specs.declared.Step.{Step}
@@ -63,9 +63,8 @@ use Rattle.load_file.specs.Reading.{
   row_fault_at,
   end_tests,
   file_fault,
-  read_load,
 }
-use Rattle.sheet.specs.Reading.{read_sheet}
+use Rattle.sheet.specs.Reading.{sheet_fault}
 use Rattle.sheet.proofs.narrow.SheetNumbers.{sheet-numbers}
 use Rattle.rules.specs.declared.Slot.{Slot}
 use Rattle.rules.specs.declared.Outcome.{Outcome}
@@ -179,8 +178,8 @@ file-row-gives bs i place =
     ++ window_tests (row_from bs place) k) refl)
     (windows_said bs place))))
 
-pub file-gives : (bs : List ℕ) → Gives of_file (read_load bs).answer
-unfolding read_load file_fault header_tests end_tests any_in
+pub file-gives : (bs : List ℕ) → Gives of_file (file_fault bs)
+unfolding file_fault header_tests end_tests any_in
 file-gives bs =
     then-gives of_file _ _ (tests-give of_file (header_tests bs) refl)
     (then-gives of_file _ _
@@ -189,8 +188,7 @@ file-gives bs =
     (last-gives of_file _ (tests-give of_file (end_tests bs (row_place bs (rows_said bs))) refl)))
 
 -- of a sheet's numbers 6 is none: the windows that marks spell are in order
-pub sheet-gives : (bs : List ℕ) → Gives of_sheet (read_sheet bs).answer
-unfolding read_sheet
+pub sheet-gives : (bs : List ℕ) → Gives of_sheet (sheet_fault bs)
 sheet-gives bs = record { passes = sheet-numbers bs }
 
 pub schedule-gives : (load : Load) (slots : List Slot) → Gives of_schedule (check_schedule load slots)
@@ -231,6 +229,6 @@ move_gives load bench = go (check_load load) refl (load_gives load).passes
   where
     go : (found : Checked) → check_load load ≡ found → OneOf of_load (number_given found)
         → OneOf of_move (number_in (next_move load bench).outcome)
-    go finding.Good q own = rw (next_move-good load bench q) (rules-give (view_of load) (state_of bench))
-    go (finding.Refused refusal) q own =
+    go (Ok tt) q own = rw (next_move-good load bench q) (rules-give (view_of load) (state_of bench))
+    go (Err refusal) q own =
         rw (next_move-refused load bench refusal q) (OneOf-more of_load of_move refl (number_of refusal) own)

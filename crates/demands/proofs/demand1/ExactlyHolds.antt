@@ -11,8 +11,8 @@ use Rattle.counting.specs.Lists.{any_in}
 use Rattle.counting.proofs.tests.TestLaws.{true-false}
 use Rattle.refusals.specs.declared.Refusal.{Refusal}
 use Rattle.refusals.specs.declared.Refusal.TheVariants.{StateShape, ClockFull, SlotCount}
-use Rattle.refusals.specs.declared.Checked.{Checked}
-use Rattle.refusals.specs.declared.Checked.TheVariants.{Good, Refused}
+use Rattle.refusals.specs.Checked.{Checked}
+use Rattle.std.specs.Prelude.{Ok, Err}
 use Rattle.refusals.specs.Refusals.{number_of, number_given}
 use Rattle.refusals.proofs.FirstMetLaws.{and_then-last}
 use Rattle.load.specs.declared.Load.{Load}
@@ -39,7 +39,7 @@ use Rattle.demands.specs.NumberLists.{OneOf, of_load}
 use Rattle.demands.specs.ExactlyThen.{InOrder, Then, ExactlyThen}
 use Rattle.demands.proofs.demand1.CallNumbers.{load_gives}
 
-good-order : (load : Load) → (check_load load ≡ Good) ↔ InOrder load
+good-order : (load : Load) → (check_load load ≡ Ok tt) ↔ InOrder load
 good-order load = (
   λ e. record {
     acceptable = check-acceptable load e;
@@ -64,7 +64,7 @@ rule-other seventeen = refl
 
 module _ (load : Load) where
   -- what is given only of a load in order, and then exactly when P holds, is given exactly when both do
-  both : (given P : Type 0) → (given → check_load load ≡ Good) → (check_load load ≡ Good → given ↔ P)
+  both : (given P : Type 0) → (given → check_load load ≡ Ok tt) → (check_load load ≡ Ok tt → given ↔ P)
       → given ↔ Then load P
   both given P order exactly = (
     λ g. record { in_order = (good-order load).0 (order g); holds = (exactly (order g)).0 g },
@@ -73,25 +73,25 @@ module _ (load : Load) where
 
   -- a number that is none of a load's own is given of a load in order
   module _ (number : ℕ) (other : NotOfLoad number)
-      (own : (refusal : Refusal) → check_load load ≡ Refused refusal → number_of refusal ≡ number) where
-    in_order : check_load load ≡ Good
+      (own : (refusal : Refusal) → check_load load ≡ Err refusal → number_of refusal ≡ number) where
+    in_order : check_load load ≡ Ok tt
     in_order = go (check_load load) refl (load_gives load).passes
       where
-        go : (found : Checked) → check_load load ≡ found → OneOf of_load (number_given found) → check_load load ≡ Good
-        go Good q o = q
-        go (Refused refusal) q o =
+        go : (found : Checked) → check_load load ≡ found → OneOf of_load (number_given found) → check_load load ≡ Ok tt
+        go (Ok tt) q o = q
+        go (Err refusal) q o =
             absurd (true-false _ o (ap (λ n. any_in (eqb n) (0 ∷ of_load)) (own refusal q) ∙ other))
 
   -- of a move
   module _ (bench : Bench) (r : Moved) (m : NextMove load bench r) where
     move-order : (refusal : Refusal) → NotOfLoad (number_of refusal) → r.outcome ≡ outcome.Refused refusal
-        → check_load load ≡ Good
+        → check_load load ≡ Ok tt
     move-order refusal other e =
         in_order (number_of refusal) other
         (λ own q. ap (λ (x : Moved). (told_by x.outcome).number) (sym (m ∙ next_move-refused load bench own q))
         ∙ ap (λ (o : Outcome). (told_by o).number) e)
 
-    same_move : check_load load ≡ Good → r.outcome ≡ (move (view_of load) (state_of bench)).outcome
+    same_move : check_load load ≡ Ok tt → r.outcome ≡ (move (view_of load) (state_of bench)).outcome
     same_move q = ap (λ (x : Moved). x.outcome) (m ∙ next_move-good load bench q)
 
     move-exactly : (refusal : Refusal) (P : Type 0) → NotOfLoad (number_of refusal)
@@ -103,21 +103,21 @@ module _ (load : Load) where
 
   -- of a schedule
   module _ (slots : List Slot) (r : Checked) (m : CheckSchedule load slots r) where
-    check-order : (refusal : Refusal) → NotOfLoad (number_of refusal) → r ≡ Refused refusal → check_load load ≡ Good
+    check-order : (refusal : Refusal) → NotOfLoad (number_of refusal) → r ≡ Err refusal → check_load load ≡ Ok tt
     unfolding check_schedule
     check-order refusal other e =
         in_order (number_of refusal) other
-        (λ own q. ap number_given (sym (let z : check_schedule load slots ≡ Refused own = rw q in z) ∙ sym m ∙ e))
+        (λ own q. ap number_given (sym (let z : check_schedule load slots ≡ Err own = rw q in z) ∙ sym m ∙ e))
 
-    same_check : check_load load ≡ Good → r ≡ check_slots (view_of load) slots
+    same_check : check_load load ≡ Ok tt → r ≡ check_slots (view_of load) slots
     unfolding check_schedule
     same_check q = m ∙ rw q (and_then-last (check_slots (view_of load) slots))
 
     check-exactly : (refusal : Refusal) (P : Type 0) → NotOfLoad (number_of refusal)
-        → (check_load load ≡ Good → (check_slots (view_of load) slots ≡ Refused refusal) ↔ P)
-        → (r ≡ Refused refusal) ↔ Then load P
+        → (check_load load ≡ Ok tt → (check_slots (view_of load) slots ≡ Err refusal) ↔ P)
+        → (r ≡ Err refusal) ↔ Then load P
     check-exactly refusal P other rules =
-        both (r ≡ Refused refusal) P (check-order refusal other)
+        both (r ≡ Err refusal) P (check-order refusal other)
         (λ q. (λ e. (rules q).0 (sym (same_check q) ∙ e), λ p. same_check q ∙ (rules q).1 p))
 
 pub exactly-then : ExactlyThen

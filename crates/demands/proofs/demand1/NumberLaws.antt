@@ -10,8 +10,8 @@ use borrow.Author.Tests.{eqb-true}
 use Rattle.counting.specs.Lists.{any_in}
 use Rattle.counting.proofs.tests.TestLaws.{and_left, and_right, true-false}
 use Rattle.refusals.specs.declared.Refusal.{Refusal}
-use Rattle.refusals.specs.declared.Checked.{Checked}
-use Rattle.refusals.specs.declared.Checked.TheVariants.{Good}
+use Rattle.refusals.specs.Checked.{Checked}
+use Rattle.std.specs.Prelude.{Ok}
 use Rattle.refusals.specs.Refusals.{number_given}
 use Rattle.refusals.specs.FirstMet.{first_met, and_then, first_fault_to}
 use Rattle.refusals.proofs.FoundLaws.{
@@ -33,7 +33,7 @@ abbrev pub Gives : List ℕ → Checked → Type 0
 Gives numbers = Passes (gives numbers)
 
 module _ (numbers : List ℕ) where
-  good-gives : Gives numbers Good
+  good-gives : Gives numbers (Ok tt)
   unfolding any_in
   good-gives = record { passes = refl }
 
@@ -43,7 +43,7 @@ module _ (numbers : List ℕ) where
   pub then-gives : (a b : Checked) → Gives numbers a → Gives numbers b → Gives numbers (and_then a b)
   then-gives a b p q = and_then-passes (gives numbers) good-gives a b p (λ e. q)
 
-  pub last-gives : (a : Checked) → Gives numbers a → Gives numbers (and_then a Good)
+  pub last-gives : (a : Checked) → Gives numbers a → Gives numbers (and_then a (Ok tt))
   last-gives = last-passes (gives numbers) good-gives
 
   pub faults_to-give : (f : ℕ → Checked) → ((i : ℕ) → Gives numbers (f i)) → (n : ℕ)

@@ -6,8 +6,8 @@ use native.Mathlib.Omega.{arith}
 use Rattle.counting.specs.Searches.{Found, at, none}
 use Rattle.refusals.specs.declared.Refusal.{Refusal}
 use Rattle.refusals.specs.declared.Refusal.TheVariants.{StateShape, ClockFull}
-use Rattle.refusals.specs.declared.Checked.{Checked}
-use Rattle.refusals.specs.declared.Checked.TheVariants as finding
+use Rattle.refusals.specs.Checked.{Checked}
+use Rattle.std.specs.Prelude.{Ok, Err}
 use Rattle.load.specs.declared.Load.{Load}
 use Rattle.load.specs.View.{View, view_of}
 use Rattle.load.specs.Check.{check_load}
@@ -53,11 +53,11 @@ pub bench-kept : (load : Load) (bench : Bench) (refusal : Refusal) → (next_mov
 bench-kept load bench refusal e = go (check_load load) refl
   where
     go : (found : Checked) → check_load load ≡ found → next_move load bench ≡ refused_with bench refusal
-    go finding.Good q =
+    go (Ok tt) q =
         let good = next_move-good load bench q in
         good
         ∙ ap (handed_on bench)
         (move-alone (view_of load) (state_of bench) refusal (ap (λ (m : Moved). m.outcome) (sym good) ∙ e))
-    go (finding.Refused own) q =
+    go (Err own) q =
         let bad = next_move-refused load bench own q in
         bad ∙ ap (refused_with bench) (ap refusal_in (ap (λ (m : Moved). m.outcome) (sym bad) ∙ e))

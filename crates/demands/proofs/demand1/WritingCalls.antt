@@ -9,12 +9,11 @@ use lib.ListN.{length}
 use Rattle.counting.specs.Lists.{any_in}
 use Rattle.refusals.specs.declared.Refusal.{Refusal}
 use Rattle.refusals.specs.declared.Refusal.TheVariants.{OutOfRange, OutputShort}
-use Rattle.refusals.specs.declared.Checked.{Checked}
-use Rattle.refusals.specs.declared.Checked.TheVariants.{Good, Refused}
-use Rattle.refusals.specs.declared.Written.{Written}
+use Rattle.refusals.specs.Checked.{Checked}
+use Rattle.std.specs.Prelude.{Result, Ok, Err}
 use Rattle.refusals.specs.Refusals.{number_given}
-use Rattle.refusals.specs.Given.{if_good, written, Given, WritesOut}
-use Rattle.refusals.proofs.GivenLaws.{if_good-refused}
+use Rattle.refusals.specs.Given.{if_good, found_in, written, Given, WritesOut}
+use Rattle.refusals.proofs.GivenLaws.{WritesOut-given}
 use Rattle.load.specs.declared.Load.{Load}
 use Rattle.load.specs.View.{View, view_of}
 use Rattle.load.specs.Check.{check_load}
@@ -77,12 +76,13 @@ load-written-gives load out r after g =
     given-gives of_writing (check_load load) (load_bytes 2 load) out r after refl
     (with-nine of_load (check_load load) refl (load_gives load)) g
 
-pub sheet-written-gives : (load : Load) (out : List ℕ) (r : Written) (after : List ℕ) → WriteSheet load out r after
-    → OneOf of_plain_writing (number_given r.answer)
+pub sheet-written-gives : (load : Load) (out : List ℕ) (r : Result ℕ Refusal) (after : List ℕ)
+    → WriteSheet load out r after → OneOf of_plain_writing (number_given (found_in r))
 unfolding any_in
 sheet-written-gives load out r after p =
-    given-gives of_plain_writing (check_plain load) (sheet_bytes load) out r.answer after refl
-    (with-nine of_plain (check_plain load) refl (plain-gives load)) p.given
+    given-gives of_plain_writing (check_plain load) (sheet_bytes load) out (found_in r) after refl
+    (with-nine of_plain (check_plain load) refl (plain-gives load))
+    (WritesOut-given (check_plain load) (sheet_bytes load) out r after p)
 
 count_gives : (n : ℕ) → Gives of_slot_writing (count_fault n)
 unfolding any_in
@@ -116,11 +116,12 @@ run-gives bs out r after g =
     c-gives schedule_file bs out (number_given r) after (record { found = r; given = g; number_is = refl })
 
 -- a call that refuses nothing but a short output gives 9 alone
-pub out-gives : (answer out : List ℕ) (r : Written) (after : List ℕ) → WritesOut Good answer out r after
-    → OneOf of_output (number_given r.answer)
+pub out-gives : (answer out : List ℕ) (r : Result ℕ Refusal) (after : List ℕ) → WritesOut (Ok tt) answer out r after
+    → OneOf of_output (number_given (found_in r))
 unfolding any_in
 out-gives answer out r after p =
-    given-gives of_output Good answer out r.answer after refl (record { passes = refl }) p.given
+    given-gives of_output (Ok tt) answer out (found_in r) after refl (record { passes = refl })
+    (WritesOut-given (Ok tt) answer out r after p)
 
 -- a finding whose number is not 0 leaves the output
 number-stays : (finding : Checked) (answer out : List ℕ) (found : Checked) (after : List ℕ)
@@ -128,16 +129,11 @@ number-stays : (finding : Checked) (answer out : List ℕ) (found : Checked) (af
 number-stays finding answer out found after g ne = go found ne g.output-is
   where
     go : (c : Checked) → number_given c ≢ 0 → after ≡ if_good c (written answer out) out → after ≡ out
-    go Good other e = absurd (other refl)
-    go (Refused refusal) other e = e
+    go (Ok tt) other e = absurd (other refl)
+    go (Err refusal) other e = e
 
 pub c-keeps : (answer : View → List ℕ) (bs out : List ℕ) (r : ℕ) (after : List ℕ) → ForC answer bs out r after
     → r ≢ 0 → after ≡ out
 c-keeps answer bs out r after c ne =
     number-stays (file_fault bs) (answer (view_of (load_in bs))) out c.found after c.given
     (λ e. ne (c.number_is ∙ e))
-
-pub out-keeps : (finding : Checked) (answer out : List ℕ) (refusal : Refusal) (r : Written) (after : List ℕ)
-    → WritesOut finding answer out r after → r.answer ≡ Refused refusal → after ≡ out
-out-keeps finding answer out refusal r after p e =
-    p.given.output-is ∙ if_good-refused r.answer (written answer out) out refusal e

@@ -8,18 +8,21 @@ use lib.IntN.{pos}
 use lib.ListN.{length, get_or}
 use Rattle.counting.proofs.tests.TestLaws.{true-false}
 use Rattle.counting.proofs.lists.ListLaws.{get_or-list_to}
-use Rattle.refusals.specs.declared.Checked.TheVariants.{Refused}
+use Rattle.std.specs.Prelude.{List, Ok, Err}
 use Rattle.refusals.specs.Refusals.{number_of}
+use Rattle.refusals.specs.Given.{found_in, given as alone}
 use Rattle.refusals.proofs.FirstMetLaws.{good-refused}
 use Rattle.load.specs.declared.Load.{Load}
 use Rattle.load.specs.Load.{most_rows}
 use Rattle.load.specs.View.{view_of}
-use Rattle.load_file.specs.declared.Reading.{Reading}
+use Rattle.load.specs.Check.{check_load}
+use Rattle.rules.specs.declared.Blame.{Blame}
 use Rattle.rules.specs.Outcomes.{told_by}
 use Rattle.rules.specs.Margins.{margin_at, margins, margin_in}
 use Rattle.rules.specs.Blame.{nobody, blame_at, blames}
 use Rattle.rules.specs.State.{fresh}
-use Rattle.bound.specs.Calls.{VerdictOf}
+use Rattle.bound.specs.declared.Blamed.{Blamed}
+use Rattle.bound.specs.Calls.{BlamesOf, VerdictOf}
 use Rattle.bench.specs.declared.Bench.{Bench}
 use Rattle.bench.specs.declared.Moved.{Moved}
 use Rattle.bench.specs.declared.Ran.{Ran}
@@ -32,7 +35,7 @@ use Rattle.demands.specs.LoadB.{load_b}
 use Rattle.demands.specs.LoadUrgent.{load_urgent}
 use Rattle.demands.specs.SmallLoads.{load_empty}
 use Rattle.demands.specs.AllLoads.{SoundHolds}
-use Rattle.demands.specs.IdleBuilds.{fixed_verdict, invents_margins, invents_blames}
+use Rattle.demands.specs.IdleBuilds.{fixed_verdict, invents_blames}
 use Rattle.demands.specs.ShutOut.{ShutOut}
 use Rattle.demands.proofs.loads.Computing.{computing}
 use Rattle.demands.proofs.loads.LoadsHold.{a-holds, b-holds, empty_holds}
@@ -93,9 +96,9 @@ unfolding computing next_move bench_of load_a
 a-begins = refl
 
 -- how many slots a worked load has
-slots-of : (e : Sound) → SoundHolds e → (r : Ran) → Runs e.load r → r.count ≡ length e.answers.slots
+slots-of : (e : Sound) → SoundHolds e → (r : Ran) → Runs e.load (Ok r) → r.count ≡ length e.answers.slots
 unfolding answers_for
-slots-of e h r m = Runs-count e.load h.checks r m ∙ ap (λ (a : Answers). length a.slots) h.answered
+slots-of e h r m = Runs-count e.load r m ∙ ap (λ (a : Answers). length a.slots) h.answered
 
 a-slots : length load_a.answers.slots ≡ 6
 unfolding load_a
@@ -110,7 +113,7 @@ verdict-of : (e : Sound) → SoundHolds e → (v : Bool) → VerdictOf e.load (f
     → v ≡ e.answers.verdict-of
 unfolding answers_for
 verdict-of e h v m =
-    demand2.verdicts e.load (fixed_verdict v e.load) m h.checks
+    demand2.verdicts e.load v (sym (ap (λ c. alone c v) h.checks) ∙ m)
     ∙ ap (λ (a : Answers). a.verdict-of) h.answered
 
 a-no : load_a.answers.verdict-of ≡ false
@@ -131,6 +134,14 @@ blames-at : (load : Load) (i : ℕ) → i < most_rows → get_or (blames (view_o
 unfolding blames
 blames-at load i l = get_or-list_to (blame_at (view_of load)) most_rows i nobody l
 
+-- invented blames, of a load that passes its check
+abbrev blamed_for : Load → List Blame → Blamed
+blamed_for load given = record { margins = margins (view_of load); blames = given }
+
+invented : (load : Load) (given : List Blame) → check_load load ≡ Ok tt → BlamesOf load (invents_blames given load)
+    → BlamesOf load (Ok (blamed_for load given))
+invented load given good m = sym (ap (λ c. alone c (blamed_for load given)) good) ∙ m
+
 -- a relation at a fresh bench
 module _ (load : Load) (bench : Bench) (f : Fresh bench) (r : Moved) (m : NextMove load bench r) where
   first-is : r ≡ first load
@@ -140,10 +151,10 @@ pub shut_out : ShutOut
 shut_out =
     record {
       refuses-files = λ refusal m.
-          good-refused _ refusal (ap (λ (r : Reading). r.answer) (m ∙ a-holds.reads)) refl;
+          good-refused _ refusal (ap found_in (m ∙ a-holds.reads)) refl;
       refuses-sheets = λ refusal m.
-          good-refused _ refusal (ap (λ (r : Reading). r.answer) (m ∙ sheets-hold.a.reads)) refl;
-      refuses-loads = λ refusal m. good-refused (Refused refusal) refusal (m ∙ a-holds.checks) refl;
+          good-refused _ refusal (ap found_in (m ∙ sheets-hold.a.reads)) refl;
+      refuses-loads = λ refusal m. good-refused (Err refusal) refusal (m ∙ a-holds.checks) refl;
       refuses-moves = λ load good run n refusal e.
           omega (
             arith,
@@ -194,20 +205,21 @@ shut_out =
           ne (ap (λ (r : Moved). get_or r.bench.end 0 0) (first-is load_a.load bench f _ m) ∙ a-end);
       invents-margins = λ load good given i l ne m.
           ne
-          (ap (λ ms. margin_in ms i) (demand2.margins-are load (invents_margins given load) m (sym good))
+          (ap (λ ms. margin_in ms i) (demand2.margins-are load given (sym (ap (λ c. alone c given) (sym good)) ∙ m))
           ∙ margins-at load i l);
       margin-of-one = λ given ne m.
           ne
           (ap (λ ms. margin_in ms 0)
-          (demand2.margins-are load_a.load (invents_margins given load_a.load) m a-holds.checks)
+          (demand2.margins-are load_a.load given (sym (ap (λ c. alone c given) a-holds.checks) ∙ m))
           ∙ a-margin);
       invents-blames = λ load good given i l ne m.
           ne
-          (ap (λ bs. get_or bs i nobody) (demand2.blames-are load (invents_blames given load) m (sym good))
+          (ap (λ bs. get_or bs i nobody)
+          (demand2.blames-are load (blamed_for load given) (invented load given (sym good) m))
           ∙ blames-at load i l);
       blame-of-one = λ given ne m.
           ne
           (ap (λ bs. get_or bs 0 nobody)
-          (demand2.blames-are load_a.load (invents_blames given load_a.load) m a-holds.checks)
+          (demand2.blames-are load_a.load (blamed_for load_a.load given) (invented load_a.load given a-holds.checks m))
           ∙ a-blame);
     }

@@ -2,13 +2,12 @@
 use Prim.Native.Nat.{ℕ, zero, suc}
 use mathlib.Core.Bool.{Bool, true, ◌&&◌}
 use mathlib.Core.List.{List, [], ◌∷◌}
-use mathlib.Core.Path.{◌≡◌, refl, ap, sym, ◌∙◌}
+use mathlib.Core.Path.{◌≡◌, refl, sym}
 use native.Mathlib.Omega.{arith}
 use lib.Dec.{ltb}
 use borrow.Author.Tests.{ltb-true}
 use Rattle.counting.proofs.tests.TestLaws.{and_left, and_right}
 use Rattle.words.specs.LittleEndian.{Bytes}
-use Rattle.load_file.specs.declared.Reading.{Reading}
 use Rattle.demands.specs.Notation.{bytes_of}
 use Rattle.demands.specs.LoadA.{load_a}
 use Rattle.demands.specs.LoadB.{load_b}
@@ -37,9 +36,8 @@ worked-runs =
     record {
       run-a = run_of load_a.load;
       kept-a = demand3.of-loads load_a.load (sym a-holds.checks) (run_of load_a.load);
-      kept-file-a = λ r e.
-          demand3.of-files (bytes_of load_a.file) a-bytes r e
-          (ap (λ (x : Reading). x.answer) e ∙ ap (λ (x : Reading). x.answer) a-holds.reads);
+      read-file-a = sym a-holds.reads;
+      kept-file-a = demand3.of-files (bytes_of load_a.file) a-bytes;
       run-b = run_of load_b.load;
       kept_b = demand3.of-loads load_b.load (sym b-holds.checks) (run_of load_b.load);
     }

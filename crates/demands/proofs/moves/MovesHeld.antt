@@ -1,7 +1,7 @@
 -- What next_move hands back is the move of the rules: its state, its answer, its lamp word and its count. A refused
 -- move hands back the state it was given.
 use mathlib.Core.Path.{◌≡◌, refl, ap, sym}
-use Rattle.refusals.specs.declared.Checked.TheVariants.{Good}
+use Rattle.std.specs.Prelude.{Ok}
 use Rattle.load.specs.declared.Load.{Load}
 use Rattle.load.specs.View.{view_of}
 use Rattle.load.specs.Check.{check_load}
@@ -33,7 +33,7 @@ after-held bench Idle s held = bench_of-held s
 after-held bench Done s held = bench_of-held s
 after-held bench (Refused refusal) s held = held
 
-module _ (load : Load) (accepted : check_load load ≡ Good) (bench : Bench) (held : HeldBench bench) where
+module _ (load : Load) (accepted : check_load load ≡ Ok tt) (bench : Bench) (held : HeldBench bench) where
   -- the move of the rules
   abbrev mine : Move
   mine = move (view_of load) (state_of bench)

@@ -2,7 +2,7 @@
 -- and each move is the move of the rules from there.
 use Prim.Native.Nat.{ℕ, zero, suc}
 use mathlib.Core.Path.{◌≡◌, refl, ap, sym, ◌∙◌, subst}
-use Rattle.refusals.specs.declared.Checked.TheVariants.{Good}
+use Rattle.std.specs.Prelude.{Ok}
 use Rattle.load.specs.declared.Load.{Load}
 use Rattle.load.specs.View.{view_of}
 use Rattle.load.specs.Check.{check_load}
@@ -34,7 +34,7 @@ run_of load =
       goes_on = λ n. refl;
     }
 
-module _ (load : Load) (accepted : check_load load ≡ Good) (run : Run load) where
+module _ (load : Load) (accepted : check_load load ≡ Ok tt) (run : Run load) where
   -- the next bench, as the definition has it
   next-bench : (n : ℕ) → run.bench (suc n) ≡ (next_move load (run.bench n)).bench
   next-bench n = run.goes_on n ∙ ap (λ (m : Moved). m.bench) (run.moves n)

@@ -7,7 +7,7 @@ use mathlib.Core.Path.{◌≡◌, ap}
 use lib.ListN.{length, drop}
 use borrow.Author.Tests.{ltb-false, le-ltb, not-false}
 use Rattle.words.specs.LittleEndian.{number_at}
-use Rattle.refusals.specs.declared.Checked.TheVariants.{Good}
+use Rattle.std.specs.Prelude.{Ok}
 use Rattle.refusals.specs.FirstMet.{first_met}
 use Rattle.refusals.proofs.FirstMetLaws.{
   first_fault_to-good,
@@ -55,15 +55,15 @@ use Rattle.load_file.proofs.layout.RecordLaws.{
 -- what the reading asks of row i, whose record stands at a place
 pub record RowAccepted (bs : List ℕ) (i at : ℕ) : Type 0 where
   pub due : Due (row_kind (version_said bs)) bs at
-  pub fields-good : check_fields (row_from bs at) ≡ Good
-  pub taken-good : check_taken (load_in bs) i (row_from bs at) ≡ Good
+  pub fields-good : check_fields (row_from bs at) ≡ Ok tt
+  pub taken-good : check_taken (load_in bs) i (row_from bs at) ≡ Ok tt
   pub each-step-due : (j : ℕ) → j < steps_said bs at → Due step_kind bs (step_place bs at j)
-  pub each-step-good : (j : ℕ) → j < steps_said bs at → check_step (row_from bs at) j ≡ Good
+  pub each-step-good : (j : ℕ) → j < steps_said bs at → check_step (row_from bs at) j ≡ Ok tt
   pub each-window-due : (k : ℕ) → k < windows_said bs at → Due window_kind bs (window_place bs at k)
-  pub each-window-good : (k : ℕ) → k < windows_said bs at → check_window (row_from bs at) k ≡ Good
+  pub each-window-good : (k : ℕ) → k < windows_said bs at → check_window (row_from bs at) k ≡ Ok tt
 
 module _ (bs : List ℕ) (i at : ℕ) where
-  pub row_fault_at-good : row_fault_at bs i at ≡ Good → RowAccepted bs i at
+  pub row_fault_at-good : row_fault_at bs i at ≡ Ok tt → RowAccepted bs i at
   unfolding row_fault_at own_fault step_fault_in window_fault_in
   row_fault_at-good h =
       let finding = first_fault-good (_ ∷ _ ∷ _ ∷ []) h in
@@ -95,7 +95,7 @@ module _ (bs : List ℕ) (i at : ℕ) where
             append-good-second (due_tests window_kind bs (window_place bs at k)) (window_tests row k) (window k l);
       }
 
-  pub good-row_fault_at : RowAccepted bs i at → row_fault_at bs i at ≡ Good
+  pub good-row_fault_at : RowAccepted bs i at → row_fault_at bs i at ≡ Ok tt
   unfolding row_fault_at own_fault step_fault_in window_fault_in
   good-row_fault_at r =
       let row = row_from bs at in
@@ -134,7 +134,7 @@ pub record FileAccepted (bs : List ℕ) : Type 0 where
   pub no_more : length bs ≤ end_place bs + 4
 
 module _ (bs : List ℕ) where
-  pub file_fault-good : file_fault bs ≡ Good → FileAccepted bs
+  pub file_fault-good : file_fault bs ≡ Ok tt → FileAccepted bs
   unfolding file_fault header_tests end_tests
   file_fault-good h =
       let finding = first_fault-good (_ ∷ _ ∷ _ ∷ []) h in
@@ -158,13 +158,13 @@ module _ (bs : List ℕ) where
         no_more = ltb-false (end_place bs + 4) (length bs) (tail 4);
       }
 
-  pub good-file_fault : FileAccepted bs → file_fault bs ≡ Good
+  pub good-file_fault : FileAccepted bs → file_fault bs ≡ Ok tt
   unfolding file_fault header_tests end_tests
   good-file_fault f =
       let said : ℕ = number_at 2 bs (end_place bs + 2) in
       let same_version = ap not f.version-is in
       let few = le-ltb most_rows (rows_said bs) f.few-rows in
-      let header : first_met (header_tests bs) ≡ Good =
+      let header : first_met (header_tests bs) ≡ (Ok tt) =
       append-good-both (due_tests header_kind bs 0) (drop 3 (header_tests bs))
       (due-good header_kind bs 0 f.header-due) (rw (same_version, few)) in
       let rows =
@@ -172,7 +172,7 @@ module _ (bs : List ℕ) where
       (λ i l. good-row_fault_at bs i (row_place bs i) (f.each_row i l)) in
       let same_count = eq-differs said (steps_in_all (view_of (load_in bs))) f.count-is in
       let no_more = le-ltb (end_place bs + 4) (length bs) f.no_more in
-      let end : first_met (end_tests bs (end_place bs)) ≡ Good =
+      let end : first_met (end_tests bs (end_place bs)) ≡ (Ok tt) =
       append-good-both (due_tests end_kind bs (end_place bs)) (drop 3 (end_tests bs (end_place bs)))
       (due-good end_kind bs (end_place bs) f.end-due) (rw (same_count, no_more)) in
       rw (header, rows, end)

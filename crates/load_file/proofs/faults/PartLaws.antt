@@ -27,6 +27,13 @@ use Rattle.load_file.specs.Places.{
 use Rattle.load_file.specs.Reading.{due_tests, step_fault_in, window_fault_in}
 use Rattle.load_file.specs.inner.ReadingSteps.{steps_from, windows_from, own_fields, with_steps, last_in}
 
+-- parts of which every number is 0
+pub step-none : (s : Step) → (s.cost ≡ 0) × (s.wait ≡ 0) → s ≡ no_step
+step-none s e = λ i. record { cost = e.0 i; wait = e.1 i }
+
+pub window-none : (w : Window) → (w.first ≡ 0) × ((w.last ≡ 0) × (w.limit ≡ 0)) → w ≡ no_window
+window-none w e = λ i. record { first = e.0 i; last = e.1.0 i; limit = e.1.1 i }
+
 module _ (bs : List ℕ) (at : ℕ) where
   -- of a row whose steps are read, the tests of a step and of a window are those of the row
   pub step_tests-read : (j : ℕ) → j < steps_said bs at

@@ -1,37 +1,34 @@
 -- The rows of a file, as they are read one behind the other: what is known when the rows before row i are read, that it
 -- holds at the start and after one row more, and what the reading gives at the end.
-use Prim.Native.Nat.{ℕ, ◌+◌, ◌*◌, ◌≤◌, ◌<◌}
-use mathlib.Core.List.{List}
+use Prim.Native.Nat.{ℕ, ◌+◌, ◌-◌, ◌*◌, ◌≤◌, ◌<◌}
+use mathlib.Core.List.{List, ◌++◌}
 use mathlib.Core.Path.{◌≡◌, refl, sym, ap, ap₂, ◌∙◌}
 use native.Mathlib.Numerals.{add-one}
 use native.Mathlib.Omega.{arith}
-use lib.ListN.{set, replicate}
+use lib.ListN.{length, set, take, replicate}
+use lib.Seq.{take-append_seam}
 use borrow.Author.Tests.{ltb-false}
 use Rattle.counting.specs.Sums.{sum_to}
-use Rattle.counting.specs.Lists.{filled}
+use Rattle.counting.specs.Lists.{list_to, filled}
 use Rattle.counting.proofs.sums.SumLaws.{sum_to-zero, sum_to-next}
-use Rattle.counting.proofs.lists.ListLaws.{filled_none, filled-stored}
+use Rattle.counting.proofs.lists.ListLaws.{filled_none, filled-stored, list_to-length}
 use Rattle.refusals.specs.declared.Refusal.{Refusal}
-use Rattle.refusals.specs.declared.Checked.{Checked}
-use Rattle.refusals.specs.declared.Checked.TheVariants.{Good, Refused}
+use Rattle.std.specs.Prelude.{Ok, Err}
 use Rattle.refusals.specs.FirstMet.{first_met, and_then, first_fault_to}
+use Rattle.refusals.specs.Given.{given}
 use Rattle.refusals.proofs.FirstMetLaws.{
   and_then-good-first,
-  and_then-both,
   and_then-last,
   first_fault_to-zero,
-  first_fault_to-next,
+  first_fault_to-one_more,
   first_fault_to-refused,
 }
 use Rattle.refusals.proofs.FirstFaultLaws.{first_met-good}
-use Rattle.load.specs.declared.Identifier.{Identifier}
-use Rattle.load.specs.declared.BoxNumber.{BoxNumber}
 use Rattle.load.specs.declared.Row.{Row}
-use Rattle.load.specs.Load.{most_rows, most_steps, most_windows, zero_row, zero_load}
+use Rattle.load.specs.Load.{most_rows, most_steps, most_windows, zero_row}
 use Rattle.load.specs.View.{view_of, steps_in_all}
 use Rattle.load_records.specs.Records.{row_kind, most_row_bytes}
 use Rattle.load_records.proofs.LengthLaws.{row_kind-most}
-use Rattle.load_file.specs.declared.read_row.RowReading.{RowReading}
 use Rattle.load_file.specs.Places.{
   version_said,
   steps_said,
@@ -45,15 +42,15 @@ use Rattle.load_file.specs.Places.{
 }
 use Rattle.load_file.specs.Reading.{header_tests, row_fault_at, row_fault_in, end_tests, file_fault, read_load}
 use Rattle.load_file.specs.Reading.{own_fault}
-use Rattle.load_file.specs.inner.ReadingSteps.{RowsBefore, read_row, rows_fault, read_rows}
+use Rattle.load_file.specs.inner.ReadingSteps.{RowsBefore, rows_fault}
 use Rattle.load_file.proofs.faults.ReadingLaws.{row_fault_at-parts, own-steps-le, own-windows-le, steps_in_all-read}
 
 -- the rows before row i are read: no fault is found in them, they are kept, the next record stands at a place, and they
 -- have so many steps
-pub record RowsRead (bs : List ℕ) (i : ℕ) (identifiers : List Identifier) (boxes : List BoxNumber) (rows : List Row)
-    (at steps : ℕ) : Type 0 where
-  pub no-fault : first_fault_to (row_fault_in bs) i ≡ Good
-  pub before : RowsBefore bs i identifiers boxes
+pub record RowsRead (bs : List ℕ) (i : ℕ) (rows : List Row) (at steps : ℕ) : Type 0 where
+  pub no-fault : first_fault_to (row_fault_in bs) i ≡ Ok tt
+  pub said : i ≤ rows_said bs
+  pub few : i ≤ most_rows
   pub rows_are : rows ≡ filled (λ k. row_from bs (row_place bs k)) i most_rows zero_row
   pub place_is : at ≡ row_place bs i
   pub place-le : at ≤ 4 + most_row_bytes * i
@@ -69,19 +66,12 @@ unfolding row_place
 row_place-next bs i = rw add-one
 
 -- before the first row
-pub rows_none : (bs : List ℕ) (zeros : Row) → zeros ≡ zero_row
-    → RowsRead bs 0 (replicate most_rows (record { 0 = 0 })) (replicate most_rows (record { 0 = 0 }))
-    (replicate most_rows zeros) 4 0
+pub rows_none : (bs : List ℕ) (zeros : Row) → zeros ≡ zero_row → RowsRead bs 0 (replicate most_rows zeros) 4 0
 rows_none bs zeros e =
     record {
       no-fault = first_fault_to-zero (row_fault_in bs);
-      before =
-          record {
-            said = omega arith;
-            few = omega arith;
-            identifiers-are = sym (filled_none _ most_rows _);
-            boxes-are = sym (filled_none _ most_rows _);
-          };
+      said = omega arith;
+      few = omega arith;
       rows_are = ap (replicate most_rows) e ∙ sym (filled_none _ most_rows zero_row);
       place_is = sym (row_place-zero bs);
       place-le = omega arith;
@@ -89,94 +79,82 @@ rows_none bs zeros e =
       steps-le = omega arith;
     }
 
--- what is found in a row, and what the reading behind the header gives for it
+-- what is found in the rows and in the end record
 module _ (bs : List ℕ) where
   rows_fault-parts : rows_fault bs
       ≡ and_then (first_fault_to (row_fault_in bs) (rows_said bs))
-      (and_then (first_met (end_tests bs (row_place bs (rows_said bs)))) Good)
+      (and_then (first_met (end_tests bs (row_place bs (rows_said bs)))) (Ok tt))
   unfolding rows_fault
   rows_fault-parts = refl
 
-  -- a refused reading gives rows of zeros
-  pub reading-refused : {answer : Checked} {refusal : Refusal} (zeros : Row) → zeros ≡ zero_row → answer ≡ rows_fault bs
-      → answer ≡ Refused refusal
-      → record { answer = answer; load = record { rows = 0; row = replicate most_rows zeros } } ≡ read_rows bs
-  unfolding read_rows zero_load
-  reading-refused {answer} {refusal} zeros e found h =
-      let z : rows_fault bs ≡ Refused refusal = sym found ∙ h in rw (z, h, e)
+module _ {bs : List ℕ} {i : ℕ} {rows : List Row} {at steps : ℕ} (so_far : RowsRead bs i rows at steps) where
+  -- the rows that are kept so far
+  kept : take i rows ≡ list_to (λ k. row_from bs (row_place bs k)) i
+  kept =
+      let read : List Row = list_to (λ k. row_from bs (row_place bs k)) i in
+      let all : length read ≡ i = list_to-length (λ k. row_from bs (row_place bs k)) i in
+      ap (take i) so_far.rows_are
+      ∙ ap (λ n. take n (read ++ replicate (most_rows - i) zero_row)) (sym all)
+      ∙ take-append_seam read (replicate (most_rows - i) zero_row)
 
-module _ {bs : List ℕ} {i : ℕ} {identifiers : List Identifier} {boxes : List BoxNumber} {rows : List Row} {at steps : ℕ}
-    (so_far : RowsRead bs i identifiers boxes rows at steps) where
+  pub kept-length : length (take i rows) ≡ i
+  kept-length = ap length kept ∙ list_to-length (λ k. row_from bs (row_place bs k)) i
+
+  pub rows_before : RowsBefore bs (take i rows)
+  rows_before =
+      record {
+        said = omega (arith, kept-length, so_far.said);
+        are = kept ∙ ap (list_to (λ k. row_from bs (row_place bs k))) (sym kept-length);
+      }
+
   -- row i is read
-  module _ (r : RowReading) (e : r ≡ read_row bs i at) (l : i < rows_said bs) (most : rows_said bs ≤ most_rows) where
-    answer-is : r.answer ≡ row_fault_at bs i at
-    unfolding read_row
-    answer-is = ap (λ r. r.answer) e
-
-    found : r.answer ≡ row_fault_in bs i
-    found = answer-is ∙ ap (row_fault_at bs i) so_far.place_is
-
+  module _ (l : i < rows_said bs) where
     -- and refused: it decides
-    pub rows-refused : {refusal : Refusal} → r.answer ≡ Refused refusal → r.answer ≡ rows_fault bs
-    rows-refused {refusal} h =
-        let z : first_fault_to (row_fault_in bs) (rows_said bs) ≡ Refused refusal =
-        first_fault_to-refused (row_fault_in bs) (rows_said bs) i refusal l so_far.no-fault (sym found ∙ h) in
-        h ∙ sym (rows_fault-parts bs ∙ rw z)
+    pub rows-refused : (refusal : Refusal) → row_fault_at bs i at ≡ Err refusal → rows_fault bs ≡ Err refusal
+    rows-refused refusal h =
+        let z : first_fault_to (row_fault_in bs) (rows_said bs) ≡ Err refusal =
+        first_fault_to-refused (row_fault_in bs) (rows_said bs) i refusal l so_far.no-fault
+        (ap (row_fault_at bs i) (sym so_far.place_is) ∙ h) in
+        rows_fault-parts bs ∙ rw z
 
-    -- and is Good
-    module _ (h : r.answer ≡ Good) where
-      row_is : r.row ≡ row_from bs at
-      unfolding read_row
-      row_is = let z : row_fault_at bs i at ≡ Good = sym answer-is ∙ h in ap (λ r. r.row) e ∙ rw z
-
-      in_place : r.row ≡ row_from bs (row_place bs i)
+    -- and has no fault
+    module _ (most : rows_said bs ≤ most_rows) (row : Row) (h : row_fault_at bs i at ≡ Ok tt)
+        (row_is : row ≡ row_from bs at) where
+      in_place : row ≡ row_from bs (row_place bs i)
       in_place = row_is ∙ ap (row_from bs) so_far.place_is
 
-      own-good : own_fault bs i at ≡ Good
-      own-good = and_then-good-first _ _ (sym (row_fault_at-parts bs at i) ∙ sym answer-is ∙ h)
+      own-good : own_fault bs i at ≡ Ok tt
+      own-good = and_then-good-first _ _ (sym (row_fault_at-parts bs at i) ∙ h)
 
-      steps-said : r.row.steps ≡ steps_said bs at
+      steps-said : row.steps ≡ steps_said bs at
       unfolding row_from row_with
       steps-said = ap (λ row. row.steps) row_is
 
-      windows-said : r.row.windows ≡ windows_said bs at
+      windows-said : row.windows ≡ windows_said bs at
       unfolding row_from row_with
       windows-said = ap (λ row. row.windows) row_is
 
-      pub few-steps : r.row.steps ≤ most_steps
+      pub few-steps : row.steps ≤ most_steps
       few-steps = rw steps-said (own-steps-le bs at i own-good)
 
-      few-windows : r.row.windows ≤ most_windows
+      few-windows : row.windows ≤ most_windows
       few-windows = rw windows-said (own-windows-le bs at i own-good)
 
-      pub rows_next : RowsRead bs (i + 1) (set identifiers i r.row.identifier)
-          (set boxes i r.row.box_number)
-          (set rows i r.row)
-          (at + (row_kind (version_said bs)).size + 6 * r.row.steps + 6 * r.row.windows)
-          (steps + r.row.steps)
+      pub rows_next : RowsRead bs (i + 1) (set rows i row)
+          (at + (row_kind (version_said bs)).size + 6 * row.steps + 6 * row.windows)
+          (steps + row.steps)
       rows_next =
           let few : i < most_rows = omega arith in
-          let most-steps : r.row.steps ≤ 8 = few-steps in
-          let most-windows : r.row.windows ≤ 4 = few-windows in
+          let most-steps : row.steps ≤ 8 = few-steps in
+          let most-windows : row.windows ≤ 4 = few-windows in
           record {
-            no-fault = first_fault_to-next (row_fault_in bs) i ∙ and_then-both _ _ so_far.no-fault (sym found ∙ h);
-            before =
-                record {
-                  said = omega arith;
-                  few = omega arith;
-                  identifiers-are =
-                      filled-stored (λ k. (row_from bs (row_place bs k)).identifier) i most_rows _ _ identifiers
-                      so_far.before.identifiers-are
-                      (ap (λ row. row.identifier) in_place)
-                      few;
-                  boxes-are =
-                      filled-stored (λ k. (row_from bs (row_place bs k)).box_number) i most_rows _ _ boxes
-                      so_far.before.boxes-are
-                      (ap (λ row. row.box_number) in_place)
-                      few;
-                };
+            no-fault =
+                first_fault_to-one_more (row_fault_in bs) i so_far.no-fault
+                (ap (row_fault_at bs i) (sym so_far.place_is) ∙ h);
+            said = omega arith;
+            few = omega arith;
             rows_are =
-                filled-stored (λ k. row_from bs (row_place bs k)) i most_rows zero_row r.row rows so_far.rows_are
+                filled-stored (λ k. row_from bs (row_place bs k)) i most_rows zero_row row rows so_far.rows_are
                 in_place few;
             place_is =
                 rw (steps-said, windows-said) (ap (place_behind bs) so_far.place_is) ∙ sym (row_place-next bs i);
@@ -193,28 +171,26 @@ module _ {bs : List ℕ} {i : ℕ} {identifiers : List Identifier} {boxes : List
     steps-counted =
         so_far.steps-are ∙ ap (sum_to (λ k. steps_said bs (row_place bs k))) last ∙ steps_in_all-read bs
 
-    rows-good : first_fault_to (row_fault_in bs) (rows_said bs) ≡ Good
+    rows-good : first_fault_to (row_fault_in bs) (rows_said bs) ≡ Ok tt
     rows-good = ap (first_fault_to (row_fault_in bs)) (sym last) ∙ so_far.no-fault
 
     end-place : at ≡ row_place bs (rows_said bs)
     end-place = so_far.place_is ∙ ap (row_place bs) last
 
     -- the end record decides
-    pub end-decides : {c : Checked} → c ≡ first_met (end_tests bs at) → c ≡ rows_fault bs
-    end-decides found =
-        found ∙ ap (λ at. first_met (end_tests bs at)) end-place
-        ∙ sym (rows_fault-parts bs
-        ∙ rw rows-good (and_then-last (first_met (end_tests bs (row_place bs (rows_said bs))))))
+    pub end-decides : rows_fault bs ≡ first_met (end_tests bs at)
+    end-decides =
+        rows_fault-parts bs
+        ∙ rw rows-good (and_then-last (first_met (end_tests bs (row_place bs (rows_said bs)))))
+        ∙ ap (λ at. first_met (end_tests bs at)) (sym end-place)
 
-    -- and where it is Good, the rows are those of the file
-    pub reading-good : {answer : Checked} (count : ℕ) → count ≡ rows_said bs → answer ≡ rows_fault bs → answer ≡ Good
-        → record { answer = answer; load = record { rows = count; row = rows } } ≡ read_rows bs
-    unfolding read_rows load_in
-    reading-good count e found h =
-        let z : rows_fault bs ≡ Good = sym found ∙ h in
+    -- the rows are those of the file
+    pub read-is : (count : ℕ) → count ≡ rows_said bs → record { rows = count; row = rows } ≡ load_in bs
+    unfolding load_in
+    read-is count e =
         let filled-rows : rows ≡ filled (λ k. row_from bs (row_place bs k)) (rows_said bs) most_rows zero_row =
         so_far.rows_are ∙ ap (λ n. filled (λ k. row_from bs (row_place bs k)) n most_rows zero_row) last in
-        rw (z, h, e, filled-rows)
+        rw (e, filled-rows)
 
 -- the header, and what the reading of the file gives behind it
 module _ (bs : List ℕ) where
@@ -222,14 +198,13 @@ module _ (bs : List ℕ) where
   unfolding file_fault rows_fault
   file_fault-parts = refl
 
-  pub read_load-header : (r : Refusal) → first_met (header_tests bs) ≡ Refused r
-      → record { answer = Refused r; load = zero_load } ≡ read_load bs
+  pub read_load-header : (r : Refusal) → first_met (header_tests bs) ≡ Err r → Err r ≡ read_load bs
   unfolding read_load
-  read_load-header r e = let h : file_fault bs ≡ Refused r = file_fault-parts ∙ rw e in rw h
+  read_load-header r e = let h : file_fault bs ≡ Err r = file_fault-parts ∙ rw e in rw h
 
-  module _ (e : first_met (header_tests bs) ≡ Good) where
-    pub read_load-rows : read_rows bs ≡ read_load bs
-    unfolding read_load read_rows
+  module _ (e : first_met (header_tests bs) ≡ Ok tt) where
+    pub read_load-rows : given (rows_fault bs) (load_in bs) ≡ read_load bs
+    unfolding read_load
     read_load-rows = let h : file_fault bs ≡ rows_fault bs = file_fault-parts ∙ rw e in rw h
 
     pub header-rows-le : rows_said bs ≤ most_rows

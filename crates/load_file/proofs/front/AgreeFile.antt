@@ -8,7 +8,7 @@ use native.Mathlib.Omega.{arith}
 use lib.Dec.{eqb}
 use Rattle.counting.proofs.tests.TestLaws.{any_to-ext}
 use Rattle.refusals.specs.declared.Refusal.TheVariants.{IdentifierTaken, BoxTaken}
-use Rattle.refusals.specs.declared.Checked.TheVariants.{Good}
+use Rattle.std.specs.Prelude.{Ok}
 use Rattle.refusals.specs.FirstMet.{first_met, and_then, first_fault_to}
 use Rattle.refusals.proofs.FirstMetLaws.{
   and_then-good-first,
@@ -73,7 +73,7 @@ module _ (bs cs : List ℕ) (a : Agree (most_file_bytes + 1) bs cs) where
   pub said : rows_said bs ≡ rows_said cs
   said = a.same 3 (omega arith)
 
-  placed-next : (i : ℕ) → i < most_rows → Placed bs cs i → row_fault_in bs i ≡ Good → Placed bs cs (suc i)
+  placed-next : (i : ℕ) → i < most_rows → Placed bs cs i → row_fault_in bs i ≡ Ok tt → Placed bs cs (suc i)
   unfolding row_place
   placed-next i l p good =
       let at = row_place bs i in
@@ -92,7 +92,7 @@ module _ (bs cs : List ℕ) (a : Agree (most_file_bytes + 1) bs cs) where
         place-le = omega (arith, row_kind-most (version_said bs));
       }
 
-  pub placed : (i : ℕ) → i ≤ most_rows → first_fault_to (row_fault_in bs) i ≡ Good → Placed bs cs i
+  pub placed : (i : ℕ) → i ≤ most_rows → first_fault_to (row_fault_in bs) i ≡ Ok tt → Placed bs cs i
   unfolding first_fault_to row_place
   placed zero l good = record { place_same = refl; place-le = omega arith }
   placed (suc i) l good =
@@ -102,7 +102,7 @@ module _ (bs cs : List ℕ) (a : Agree (most_file_bytes + 1) bs cs) where
 
   -- row i of both files, where the rows before it are Good
   module _ (i : ℕ) (l : i < rows_said bs) (few : rows_said bs ≤ most_rows)
-      (before : first_fault_to (row_fault_in bs) i ≡ Good)
+      (before : first_fault_to (row_fault_in bs) i ≡ Ok tt)
     where
       at : ℕ
       at = row_place bs i
@@ -164,7 +164,7 @@ module _ (bs cs : List ℕ) (a : Agree (most_file_bytes + 1) bs cs) where
           taken-agree
 
       -- the steps and windows of a row whose own record is Good
-      module _ (good : own_fault bs i at ≡ Good) where
+      module _ (good : own_fault bs i at ≡ Ok tt) where
         steps-most : steps_said bs at ≤ most_steps
         steps-most = own-steps-le bs at i good
 
@@ -213,6 +213,6 @@ module _ (bs cs : List ℕ) (a : Agree (most_file_bytes + 1) bs cs) where
       row-fault-agree =
           row_fault_at-parts bs at i
           ∙ and_then-agree (own_fault bs i at) (own_fault cs i at) _ _ own-agree
-          (λ good. ap₂ (λ s w. and_then s (and_then w Good)) (steps-agree good) (windows-agree good))
+          (λ good. ap₂ (λ s w. and_then s (and_then w (Ok tt))) (steps-agree good) (windows-agree good))
           ∙ sym (row_fault_at-parts cs at i)
           ∙ ap (row_fault_at cs i) here.place_same

@@ -14,10 +14,10 @@ use Rattle.counting.specs.Sums.{sum_to}
 use Rattle.counting.proofs.sums.SumLaws.{sum_to-ext}
 use Rattle.words.specs.LittleEndian.{number_at}
 use Rattle.refusals.specs.declared.Refusal.TheVariants.{MarkDiffers, OutOfRange, EndDiffers}
-use Rattle.refusals.specs.declared.Checked.{Checked}
-use Rattle.refusals.specs.declared.Checked.TheVariants.{Good, Refused}
+use Rattle.refusals.specs.Checked.{Checked}
+use Rattle.std.specs.Prelude.{Ok, Err}
 use Rattle.refusals.specs.FirstMet.{first_met, and_then, first_fault_to}
-use Rattle.refusals.specs.Given.{if_good}
+use Rattle.refusals.specs.Given.{given}
 use Rattle.refusals.proofs.FirstMetLaws.{
   and_then-good-first,
   and_then-good-second,
@@ -25,7 +25,7 @@ use Rattle.refusals.proofs.FirstMetLaws.{
   good-first_fault_to,
 }
 use Rattle.refusals.proofs.FirstFaultLaws.{first_met-good, and_then-agree, first_fault_to-agree}
-use Rattle.load.specs.Load.{most_rows, zero_load}
+use Rattle.load.specs.Load.{most_rows}
 use Rattle.load.specs.View.{view_of, steps_in_all}
 use Rattle.load_records.specs.Records.{header_kind, end_kind, is_version, most_file_bytes}
 use Rattle.load_file.specs.Places.{version_said, steps_said, row_place, rows_said, load_in}
@@ -54,7 +54,7 @@ module _ (bs cs : List ℕ) (a : Agree (most_file_bytes + 1) bs cs) where
       ∙ ap (first_fault_to (row_fault_in cs)) (said bs cs a)
 
   -- where all rows are Good
-  module _ (few : rows_said bs ≤ most_rows) (good : first_fault_to (row_fault_in bs) (rows_said bs) ≡ Good) where
+  module _ (few : rows_said bs ≤ most_rows) (good : first_fault_to (row_fault_in bs) (rows_said bs) ≡ Ok tt) where
     end : Placed bs cs (rows_said bs)
     end = placed bs cs a (rows_said bs) few good
 
@@ -99,10 +99,10 @@ module _ (bs cs : List ℕ) (a : Agree (most_file_bytes + 1) bs cs) where
       and_then-agree (first_fault_to (row_fault_in bs) (rows_said bs))
       (first_fault_to (row_fault_in cs) (rows_said cs)) _ _
       (rows_agree (header-rows-le bs head))
-      (λ rows. ap (λ ts. and_then (first_met ts) Good) (ends-agree (header-rows-le bs head) rows)))
+      (λ rows. ap (λ ts. and_then (first_met ts) (Ok tt)) (ends-agree (header-rows-le bs head) rows)))
 
   -- bytes follow the end record
-  file-long : file_fault bs ≡ Good → ⊥
+  file-long : file_fault bs ≡ Ok tt → ⊥
   unfolding file_fault end_tests
   file-long good =
       let head = and_then-good-first (first_met (header_tests bs)) _ good in
@@ -110,7 +110,7 @@ module _ (bs cs : List ℕ) (a : Agree (most_file_bytes + 1) bs cs) where
       let rows = and_then-good-first (first_fault_to (row_fault_in bs) (rows_said bs)) _ behind in
       let last = and_then-good-second (first_fault_to (row_fault_in bs) (rows_said bs)) _ behind in
       let at = row_place bs (rows_said bs) in
-      let tests = and_then-good-first (first_met (end_tests bs at)) Good last in
+      let tests = and_then-good-first (first_met (end_tests bs at)) (Ok tt) last in
       let no_more = ltb-false (at + 4) (length bs) (first_met-good (end_tests bs at) tests 4) in
       let few = header-rows-le bs head in
       let le = (end few rows).place-le in
@@ -122,10 +122,9 @@ module _ (bs cs : List ℕ) (a : Agree (most_file_bytes + 1) bs cs) where
   read-agree = go (file_fault bs) refl
     where
       go : (c : Checked) → file_fault bs ≡ c → read_load bs ≡ read_load cs
-      go Good e = absurd (file-long e)
-      go (Refused refusal) e =
-          ap (λ c. record { answer = c; load = if_good c (load_in bs) zero_load }) e
-          ∙ sym (ap (λ c. record { answer = c; load = if_good c (load_in cs) zero_load }) (sym file-agree ∙ e))
+      go (Ok tt) e = absurd (file-long e)
+      go (Err refusal) e =
+          ap (λ c. given c (load_in bs)) e ∙ sym (ap (λ c. given c (load_in cs)) (sym file-agree ∙ e))
 
 -- one byte more than the longest file has is enough
 pub read_load-front : (bs : List ℕ) → read_load bs ≡ read_load (take (most_file_bytes + 1) bs)

@@ -21,7 +21,7 @@ use Rattle.counting.proofs.lists.PieceLaws.{
 }
 use Rattle.words.specs.LittleEndian.{little_endian, byte_at, number_at, Bytes}
 use Rattle.words.proofs.LittleEndianLaws.{little_endian-length, little_endian-read, number_at-first, number_at-written}
-use Rattle.refusals.specs.declared.Checked.TheVariants.{Good}
+use Rattle.std.specs.Prelude.{Ok}
 use Rattle.refusals.specs.FirstMet.{first_met}
 use Rattle.refusals.proofs.FirstFaultLaws.{first_met-good}
 use Rattle.load_records.specs.Records.{Kind, record_of}
@@ -74,7 +74,7 @@ pub record Due (kind : Kind) (bs : List ℕ) (at : ℕ) : Type 0 where
   pub second-mark : byte_at bs (at + 1) ≡ kind.mark₂
 
 module _ (kind : Kind) (bs : List ℕ) (at : ℕ) where
-  pub good-due : first_met (due_tests kind bs at) ≡ Good → Due kind bs at
+  pub good-due : first_met (due_tests kind bs at) ≡ Ok tt → Due kind bs at
   good-due h =
       let test = first_met-good (due_tests kind bs at) h in
       record {
@@ -83,7 +83,7 @@ module _ (kind : Kind) (bs : List ℕ) (at : ℕ) where
         second-mark = differs_false (byte_at bs (at + 1)) kind.mark₂ (test 2);
       }
 
-  pub due-good : Due kind bs at → first_met (due_tests kind bs at) ≡ Good
+  pub due-good : Due kind bs at → first_met (due_tests kind bs at) ≡ Ok tt
   due-good d =
       let short = le-ltb (length bs) (at + kind.size) d.inside in
       let first = eq-differs (byte_at bs at) kind.mark₁ d.first-mark in

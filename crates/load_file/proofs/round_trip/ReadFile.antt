@@ -11,7 +11,7 @@ use Rattle.counting.proofs.tests.TestLaws.{true-all_from}
 use Rattle.counting.proofs.lists.ListLaws.{filled-length, get_or-filled, get_or-unfilled}
 use Rattle.counting.proofs.lists.PieceLaws.{Stands}
 use Rattle.words.specs.LittleEndian.{Bytes}
-use Rattle.refusals.specs.declared.Checked.TheVariants.{Good}
+use Rattle.std.specs.Prelude.{Ok}
 use Rattle.load.specs.Load.{most_rows, no_row, zero_row, row_at}
 use Rattle.load.specs.Check.{is_zero_row, check_load}
 use Rattle.load.specs.Plain.{check_plain}
@@ -75,15 +75,15 @@ module _ (bs : List ℕ) (b : Bytes bs) (f : FileAccepted bs) where
       }
 
   -- the load is not refused where it is written in the file's version
-  pub read-writes : write_fault (version_said bs) (load_in bs) ≡ Good
+  pub read-writes : write_fault (version_said bs) (load_in bs) ≡ Ok tt
   unfolding load_in
   read-writes = go (carries (version_said bs)) refl
     where
-      check : check_load (load_in bs) ≡ Good
+      check : check_load (load_in bs) ≡ Ok tt
       check = good-check_load (load_in bs) read-good
 
       go : (b : Bool) → carries (version_said bs) ≡ b
-          → cond b (check_load (load_in bs)) (check_plain (load_in bs)) ≡ Good
+          → cond b (check_load (load_in bs)) (check_plain (load_in bs)) ≡ Ok tt
       go true e = check
       go false e =
           good-check_plain (load_in bs)

@@ -9,7 +9,8 @@ use native.Mathlib.Omega.{arith}
 use lib.Dec.{eqb}
 use borrow.Author.Tests.{ne_eqb, eqb-true}
 use Rattle.words.specs.LittleEndian.{Bytes}
-use Rattle.refusals.specs.declared.Checked.TheVariants.{Good}
+use Rattle.std.specs.Prelude.{Ok}
+use Rattle.refusals.proofs.GivenLaws.{given-good, given-is}
 use Rattle.load.specs.declared.Load.{Load}
 use Rattle.load.specs.Load.{row_at}
 use Rattle.load.proofs.CheckLaws.{check_load-good}
@@ -34,24 +35,25 @@ use Rattle.load_file.proofs.round_trip.WrittenFile.{written-load, written-accept
 use Rattle.load_file.proofs.round_trip.ReadFile.{read_held, read-writes, read-file}
 
 -- what reading a file gives that is not refused
-read_load-good : (bs : List ℕ) → file_fault bs ≡ Good → read_load bs ≡ accepted (load_in bs)
+read_load-good : (bs : List ℕ) → file_fault bs ≡ Ok tt → read_load bs ≡ accepted (load_in bs)
 unfolding read_load
 read_load-good bs h = rw h
 
-good-read_load : (bs : List ℕ) (load : Load) → read_load bs ≡ accepted load → file_fault bs ≡ Good
+good-read_load : (bs : List ℕ) (load : Load) → read_load bs ≡ accepted load → file_fault bs ≡ Ok tt
 unfolding read_load
-good-read_load bs load h = ap (λ r. r.answer) h
+good-read_load bs load h = given-good (file_fault bs) (load_in bs) load (sym h)
 
 -- an accepted file reads to exactly one load
-reads_load : (bs : List ℕ) → Bytes bs → (read_load bs).answer ≡ Good → AcceptedFile bs (read_load bs).load
-reads_load bs b h = record { bytes = b; reads = λ i. record { answer = h i; load = (read_load bs).load } }
+reads_load : (bs : List ℕ) → Bytes bs → file_fault bs ≡ Ok tt → AcceptedFile bs (load_in bs)
+reads_load bs b h = record { bytes = b; reads = read_load-good bs h }
 
 pub AcceptedFile-unique : (bs : List ℕ) (load other : Load) → AcceptedFile bs load → AcceptedFile bs other
     → load ≡ other
-AcceptedFile-unique bs load other a c = ap (λ r. r.load) (sym a.reads ∙ c.reads)
+AcceptedFile-unique bs load other a c = given-is (Ok tt) other load (sym a.reads ∙ c.reads)
 
 load_in-is : (bs : List ℕ) (load : Load) → read_load bs ≡ accepted load → load_in bs ≡ load
-load_in-is bs load h = ap (λ r. r.load) (sym (read_load-good bs (good-read_load bs load h)) ∙ h)
+unfolding read_load
+load_in-is bs load h = sym (given-is (file_fault bs) (load_in bs) load (sym h))
 
 -- what an accepted file is, read
 read-parts : (bs : List ℕ) (load : Load) → AcceptedFile bs load → FileAccepted bs
@@ -84,7 +86,7 @@ version-small v h =
     ]
 
 -- where a version carries no class and no head, the load that is written in it has class 0 and head 1 throughout
-written-carried : (bs : List ℕ) (load : Load) → write_fault (version_said bs) load ≡ Good → (i : ℕ) → i < load.rows
+written-carried : (bs : List ℕ) (load : Load) → write_fault (version_said bs) load ≡ Ok tt → (i : ℕ) → i < load.rows
     → Carried bs (row_at load i)
 written-carried bs load h i l =
     record {
@@ -138,7 +140,7 @@ pub read-write : (bs : List ℕ) (load : Load) → Bytes bs → read_load bs ≡
 read-write bs load b h = sym (round_trip.read-write bs load (record { bytes = b; reads = h })).file
 
 -- a written load reads back as itself
-pub write_read : (v : ℕ) → is_version v ≡ true → (load : Load) → Held load → write_fault v load ≡ Good
+pub write_read : (v : ℕ) → is_version v ≡ true → (load : Load) → Held load → write_fault v load ≡ Ok tt
     → read_load (load_bytes v load) ≡ accepted load
 write_read v named load held good =
     (round_trip.write_read v named (load_bytes v load) load (record { held = held; good = good; file = refl })).reads

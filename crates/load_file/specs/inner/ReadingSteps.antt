@@ -1,22 +1,16 @@
 -- What the parts of the reading call give: definitions that its private functions cite, and no
 -- public contract. To be read after Reading.
 use Rattle.std.specs.Prelude.{ℕ, zero, suc, ◌+◌, ◌*◌, ◌≤◌, List, [], ◌∷◌, ◌++◌, ◌≡◌, get_or}
-use Rattle.std.specs.Prelude.{replicate}
-use Rattle.counting.specs.Lists.{filled}
-use Rattle.refusals.specs.declared.Checked.{Checked}
+use Rattle.std.specs.Prelude.{length, replicate}
+use Rattle.counting.specs.Lists.{list_to, filled}
+use Rattle.refusals.specs.Checked.{Checked}
 use Rattle.refusals.specs.FirstMet.{first_met, first_fault, first_fault_to}
-use Rattle.refusals.specs.Given.{if_good}
-use Rattle.load.specs.declared.Identifier.{Identifier}
-use Rattle.load.specs.declared.BoxNumber.{BoxNumber}
 use Rattle.load.specs.declared.Step.{Step}
 use Rattle.load.specs.declared.Window.{Window}
 use Rattle.load.specs.declared.Row.{Row}
-use Rattle.load.specs.Load.{most_rows, most_steps, most_windows, no_step, no_window, zero_row}
-use Rattle.load.specs.Load.{zero_load}
+use Rattle.load.specs.Load.{most_steps, most_windows, no_step, no_window}
 use Rattle.load.specs.Faults.{row_tests, taken_tests}
 use Rattle.load_records.specs.Records.{Kind, row_kind, step_kind, window_kind}
-use Rattle.load_file.specs.declared.Reading.{Reading}
-use Rattle.load_file.specs.declared.read_row.RowReading.{RowReading}
 use Rattle.load_file.specs.Places.{
   version_said,
   step_in,
@@ -29,7 +23,7 @@ use Rattle.load_file.specs.Places.{
   load_in,
 }
 use Rattle.load_file.specs.Reading.{steps_fault, windows_fault, end_tests}
-use Rattle.load_file.specs.Reading.{row_fault_at, row_fault_in}
+use Rattle.load_file.specs.Reading.{row_fault_in}
 
 -- the kind of record with a mark and a size
 abbrev pub kind_of : List ℕ → ℕ → Kind
@@ -60,15 +54,10 @@ abbrev pub last_in : List ℕ → ℕ → ℕ → ℕ
 last_in bs from zero = 0
 last_in bs from (suc k) = (window_in bs (from + window_kind.size * k)).last
 
--- the identifiers and the boxes of the rows before row i, and zeros in the places behind them
-pub record RowsBefore (bs : List ℕ) (i : ℕ) (identifiers : List Identifier)
-    (boxes : List BoxNumber) : Type 0 where
-  pub said : i ≤ rows_said bs
-  pub few : i ≤ most_rows
-  pub identifiers-are : identifiers
-      ≡ filled (λ k. (row_from bs (row_place bs k)).identifier) i most_rows (record { 0 = 0 })
-  pub boxes-are : boxes
-      ≡ filled (λ k. (row_from bs (row_place bs k)).box_number) i most_rows (record { 0 = 0 })
+-- rows that are those at the front of the file
+pub record RowsBefore (bs : List ℕ) (earlier : List Row) : Type 0 where
+  pub said : length earlier ≤ rows_said bs
+  pub are : earlier ≡ list_to (λ k. row_from bs (row_place bs k)) (length earlier)
 
 -- what row i is refused for by its own fields, and by what it shares with a row before
 unfoldable pub fields_fault : List ℕ → ℕ → Row → Checked
@@ -78,23 +67,6 @@ fields_fault bs i row = first_met (row_tests row ++ taken_tests (load_in bs) i r
 abbrev pub parts_fault : List ℕ → ℕ → Checked
 parts_fault bs at = first_fault (steps_fault bs at ∷ windows_fault bs at ∷ [])
 
--- what reading the parts of the row at a place gives: a refused row is the row of zeros
-unfoldable pub read_parts : List ℕ → ℕ → RowReading
-read_parts bs at =
-    record {
-      answer = parts_fault bs at;
-      row =
-          if_good (parts_fault bs at) (row_from bs at) zero_row;
-    }
-
--- what reading row i at a place gives: a refused row is the row of zeros
-unfoldable pub read_row : List ℕ → ℕ → ℕ → RowReading
-read_row bs i at =
-    record {
-      answer = row_fault_at bs i at;
-      row = if_good (row_fault_at bs i at) (row_from bs at) zero_row;
-    }
-
 -- what a file is refused for behind its header
 unfoldable pub rows_fault : List ℕ → Checked
 rows_fault bs =
@@ -102,11 +74,3 @@ rows_fault bs =
     (first_fault_to (row_fault_in bs) (rows_said bs)
     ∷ first_met (end_tests bs (row_place bs (rows_said bs)))
     ∷ [])
-
--- what reading a file behind its header gives
-unfoldable pub read_rows : List ℕ → Reading
-read_rows bs = record {
-  answer = rows_fault bs;
-  load =
-      if_good (rows_fault bs) (load_in bs) zero_load;
-}

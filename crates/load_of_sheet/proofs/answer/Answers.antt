@@ -1,73 +1,76 @@
 -- `load_of_sheet::answer` writes the file of a load that was accepted, which has passed its check: so it has no more
 -- bytes than the longest file, for which there is room. Version 1 carries it, since it is a sheet's.
-use Prim.Native.Nat.{ℕ, ◌≤◌}
-use mathlib.Core.List.{List}
-use mathlib.Core.Path.{◌≡◌, refl, ap, sym, ◌∙◌}
-use native.Mathlib.Omega.{arith}
-use borrow.Author.Rules.{rules}
-use lib.ListN.{length}
+use Rattle.std.proofs.Common.{◌≡◌, ◌≤◌, ap, arith, length, List, refl, ℕ}
+use Rattle.std.specs.Prelude.{Result, Ok, Err}
+use borrow.Author.Tests.{le-ltb}
 use Rattle.refusals.specs.declared.Refusal.{Refusal}
-use Rattle.refusals.specs.declared.Checked.{Checked}
-use Rattle.refusals.specs.declared.Checked.TheVariants.{Good, Refused}
-use Rattle.refusals.proofs.GivenLaws.{if_good-good, enough-given, refused-given}
+use Rattle.refusals.specs.Checked.{Checked}
+use Rattle.refusals.specs.Given.{Given}
+use Rattle.refusals.proofs.GivenLaws.{enough-given}
+use Rattle.refusals.proofs.PassedOn.{passed_on}
+use Rattle.load.specs.declared.Load.{Load}
+use Rattle.load.specs.Plain.{check_plain}
 use Rattle.load_records.specs.Records.{most_file_bytes}
 use Rattle.load_records.specs.Writing.{load_bytes}
 use Rattle.load_records.specs.Calls.{Version1Size, WriteVersion1}
 use Rattle.load_records.proofs.LengthLaws.{load_bytes-le}
-use Rattle.load_file.specs.declared.Reading.{Reading}
 use Rattle.sheet.specs.SheetRows.{load_in_sheet}
-use Rattle.sheet.specs.Reading.{sheet_fault, read_sheet}
+use Rattle.sheet.specs.Reading.{sheet_fault}
+use Rattle.sheet.specs.Calls.{ReadSheet}
+use Rattle.sheet.proofs.CallLaws.{ReadSheet-refused, ReadSheet-good, ReadSheet-load}
 use Rattle.sheet.proofs.trip.ReadSheet.{read_plain}
 use Rattle.sheet.proofs.trip.SheetTrip.{accepted-good}
 use Rattle.load_of_sheet.specs.Program.{Answer}
 use Rattle.load_of_sheet.proofs.answer.Goals as goal
 
-fault-is : (bs : List ℕ) (r : Reading) → r ≡ read_sheet bs → r.answer ≡ sheet_fault bs
-unfolding read_sheet
-fault-is bs r e = ap (λ r. r.answer) e
+is-refused : (bs out : List ℕ) (refusal : Refusal) (r : Result ℕ Refusal) → ReadSheet bs (Err refusal)
+    → r ≡ Err refusal → Answer bs out r out
+is-refused bs out refusal r e is =
+    let fault = ReadSheet-refused bs refusal e in
+    rw is
+    (record {
+      writes-out = record { length-is = rw fault; output-is = refl };
+      never-short = rw fault;
+    })
 
-load_is : (bs : List ℕ) (r : Reading) → r ≡ read_sheet bs → sheet_fault bs ≡ Good → r.load ≡ load_in_sheet bs
-unfolding read_sheet
-load_is bs r e good = ap (λ r. r.load) e ∙ if_good-good (sheet_fault bs) _ _ good
+-- the load that is read is written
+module _ (bs out : List ℕ) (load : Load) (e : ReadSheet bs (Ok load)) (room : most_file_bytes ≤ length out)
+    (found : Checked) (after : List ℕ) (wrote : WriteVersion1 load out found after) where
+  fault : sheet_fault bs ≡ Ok tt
+  fault = ReadSheet-good bs load e
 
-module _ (bs out : List ℕ) (r : Reading) (e : r ≡ read_sheet bs) where
-  is-refused : (refusal : Refusal) → r.answer ≡ Refused refusal
-      → Answer bs out (record { answer = Refused refusal; length = 0 }) out
-  is-refused refusal refused =
-      let fault = sym (fault-is bs r e) ∙ refused in
-      record {
-        writes-out = record {
-          given = refused-given (sheet_fault bs) (load_bytes 1 (load_in_sheet bs)) out refusal fault;
-          length-is = refl;
-        };
-        never-short = sym fault;
-      }
+  plain : check_plain (load_in_sheet bs) ≡ Ok tt
+  plain = read_plain bs (accepted-good bs fault)
 
-  is-written : r.answer ≡ Good → most_file_bytes ≤ length out → (found : Checked) (size : ℕ) (after : List ℕ)
-      → WriteVersion1 r.load out found after → Version1Size r.load size
-      → Answer bs out (record { answer = found; length = size }) after
-  is-written accepted room found size after wrote sized =
-      let fault = sym (fault-is bs r e) ∙ accepted in
-      let good = accepted-good bs fault in
-      let load = load_is bs r e fault in
-      let plain = read_plain bs good in
-      let given = rw (load, plain) at wrote in
+  given : Given (Ok tt) (load_bytes 1 (load_in_sheet bs)) out found after
+  given = rw (ReadSheet-load bs load e, plain) at wrote
+
+  found-good : found ≡ Ok tt
+  found-good =
+      let fits = load_bytes-le 1 (load_in_sheet bs) (accepted-good bs fault) in
+      enough-given (Ok tt) found (load_bytes 1 (load_in_sheet bs)) out after (omega arith) given
+
+  is-written : (size : ℕ) → Version1Size load size → Answer bs out (Ok size) after
+  is-written size sized =
       let file = load_bytes 1 (load_in_sheet bs) in
-      let fits = load_bytes-le 1 (load_in_sheet bs) good in
-      let found-is = enough-given Good found file out after (omega arith) given in
+      let fits = load_bytes-le 1 (load_in_sheet bs) (accepted-good bs fault) in
+      let size-is : size ≡ length file = rw (ReadSheet-load bs load e, plain) at sized in
+      let room-is = le-ltb (length out) (length file) (omega arith) in
       record {
         writes-out = record {
-          given = rw fault given;
-          length-is = rw (load, plain) at sized ∙ sym (if_good-good found (length file) 0 found-is);
+          length-is = rw (fault, room-is) (ap Ok size-is);
+          output-is = rw found-good at given.output-is;
         };
-        never-short = found-is ∙ sym fault;
+        never-short = rw fault;
       }
 
-pub returns-in-Good : goal.returns-in-Good
-returns-in-Good c =
-    is-written _ _ _ c.read_sheet-reading.ensures c.in-Good.is (search rules) _ _ _
-    c.write_version_1.ensures c.version_1_size.ensures
+pub returns-in_err-load : goal.returns-in_err-load
+returns-in_err-load c = is-refused _ _ _ _ c.in_err-load.ensures (passed_on _ _ c.from_residual.ensures.1)
 
-pub returns-in-Refused : goal.returns-in-Refused
-returns-in-Refused c =
-    is-refused _ _ _ c.read_sheet-reading.ensures _ c.in-Refused.is
+pub returns-in_err-write_version_1 : goal.returns-in_err-write_version_1
+returns-in_err-write_version_1 c =
+    let found = found-good _ _ _ c.in_ok-load.ensures c.requires _ _ c.in_err-write_version_1.ensures in cc
+
+pub returns : goal.returns
+returns c =
+    is-written _ _ _ c.in_ok-load.ensures c.requires _ _ c.write_version_1.ensures _ c.version_1_size.ensures

@@ -16,8 +16,7 @@ use Rattle.counting.proofs.sorting.SortLaws.{total_in, Every}
 use Rattle.rules.specs.Plan.{Jobs, finish, in_time_by}
 use Rattle.rules.proofs.plan.PlanLaws.{in_time_by-next, in_time_by-none}
 use Rattle.rules.proofs.plan.EndLaws.{end_by, end_by-none, end_by-next}
-use Rattle.plan.specs.declared.Walked.{Walked}
-use Rattle.plan.specs.inner.Walks.{others_in, stands_before, walked_to, walk_in}
+use Rattle.plan.specs.inner.Walks.{Walk, others_in, stands_before, walked_to, walk_in}
 use Rattle.plan.proofs.refused.WalkLaws.{
   others_in-own,
   others_in-other,
@@ -56,7 +55,7 @@ abbrev pub DueAhead : (ℕ → ℕ) → ℕ → ℕ → ℕ → Type 0
 DueAhead due i own k = (due k ≤ own) × (due k ≡ own → k < i)
 
 -- what a walk over a list came to
-pub record Came (a : Jobs) (i own : ℕ) (l : List ℕ) (place t work : ℕ) (w : Walked) : Type 0 where
+pub record Came (a : Jobs) (i own : ℕ) (l : List ℕ) (place t work : ℕ) (w : Walk) : Type 0 where
   pub gone : ℕ
   pub place_is : w.place ≡ place + gone
   pub ahead : Every (DueAhead a.due i own) (others_in i (take gone l))
@@ -90,7 +89,7 @@ module _ (a : Jobs) (i own : ℕ) where
       }
 
   module _ (k : ℕ) (rest : List ℕ) (place t work : ℕ) where
-    came-own : k ≡ i → (w : Walked) → Came a i own rest (place + 1) t work w
+    came-own : k ≡ i → (w : Walk) → Came a i own rest (place + 1) t work w
         → Came a i own (k ∷ rest) place t work w
     came-own e w came =
         let f = others_in-own i k (take came.gone rest) e in
@@ -123,7 +122,7 @@ module _ (a : Jobs) (i own : ℕ) where
             behind = λ e. absurd (true-false true refl e);
           }
 
-      came-next : finish a t k ≤ a.due k → (w : Walked)
+      came-next : finish a t k ≤ a.due k → (w : Walk)
           → Came a i own rest (place + 1) (finish a t k) (work + a.left k) w
           → Came a i own (k ∷ rest) place t work w
       came-next in-time w came =

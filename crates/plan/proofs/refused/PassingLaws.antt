@@ -9,20 +9,21 @@ use mathlib.Core.Path.{◌≡◌, ap, sym, ◌∙◌}
 use native.Mathlib.Decide.{ℕ_discrete}
 use native.Mathlib.Nat.{zero-add}
 use native.Mathlib.Omega.{arith}
-use lib.ListN.{length, take, set}
-use lib.Seq.{get_or-set_same, get_or-set_other, get_or-take, length-take-le}
+use lib.ListN.{length, set}
+use lib.Seq.{get_or-set_same, get_or-set_other}
 use Rattle.counting.specs.Lists.{member_at, is_marked, keep_in}
 use Rattle.counting.specs.Sorting.{inserted, by_key}
 use Rattle.counting.proofs.sorting.SortLaws.{Every, Every-map, Every-at, at-Every}
 use Rattle.load.specs.Load.{most_rows, last_moment}
-use Rattle.rules.specs.Plan.{Jobs, in_time_by, stack_by}
+use Rattle.rules.specs.Plan.{in_time_by, stack_by}
 use Rattle.rules.proofs.plan.PlanLaws.{SameJob, EasierJob, in_time_by-ext}
 use Rattle.rules.proofs.plan.StackOrder.{stack_by-rows, stack_by-without, stack_by-with}
 use Rattle.rules.proofs.plan.RefusedLaws.{Opens, refused-still}
-use Rattle.plan.specs.Boards.{Board, look_in}
-use Rattle.plan.specs.Choices.{opening_in, open_after, jobs_in, jobs_after, passes_in}
-use Rattle.plan.specs.inner.Passing.{never, StackIn, PassesFrom}
-use Rattle.plan.specs.inner.Walks.{RowsIn, others_in, rows_from}
+use Rattle.plan.specs.declared.Board.{Board}
+use Rattle.plan.specs.Boards.{look_in}
+use Rattle.plan.specs.Choices.{opening_in, open_after, jobs_after, passes_in}
+use Rattle.plan.specs.inner.Passing.{never, jobs_of, PassesFrom}
+use Rattle.plan.specs.inner.Walks.{RowsIn, others_in}
 use Rattle.plan.proofs.refused.WalkLaws.{others_in-own, others_in-other}
 
 -- the lists that a step changes have a place for row i
@@ -42,10 +43,6 @@ others_apart i (k ∷ l) =
       | no ne ↦ rw (others_in-other i k l ne) (ne, others_apart i l)
     ]
 
--- what the plan asks of the rows now
-abbrev pub asked_in : Board → Jobs
-asked_in board = jobs_in board.release board.left board.due
-
 -- the open rows in the stack's order
 abbrev pub stack_of : Board → ℕ → List ℕ
 stack_of board rows = stack_by (is_marked board.opened) (member_at board.due) rows
@@ -58,27 +55,20 @@ others_of board rows i = others_in i (stack_of board rows)
 abbrev pub own_at : Board → ℕ → ℕ → ℕ
 own_at board i t = opening_in board t i + (look_in board i).limit
 
--- the places of an array that hold the stack hold rows
-pub stack_rows : (opened : List Bool) (due : List ℕ) (rows : ℕ) (order : List ℕ) (count : ℕ) → rows ≤ most_rows
-    → length order ≡ most_rows → StackIn opened due rows order count → RowsIn order count
-stack_rows opened due rows order count few long s =
+-- the stack is a list of rows
+pub stack_rows : (board : Board) (rows : ℕ) (stack : List ℕ) → rows ≤ most_rows → length stack ≤ most_rows
+    → stack ≡ stack_of board rows → RowsIn stack
+stack_rows board rows stack few most e =
     record {
-      most = s.most;
-      long = fits;
+      most = most;
       below = λ k l.
-          let e : member_at (stack_by (is_marked opened) (member_at due) rows) k ≡ member_at order k =
-          ap (λ m. member_at m k) (sym s.stack) ∙ get_or-take count order k 0 l in
-          let inside = Every-at (λ m. m < rows) (stack_by (is_marked opened) (member_at due) rows) k 0
-          (stack_by-rows (is_marked opened) (member_at due) rows)
-          (omega (arith, ap length s.stack, length-take-le count order fits)) in
+          let inside = Every-at (λ m. m < rows) stack k 0
+          (rw e (stack_by-rows (is_marked board.opened) (member_at board.due) rows)) l in
           omega arith;
     }
-  where
-    fits : count ≤ length order
-    fits = omega (arith, s.most)
 
 module _ (board : Board) (rows i : ℕ) (below : i < rows) (long : PlaceIn board i) where
-  pub asked-same : (t k : ℕ) → k ≢ i → SameJob (jobs_after board t i) (asked_in board) k
+  pub asked-same : (t k : ℕ) → k ≢ i → SameJob (jobs_after board t i) (jobs_of board) k
   asked-same t k ne =
       record {
         key-same = get_or-set_other board.due i k (own_at board i t) 0 ne;
@@ -108,14 +98,14 @@ module _ (board : Board) (rows i : ℕ) (below : i < rows) (long : PlaceIn board
 
   -- after a step that leaves its row with no open window, the plan is that of the others
   passes-closed : (t : ℕ) → (look_in board i).stays ≡ false
-      → passes_in board t rows i ≡ in_time_by (asked_in board) (t + (look_in board i).cost) (others_of board rows i)
+      → passes_in board t rows i ≡ in_time_by (jobs_of board) (t + (look_in board i).cost) (others_of board rows i)
   unfolding passes_in
   passes-closed t shut =
       ap (in_time_by (jobs_after board t i) (t + (look_in board i).cost))
       (stack_by-without (is_marked board.opened) (is_marked (open_after board i)) (member_at board.due)
       (jobs_after board t i).key rows i (own-mark ∙ shut) marks-same (others_same t))
-      ∙ in_time_by-ext (jobs_after board t i) (asked_in board) (t + (look_in board i).cost) (others_of board rows i)
-      (Every-map (λ k. k ≢ i) (SameJob (jobs_after board t i) (asked_in board)) (others_of board rows i) (asked-same t)
+      ∙ in_time_by-ext (jobs_after board t i) (jobs_of board) (t + (look_in board i).cost) (others_of board rows i)
+      (Every-map (λ k. k ≢ i) (SameJob (jobs_after board t i) (jobs_of board)) (others_of board rows i) (asked-same t)
       (others_apart i (stack_of board rows)))
 
   -- else row i is among them, where it is due then
@@ -140,25 +130,25 @@ module _ (board : Board) (rows i : ℕ) (below : i < rows) (long : PlaceIn board
         record { from = omega arith; passes = λ e. absurd (omega arith); refused = h }
 
     -- a step that leaves its row with no open window
-    closed-from : (b : Bool) → b ≡ in_time_by (asked_in board) (clock + (look_in board i).cost) (others_of board rows i)
+    closed-from : (b : Bool) → b ≡ in_time_by (jobs_of board) (clock + (look_in board i).cost) (others_of board rows i)
         → (look_in board i).stays ≡ false → PassesFrom board clock rows i (cond b clock never)
     closed-from true e shut = passed-now (passes-closed clock shut ∙ sym e)
     closed-from false e shut =
         refused-until never (omega arith)
         (λ t l h.
         passes-closed t shut
-        ∙ refused-still (asked_in board) (asked_in board) clock t (look_in board i).cost (others_of board rows i)
-        (at-Every (EasierJob (asked_in board) (asked_in board)) (others_of board rows i) 0
+        ∙ refused-still (jobs_of board) (jobs_of board) clock t (look_in board i).cost (others_of board rows i)
+        (at-Every (EasierJob (jobs_of board) (jobs_of board)) (others_of board rows i) 0
         (λ n b. record { release-le = omega arith; left_le = omega arith; due-le = omega arith }))
         l (sym e))
 
-    -- the same, of an array that holds the stack
-    pub closed-given : (order : List ℕ) (count : ℕ) (b : Bool) → take count order ≡ stack_of board rows
-        → b ≡ in_time_by (asked_in board) (clock + (look_in board i).cost) (others_in i (rows_from order count 0))
+    -- the same, of a list that is the stack
+    pub closed-given : (stack : List ℕ) (b : Bool) → stack ≡ stack_of board rows
+        → b ≡ in_time_by (jobs_of board) (clock + (look_in board i).cost) (others_in i stack)
         → (look_in board i).stays ≡ false → PassesFrom board clock rows i (cond b clock never)
-    closed-given order count b stack e =
+    closed-given stack b same e =
         closed-from b
-        (e ∙ ap (λ l. in_time_by (asked_in board) (clock + (look_in board i).cost) (others_in i l)) stack)
+        (e ∙ ap (λ l. in_time_by (jobs_of board) (clock + (look_in board i).cost) (others_in i l)) same)
 
     -- a step whose window is open already is due when it was
     own_same : (t : ℕ) → (look_in board i).opened ≡ true → own_at board i t ≡ own_at board i clock
@@ -205,7 +195,7 @@ module _ (board : Board) (rows i : ℕ) (below : i < rows) (long : PlaceIn board
 
   -- a step that opens its row's window
   pub opens_at : (t : ℕ) → (look_in board i).stays ≡ true → (look_in board i).opened ≡ false
-      → Opens (asked_in board) (jobs_after board t i) i t (look_in board i).cost (look_in board i).wait
+      → Opens (jobs_of board) (jobs_after board t i) i t (look_in board i).cost (look_in board i).wait
       (look_in board i).rest (look_in board i).limit (look_in board i).limit
   opens_at t stays shut =
       let own : own_at board i t ≡ t + (look_in board i).limit = rw (stays, shut) in
@@ -219,7 +209,7 @@ module _ (board : Board) (rows i : ℕ) (below : i < rows) (long : PlaceIn board
 
   -- a step after which it is open, as if the plan began with it at 0
   pub opens-from : (t : ℕ)
-      → Opens (asked_in board) (jobs_after board t i) i 0 (t + (look_in board i).cost) (look_in board i).wait
+      → Opens (jobs_of board) (jobs_after board t i) i 0 (t + (look_in board i).cost) (look_in board i).wait
       (look_in board i).rest (own_at board i t) (own_at board i t)
   opens-from t =
       record {

@@ -18,12 +18,13 @@ use Rattle.rules.specs.Plan.{Jobs, in_time_by}
 use Rattle.rules.proofs.plan.PlanLaws.{in_time_by-none}
 use Rattle.rules.proofs.plan.EndLaws.{window_end}
 use Rattle.rules.proofs.plan.RefusedLaws.{FirstBehind}
-use Rattle.plan.specs.declared.Walked.{Walked}
-use Rattle.plan.specs.Boards.{Board, look_in}
+use Rattle.plan.specs.declared.Board.{Board}
+use Rattle.plan.specs.Boards.{look_in}
 use Rattle.plan.specs.Choices.{opening_by}
-use Rattle.plan.specs.inner.Passing.{never, PassesFrom}
-use Rattle.plan.specs.inner.Walks.{others_in, rows_from, walk_in}
-use Rattle.plan.specs.inner.Staying.{moment_before, Stay, stay_of, end_behind, due_behind, stays_until}
+use Rattle.plan.specs.inner.Passing.{never, jobs_of, PassesFrom}
+use Rattle.plan.specs.inner.Walks.{Walk, others_in, walk_in}
+use Rattle.plan.specs.declared.Stay.{Stay}
+use Rattle.plan.specs.inner.Staying.{moment_before, stay_of, end_behind, due_behind, stays_until}
 use Rattle.plan.proofs.refused.WalkLaws.{others_in-none, others_in-other}
 use Rattle.plan.proofs.refused.CameLaws.{Came, StandsFirst, walk-came}
 use Rattle.plan.proofs.refused.StayingLaws.{
@@ -32,7 +33,7 @@ use Rattle.plan.proofs.refused.StayingLaws.{
   stays_until-passes,
   stays_until-behind,
 }
-use Rattle.plan.proofs.refused.PassingLaws.{PlaceIn, asked_in, stack_of, own_at}
+use Rattle.plan.proofs.refused.PassingLaws.{PlaceIn, stack_of, own_at}
 use Rattle.plan.proofs.refused.UntilLaws.{
   held-before,
   held-own,
@@ -59,14 +60,14 @@ stands-behind a i own (k ∷ l) first = rw (others_in-other i k l first.0) first
 
 module _ (board : Board) (rows i : ℕ) (below : i < rows) (long : PlaceIn board i) (clock : ℕ)
     (most : clock ≤ last_moment) (stays : (look_in board i).stays ≡ true) where
-  abbrev walked : Walked
+  abbrev walked : Walk
   walked =
-      walk_in (asked_in board) i (own_at board i clock) (stack_of board rows) 0 (clock + (look_in board i).cost) 0
+      walk_in (jobs_of board) i (own_at board i clock) (stack_of board rows) 0 (clock + (look_in board i).cost) 0
 
-  came : Came (asked_in board) i (own_at board i clock) (stack_of board rows) 0 (clock
+  came : Came (jobs_of board) i (own_at board i clock) (stack_of board rows) 0 (clock
       + (look_in board i).cost) 0 walked
   came =
-      walk-came (asked_in board) i (own_at board i clock) (stack_of board rows) 0 (clock + (look_in board i).cost) 0
+      walk-came (jobs_of board) i (own_at board i clock) (stack_of board rows) 0 (clock + (look_in board i).cost) 0
 
   -- how many rows the walk went over
   abbrev gone : ℕ
@@ -85,7 +86,7 @@ module _ (board : Board) (rows i : ℕ) (below : i < rows) (long : PlaceIn board
 
   abbrev finished : ℕ
   finished =
-      window_end (asked_in board) (clock + (look_in board i).cost) pre (look_in board i).wait (look_in board i).rest
+      window_end (jobs_of board) (clock + (look_in board i).cost) pre (look_in board i).wait (look_in board i).rest
 
   -- a row that stands before is late
   late-from : walked.late ≡ true → (o : Bool) → (look_in board i).opened ≡ o → PassesFrom board clock rows i never
@@ -100,8 +101,8 @@ module _ (board : Board) (rows i : ℕ) (below : i < rows) (long : PlaceIn board
         ap (λ t. max t (clock + (look_in board i).cost + (look_in board i).wait) + (look_in board i).rest)
         (came.time-is e)
 
-    behind : FirstBehind (asked_in board) i (own_at board i clock) (others_in i (drop gone (stack_of board rows)))
-    behind = stands-behind (asked_in board) i (own_at board i clock) (drop gone (stack_of board rows)) (came.behind e)
+    behind : FirstBehind (jobs_of board) i (own_at board i clock) (others_in i (drop gone (stack_of board rows)))
+    behind = stands-behind (jobs_of board) i (own_at board i clock) (drop gone (stack_of board rows)) (came.behind e)
 
     -- its own window is late
     own-from : own_at board i clock < end → (o : Bool) → (look_in board i).opened ≡ o → (c : Bool)
@@ -122,7 +123,7 @@ module _ (board : Board) (rows i : ℕ) (below : i < rows) (long : PlaceIn board
 
     -- all are in time
     passes-from : end ≤ own_at board i clock
-        → in_time_by (asked_in board) end (others_in i (drop walked.place (stack_of board rows))) ≡ true
+        → in_time_by (jobs_of board) end (others_in i (drop walked.place (stack_of board rows))) ≡ true
         → PassesFrom board clock rows i clock
     passes-from own h =
         all_pass board rows i below long clock most stays gone came.ahead behind (came.in-time ∙ ap not e)
@@ -131,19 +132,19 @@ module _ (board : Board) (rows i : ℕ) (below : i < rows) (long : PlaceIn board
     -- a row behind is late: the first of those stands first in what is left of the stack
     first-from : (d : List ℕ) → drop gone (stack_of board rows) ≡ d
         → StandsFirst (member_at board.due) i (own_at board i clock) d
-        → in_time_by (asked_in board) finished (others_in i d) ≡ false → (look_in board i).opened ≡ false
+        → in_time_by (jobs_of board) finished (others_in i d) ≡ false → (look_in board i).opened ≡ false
         → PassesFrom board clock rows i
         (moment_before (due_behind i (member_at d 0) (member_at board.due (member_at d 0))) (look_in board i).limit)
     first-from [] is first late shut =
         absurd
-        (true-false (in_time_by (asked_in board) finished (others_in i []))
-        (ap (in_time_by (asked_in board) finished) (others_in-none i) ∙ in_time_by-none (asked_in board) finished) late)
+        (true-false (in_time_by (jobs_of board) finished (others_in i []))
+        (ap (in_time_by (jobs_of board) finished) (others_in-none i) ∙ in_time_by-none (jobs_of board) finished) late)
     first-from (b ∷ more) is first late shut =
         shut-behind board rows i below long clock most stays gone came.ahead shut b (others_in i more)
         (ap (others_in i) is ∙ others_in-other i b more first.0) first.0 first.1.0 first.1.1
-        (ap (λ d. in_time_by (asked_in board) finished (others_in i d)) is ∙ late)
+        (ap (λ d. in_time_by (jobs_of board) finished (others_in i d)) is ∙ late)
 
-    behind-from : in_time_by (asked_in board) end (others_in i (drop walked.place (stack_of board rows))) ≡ false
+    behind-from : in_time_by (jobs_of board) end (others_in i (drop walked.place (stack_of board rows))) ≡ false
         → (o : Bool) → (look_in board i).opened ≡ o
         → PassesFrom board clock rows i
         (cond o never
@@ -161,72 +162,60 @@ module _ (board : Board) (rows i : ℕ) (below : i < rows) (long : PlaceIn board
         (first-from (drop gone (stack_of board rows)) refl (came.behind e) (rw (end_is, place_is) at h) shut)
 
   pub staying-from : PassesFrom board clock rows i
-      (stays_until (asked_in board) (stack_of board rows) i (stay_in board i clock))
+      (stays_until (jobs_of board) (stack_of board rows) i (stay_in board i clock))
   staying-from = go walked.late refl
     where
       last : (e : walked.late ≡ false) → end ≤ own_at board i clock → (b : Bool)
-          → in_time_by (asked_in board) end (others_in i (drop walked.place (stack_of board rows))) ≡ b
+          → in_time_by (jobs_of board) end (others_in i (drop walked.place (stack_of board rows))) ≡ b
           → PassesFrom board clock rows i
-          (stays_until (asked_in board) (stack_of board rows) i (stay_in board i clock))
+          (stays_until (jobs_of board) (stack_of board rows) i (stay_in board i clock))
       last e own true h =
-          rw (stays_until-passes (asked_in board) (stack_of board rows) i (stay_in board i clock) walked refl e end refl
+          rw (stays_until-passes (jobs_of board) (stack_of board rows) i (stay_in board i clock) walked refl e end refl
           own h)
           (passes-from e own h)
       last e own false h =
-          rw (stays_until-behind (asked_in board) (stack_of board rows) i (stay_in board i clock) walked refl e end refl
+          rw (stays_until-behind (jobs_of board) (stack_of board rows) i (stay_in board i clock) walked refl e end refl
           own h)
           (behind-from e h (look_in board i).opened refl)
 
       go : (late : Bool) → walked.late ≡ late
           → PassesFrom board clock rows i
-          (stays_until (asked_in board) (stack_of board rows) i (stay_in board i clock))
+          (stays_until (jobs_of board) (stack_of board rows) i (stay_in board i clock))
       go true e =
-          rw (stays_until-late (asked_in board) (stack_of board rows) i (stay_in board i clock) walked refl e)
+          rw (stays_until-late (jobs_of board) (stack_of board rows) i (stay_in board i clock) walked refl e)
           (late-from e (look_in board i).opened refl)
       go false e =
           elim (dec_lt (own_at board i clock) end) [
             | yes h ↦
-                rw (stays_until-own (asked_in board) (stack_of board rows) i
+                rw (stays_until-own (jobs_of board) (stack_of board rows) i
                 (stay_in board i clock) walked refl e end refl
                 h)
                 (own-from e h (look_in board i).opened refl
                 (ltb (look_in board i).limit ((look_in board i).cost + (look_in board i).rest + walked.work)) refl)
             | no h ↦
                 last e (omega arith)
-                (in_time_by (asked_in board) end (others_in i (drop walked.place (stack_of board rows)))) refl
+                (in_time_by (jobs_of board) end (others_in i (drop walked.place (stack_of board rows)))) refl
           ]
 
-  -- the same, of an array that holds the stack
-  staying-given : (order : List ℕ) (count own r : ℕ) → take count order ≡ stack_of board rows
+  -- the same, of a list that is the stack
+  pub staying-given : (list : List ℕ) (own r : ℕ) → list ≡ stack_of board rows
       → own ≡ opening_by true (look_in board i).opened (look_in board i).opening clock + (look_in board i).limit
       → r
-      ≡ stays_until (asked_in board) (rows_from order count 0) i
+      ≡ stays_until (jobs_of board) list i
       (stay_of (look_in board i).opened clock (look_in board i).cost (look_in board i).wait (look_in board i).rest
       (look_in board i).limit own)
       → PassesFrom board clock rows i r
-  staying-given order count own r stack own_is e =
+  staying-given list own r stack own_is e =
       let then : own ≡ own_at board i clock = own_is ∙ rw stays in
       subst (PassesFrom board clock rows i)
       (sym
       (e
       ∙ ap
-      (λ l. stays_until (asked_in board) l i
+      (λ l. stays_until (jobs_of board) l i
       (stay_of (look_in board i).opened clock (look_in board i).cost (look_in board i).wait (look_in board i).rest
       (look_in board i).limit own)) stack
       ∙ ap
-      (λ n. stays_until (asked_in board) (stack_of board rows) i
+      (λ n. stays_until (jobs_of board) (stack_of board rows) i
       (stay_of (look_in board i).opened clock (look_in board i).cost (look_in board i).wait (look_in board i).rest
       (look_in board i).limit n)) then))
       staying-from
-
-  -- the same, of what was read of the row
-  pub staying-read : (order : List ℕ) (count own r : ℕ) (opened : Bool) (opening cost wait rest limit : ℕ)
-      → take count order ≡ stack_of board rows → opened ≡ (look_in board i).opened → opening ≡ (look_in board i).opening
-      → cost ≡ (look_in board i).cost → wait ≡ (look_in board i).wait → rest ≡ (look_in board i).rest
-      → limit ≡ (look_in board i).limit → own ≡ opening_by true opened opening clock + limit
-      → r ≡ stays_until (asked_in board) (rows_from order count 0) i (stay_of opened clock cost wait rest limit own)
-      → PassesFrom board clock rows i r
-  staying-read order count own r opened opening cost wait rest limit stack is-opened is-opening is-cost is-wait is-rest
-      is-limit own_is e =
-      staying-given order count own r stack (own_is ∙ rw (is-opened, is-opening, is-limit))
-      (e ∙ rw (is-opened, is-cost, is-wait, is-rest, is-limit))

@@ -7,12 +7,12 @@ use borrow.Author.Tests.{lt-ltb, le-ltb}
 use lib.ListN.{drop}
 use Rattle.counting.specs.Lists.{member_at}
 use Rattle.rules.specs.Plan.{Jobs, in_time_by}
-use Rattle.plan.specs.declared.Walked.{Walked}
-use Rattle.plan.specs.inner.Walks.{others_in, walk_in}
+use Rattle.plan.specs.inner.Walks.{Walk, others_in, walk_in}
 use Rattle.plan.specs.inner.Passing.{never}
-use Rattle.plan.specs.inner.Staying.{Stay, end_behind, own_until, behind_until, until_by, stays_until}
+use Rattle.plan.specs.declared.Stay.{Stay}
+use Rattle.plan.specs.inner.Staying.{end_behind, own_until, behind_until, until_by, stays_until}
 
-module _ (a : Jobs) (rows : List ℕ) (i : ℕ) (stay : Stay) (w : Walked)
+module _ (a : Jobs) (rows : List ℕ) (i : ℕ) (stay : Stay) (w : Walk)
     (is : w ≡ walk_in a i stay.own rows 0 (stay.clock + stay.cost) 0) where
   stays_until-by : stays_until a rows i stay ≡ until_by a rows i stay w
   unfolding stays_until

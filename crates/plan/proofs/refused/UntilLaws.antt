@@ -27,15 +27,15 @@ use Rattle.rules.proofs.plan.RefusedLaws.{
   refused-own,
   refused-behind,
 }
-use Rattle.plan.specs.Boards.{Board, look_in}
+use Rattle.plan.specs.declared.Board.{Board}
+use Rattle.plan.specs.Boards.{look_in}
 use Rattle.plan.specs.Choices.{jobs_after, passes_in}
-use Rattle.plan.specs.inner.Passing.{never, PassesFrom}
+use Rattle.plan.specs.inner.Passing.{never, jobs_of, PassesFrom}
 use Rattle.plan.specs.inner.Walks.{others_in}
 use Rattle.plan.specs.inner.Staying.{moment_before, due_behind}
 use Rattle.plan.proofs.refused.PassingLaws.{
   PlaceIn,
   others_apart,
-  asked_in,
   stack_of,
   others_of,
   own_at,
@@ -70,7 +70,7 @@ module _ (board : Board) (rows i : ℕ) (below : i < rows) (long : PlaceIn board
 
   -- when row i's window is finished
   abbrev end : ℕ
-  end = window_end (asked_in board) (clock + cost) pre wait rest
+  end = window_end (jobs_of board) (clock + cost) pre wait rest
 
   split : others_of board rows i ≡ pre ++ post
   split =
@@ -95,17 +95,17 @@ module _ (board : Board) (rows i : ℕ) (below : i < rows) (long : PlaceIn board
       ≡ passes_in board clock rows i
   from_zero = rw (zero-add (clock + cost)) (sym (passes-split clock))
 
-  module _ (ahead : Every (Ahead (asked_in board) i (own_at board i clock)) pre) where
-    ahead-zero : Every (Ahead (asked_in board) i (0 + own_at board i clock)) pre
+  module _ (ahead : Every (Ahead (jobs_of board) i (own_at board i clock)) pre) where
+    ahead-zero : Every (Ahead (jobs_of board) i (0 + own_at board i clock)) pre
     ahead-zero = rw (zero-add (own_at board i clock)) ahead
 
     -- its window is open already
     module _ (held : (look_in board i).opened ≡ true) where
-      pub held-before : in_time_by (asked_in board) (clock + cost) pre ≡ false → PassesFrom board clock rows i never
+      pub held-before : in_time_by (jobs_of board) (clock + cost) pre ≡ false → PassesFrom board clock rows i never
       held-before late =
           held-refused board rows i below long clock most stays held
           (sym from_zero
-          ∙ refused-before (asked_in board) (jobs_after board clock i) i 0 0 (clock + cost) wait rest
+          ∙ refused-before (jobs_of board) (jobs_after board clock i) i 0 0 (clock + cost) wait rest
           (own_at board i clock) (own_at board i clock) (opens-from board rows i below long clock)
           (omega arith) pre post
           apart ahead-zero (rw (zero-add (clock + cost)) late))
@@ -114,30 +114,30 @@ module _ (board : Board) (rows i : ℕ) (below : i < rows) (long : PlaceIn board
       held-own late =
           held-refused board rows i below long clock most stays held
           (sym from_zero
-          ∙ refused-own (asked_in board) (jobs_after board clock i) i 0 0 (clock + cost) wait rest
+          ∙ refused-own (jobs_of board) (jobs_after board clock i) i 0 0 (clock + cost) wait rest
           (own_at board i clock) (own_at board i clock) (opens-from board rows i below long clock)
           (omega arith) pre post
           apart ahead-zero (rw (zero-add (clock + cost), zero-add (own_at board i clock)) late))
 
-      pub held-behind : FirstBehind (asked_in board) i (own_at board i clock) post
-          → in_time_by (asked_in board) end post ≡ false → PassesFrom board clock rows i never
+      pub held-behind : FirstBehind (jobs_of board) i (own_at board i clock) post
+          → in_time_by (jobs_of board) end post ≡ false → PassesFrom board clock rows i never
       held-behind first late =
           held-refused board rows i below long clock most stays held
           (sym from_zero
-          ∙ refused-behind (asked_in board) (jobs_after board clock i) i 0 0 (clock + cost) wait rest
+          ∙ refused-behind (jobs_of board) (jobs_after board clock i) i 0 0 (clock + cost) wait rest
           (own_at board i clock) (own_at board i clock) (opens-from board rows i below long clock)
           (omega arith) pre post
           apart ahead-zero apart-behind (rw (zero-add (own_at board i clock)) first)
           (rw (zero-add (clock + cost)) late))
 
     -- all are in time
-    pub all_pass : FirstBehind (asked_in board) i (own_at board i clock) post
-        → in_time_by (asked_in board) (clock + cost) pre ≡ true → end ≤ own_at board i clock
-        → in_time_by (asked_in board) end post ≡ true → PassesFrom board clock rows i clock
+    pub all_pass : FirstBehind (jobs_of board) i (own_at board i clock) post
+        → in_time_by (jobs_of board) (clock + cost) pre ≡ true → end ≤ own_at board i clock
+        → in_time_by (jobs_of board) end post ≡ true → PassesFrom board clock rows i clock
     all_pass first before own behind =
         passed-now board rows i below long clock most
         (sym from_zero
-        ∙ opens-passes (asked_in board) (jobs_after board clock i) i 0 (clock + cost) wait rest
+        ∙ opens-passes (jobs_of board) (jobs_after board clock i) i 0 (clock + cost) wait rest
         (own_at board i clock) (own_at board i clock) (opens-from board rows i below long clock) pre post
         apart ahead-zero apart-behind (rw (zero-add (own_at board i clock)) first)
         ∙ rw (zero-add (clock + cost), zero-add (own_at board i clock), before, le-leb end (own_at board i clock) own)
@@ -148,15 +148,15 @@ module _ (board : Board) (rows i : ℕ) (below : i < rows) (long : PlaceIn board
       own_is : own_at board i clock ≡ clock + limit
       own_is = rw (stays, shut)
 
-      ahead-then : Every (Ahead (asked_in board) i (clock + limit)) pre
+      ahead-then : Every (Ahead (jobs_of board) i (clock + limit)) pre
       ahead-then = rw (← own_is) ahead
 
-      pub shut-before : in_time_by (asked_in board) (clock + cost) pre ≡ false → PassesFrom board clock rows i never
+      pub shut-before : in_time_by (jobs_of board) (clock + cost) pre ≡ false → PassesFrom board clock rows i never
       shut-before late =
           refused-until board rows i below long clock most never (omega arith)
           (λ t l h.
           passes-split t
-          ∙ refused-before (asked_in board) (jobs_after board t i) i clock t cost wait rest limit limit
+          ∙ refused-before (jobs_of board) (jobs_after board t i) i clock t cost wait rest limit limit
           (opens_at board rows i below long t stays shut) l pre post apart ahead-then late)
 
       pub shut-crowded : limit < cost + rest + total_in (member_at board.left) pre
@@ -165,7 +165,7 @@ module _ (board : Board) (rows i : ℕ) (below : i < rows) (long : PlaceIn board
           refused-until board rows i below long clock most never (omega arith)
           (λ t l h.
           passes-split t
-          ∙ refused-crowded (asked_in board) (jobs_after board t i) i clock t cost wait rest limit limit
+          ∙ refused-crowded (jobs_of board) (jobs_after board t i) i clock t cost wait rest limit limit
           (opens_at board rows i below long t stays shut) l pre post apart ahead-then late)
 
       pub shut-own : own_at board i clock < end → PassesFrom board clock rows i (moment_before end limit)
@@ -173,18 +173,18 @@ module _ (board : Board) (rows i : ℕ) (below : i < rows) (long : PlaceIn board
           refused-until board rows i below long clock most (moment_before end limit) (omega (arith, own_is))
           (λ t l h.
           passes-split t
-          ∙ refused-own (asked_in board) (jobs_after board t i) i clock t cost wait rest limit limit
+          ∙ refused-own (jobs_of board) (jobs_after board t i) i clock t cost wait rest limit limit
           (opens_at board rows i below long t stays shut) l pre post apart ahead-then (omega (arith, h)))
 
       pub shut-behind : (b : ℕ) (more : List ℕ) → post ≡ b ∷ more → b ≢ i
           → own_at board i clock ≤ member_at board.due b
-          → (own_at board i clock ≡ member_at board.due b → i ≤ b) → in_time_by (asked_in board) end post ≡ false
+          → (own_at board i clock ≡ member_at board.due b → i ≤ b) → in_time_by (jobs_of board) end post ≡ false
           → PassesFrom board clock rows i (moment_before (due_behind i b (member_at board.due b)) limit)
       shut-behind b more is ne keys ties late =
           refused-until board rows i below long clock most until later
           (λ t l h.
           passes-split t
-          ∙ refused-behind (asked_in board) (jobs_after board t i) i clock t cost wait rest limit limit
+          ∙ refused-behind (jobs_of board) (jobs_after board t i) i clock t cost wait rest limit limit
           (opens_at board rows i below long t stays shut) l pre post apart ahead-then apart-behind
           (rw is (still t h)) late)
         where
@@ -204,7 +204,7 @@ module _ (board : Board) (rows i : ℕ) (below : i < rows) (long : PlaceIn board
                     omega (arith, own_is, apart_of, due-then false (le-ltb i b (omega arith)))
               ]
 
-          still : (t : ℕ) → t < until → FirstBehind (asked_in board) i (t + limit) (b ∷ more)
+          still : (t : ℕ) → t < until → FirstBehind (jobs_of board) i (t + limit) (b ∷ more)
           still t h =
               elim (dec_lt i b) [
                 | yes l ↦ let e = due-then true (lt-ltb i b l) in (omega arith, λ q. omega arith)

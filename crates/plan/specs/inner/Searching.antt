@@ -1,13 +1,14 @@
 -- The search for the next start: the lowest unfinished step, the step numbers that are tried, and
 -- until when each row is known to be refused. To be read after Passing.
 use Rattle.std.specs.Prelude.{ℕ, ◌+◌, min, ◌≤◌, ◌<◌, Bool, true, false, ◌&&◌, ◌||◌, List, ◌≡◌, eqb}
-use Rattle.std.specs.Prelude.{leb, ltb, length}
+use Rattle.std.specs.Prelude.{leb, ltb, length, Option, MatchOption}
 use Rattle.counting.specs.Sums.{all_to}
 use Rattle.counting.specs.Lists.{member_at, is_marked}
 use Rattle.load.specs.Load.{most_rows, most_steps, last_moment}
-use Rattle.plan.specs.Boards.{Board, look_in}
+use Rattle.plan.specs.declared.Board.{Board}
+use Rattle.plan.specs.Boards.{look_in}
 use Rattle.plan.specs.Choices.{candidate_in, passes_in}
-use Rattle.plan.specs.inner.Passing.{StackIn}
+use Rattle.plan.specs.Calls.{ChosenRow}
 
 -- row k has finished all its steps below place j
 abbrev pub below_by : List ℕ → List ℕ → ℕ → ℕ → Bool
@@ -70,12 +71,8 @@ pub record PassesFirst (board : Board) (from before rows i r : ℕ) : Type 0 whe
   pub refused : (t : ℕ) → from ≤ t → t < r → t + (look_in board i).cost ≤ last_moment
       → passes_in board t rows i ≡ false
 
--- what the search counts on: at most 24 rows, a moment by 1,000,000, the lowest unfinished step,
--- the stack's order, and what is known of refused rows
-pub record SearchFits (board : Board) (order : List ℕ) (count lowest clock rows : ℕ)
-    (until : List ℕ) : Type 0 where
-  pub rows-most : rows ≤ most_rows
-  pub clock-most : clock ≤ last_moment
-  pub lowest-is : LowestStep board.finished board.steps rows lowest
-  pub stack : StackIn board.opened board.due rows order count
-  pub known : RefusedTo board clock rows until
+-- r is the row of the first candidate that passes, where one does
+abbrev pub FirstRow : Board → List ℕ → ℕ → ℕ → Option ℕ → Type 0
+FirstRow board classes clock rows r =
+    MatchOption r (ChosenRow board classes clock rows rows)
+    (λ row. (row < rows) × ChosenRow board classes clock rows row)

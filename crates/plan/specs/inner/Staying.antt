@@ -3,26 +3,15 @@
 use Rattle.std.specs.Prelude.{ℕ, ◌+◌, ◌-◌, max, min, Bool, cond, ◌||◌, List, ltb, drop}
 use Rattle.counting.specs.Lists.{member_at}
 use Rattle.rules.specs.Plan.{Jobs, in_time_by}
-use Rattle.plan.specs.declared.Walked.{Walked}
+use Rattle.plan.specs.declared.Stay.{Stay}
 use Rattle.plan.specs.inner.Passing.{never}
-use Rattle.plan.specs.inner.Walks.{others_in, walk_in}
+use Rattle.plan.specs.inner.Walks.{Walk, others_in, walk_in}
 
 -- the moment that is so long before another, at most that past all others
 abbrev pub moment_before : ℕ → ℕ → ℕ
 moment_before end long = min (end - long) never
 
--- a step after which the row's window is open: whether it is already, when the step starts, what it
--- costs, the wait after it, what is left of the window then, its limit, and when it is due
-pub record Stay : Type 0 where
-  pub opened : Bool
-  pub clock : ℕ
-  pub cost : ℕ
-  pub wait : ℕ
-  pub rest : ℕ
-  pub limit : ℕ
-  pub own : ℕ
-
--- such a step
+-- a step after which the row's window is open
 abbrev pub stay_of : Bool → ℕ → ℕ → ℕ → ℕ → ℕ → ℕ → Stay
 stay_of opened clock cost wait rest limit own =
     record {
@@ -36,11 +25,11 @@ stay_of opened clock cost wait rest limit own =
     }
 
 -- when the row's window is finished, behind the rows of a walk
-abbrev pub end_behind : Stay → Walked → ℕ
+abbrev pub end_behind : Stay → Walk → ℕ
 end_behind stay w = max w.time (stay.clock + stay.cost + stay.wait) + stay.rest
 
 -- until when the step stays refused where its own window is late
-abbrev pub own_until : Stay → Walked → ℕ
+abbrev pub own_until : Stay → Walk → ℕ
 own_until stay w =
     cond (stay.opened || ltb stay.limit (stay.cost + stay.rest + w.work)) never
     (moment_before (end_behind stay w) stay.limit)
@@ -55,7 +44,7 @@ behind_until i stay b due =
     cond stay.opened never (moment_before (due_behind i b due) stay.limit)
 
 -- until when it stays refused, and the clock where it passes, by what the walk came to
-abbrev pub until_by : Jobs → List ℕ → ℕ → Stay → Walked → ℕ
+abbrev pub until_by : Jobs → List ℕ → ℕ → Stay → Walk → ℕ
 until_by jobs rows i stay w =
     cond w.late never
     (cond (ltb stay.own (end_behind stay w)) (own_until stay w)

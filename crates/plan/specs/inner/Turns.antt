@@ -5,7 +5,8 @@ use Rattle.std.specs.Prelude.{ℕ, ◌+◌, ◌≤◌, ◌<◌, true, false, Lis
 use Rattle.counting.specs.Searches.{at}
 use Rattle.load.specs.Load.{most_rows, last_moment}
 use Rattle.plan.specs.declared.Swept.{Swept}
-use Rattle.plan.specs.Boards.{Board, look_in}
+use Rattle.plan.specs.declared.Board.{Board}
+use Rattle.plan.specs.Boards.{look_in}
 use Rattle.plan.specs.Choices.{candidate_in, passes_in, turn_in, chosen_in}
 
 -- no row has a turn before the first

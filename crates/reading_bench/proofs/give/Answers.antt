@@ -1,31 +1,23 @@
--- `give` tells 9 where the room is below the answer's length; else what was written over the front is the answer with
--- the rest of the output behind it.
-use Prim.Native.Nat.{◌≤◌}
-use mathlib.Core.Path.{refl, ◌∙◌}
-use lib.ListN.{length}
+-- `give` writes an answer over the front, where there is room for it: what stands behind it stays.
+use Rattle.std.proofs.Common.{◌≡◌, ◌≤◌, ◌∙◌, arith, length, refl, rules, subst, sym}
+use Rattle.std.specs.Prelude.{Ok}
 use Rattle.words.proofs.OverwriteLaws.{sets-front}
-use Rattle.refusals.specs.declared.Refusal.TheVariants.{OutputShort}
-use Rattle.refusals.specs.declared.Checked.TheVariants.{Good, Refused}
-use Rattle.refusals.proofs.GivenLaws.{short-given, written-given}
+use Rattle.refusals.specs.Given.{given}
+use Rattle.refusals.proofs.GivenLaws.{given-good, given-is, written-given}
+use Rattle.reading_bench.specs.Calls.{Numbered}
 use Rattle.reading_bench.proofs.give.Goals as goal
 
-pub returns-then-out-answer : goal.returns-then-out-answer
-returns-then-out-answer c =
-    let start = c.args in
-    record {
-      found = Refused OutputShort;
-      given = short-given Good start.answer.now start.out.now refl c.if-out-answer.true;
-      number_is = c.number_of.ensures;
-    }
-
-pub returns : goal.returns
-returns c =
-    let start = c.args in
-    let room : length start.answer.now ≤ length start.out.now = c.if-out-answer.false in
-    record {
-      found = Good;
+pub returns-in-Ok-2 : goal.returns-in-Ok-2
+returns-in-Ok-2 g c finding bytes e =
+    let answer = c.in-Ok-2.bytes in
+    let told : Ok answer ≡ given finding bytes = sym c.in-Ok-2.is ∙ e in
+    let long : length answer ≡ g.row.SIZE = search rules in
+    let room : length answer ≤ length c.args.out.now = omega (arith, c.if-out.false, long) in
+    subst (λ bs. Numbered finding bs c.args.out.now 0 c.overwrite.new.out) (given-is finding bytes answer told)
+    (record {
+      found = Ok tt;
       given =
-          written-given Good start.answer.now start.out.now _ refl room
-          (c.overwrite.ensures ∙ sets-front start.out.now start.answer.now room);
+          written-given finding answer c.args.out.now _ (given-good finding bytes answer told) room
+          (c.overwrite.ensures ∙ sets-front c.args.out.now answer room);
       number_is = refl;
-    }
+    })

@@ -9,8 +9,8 @@ use native.Mathlib.Omega.{arith}
 use lib.Dec.{eqb, ltb}
 use lib.ListN.{length}
 use Rattle.refusals.specs.declared.Refusal.TheVariants.{NoSuchSlot, SlotOverlaps, SlotEarly, WindowLate, RowLate}
-use Rattle.refusals.specs.declared.Checked.{Checked}
-use Rattle.refusals.specs.declared.Checked.TheVariants.{Good, Refused}
+use Rattle.refusals.specs.Checked.{Checked}
+use Rattle.std.specs.Prelude.{Ok, Err}
 use Rattle.refusals.specs.Refusals.{number_of}
 use Rattle.load.specs.Load.{last_moment}
 use Rattle.load.specs.View.{View}
@@ -82,9 +82,9 @@ numbered-range seventeen = (omega arith, omega arith)
 -- the tests of a slot, those of 13 as one
 five : (a b c d e : Bool) → Checked
 five a b c d e =
-    cond a (Refused NoSuchSlot)
-    (cond b (Refused SlotOverlaps)
-    (cond c (Refused SlotEarly) (cond d (Refused WindowLate) (cond e (Refused RowLate) Good))))
+    cond a (Err NoSuchSlot)
+    (cond b (Err SlotOverlaps)
+    (cond c (Err SlotEarly) (cond d (Err WindowLate) (cond e (Err RowLate) (Ok tt)))))
 
 module _ (L : View) (ok : Acceptable L) (slots : List Slot) where
   slot_fault-five : (k : ℕ) → slot_fault L slots k
@@ -97,8 +97,8 @@ module _ (L : View) (ok : Acceptable L) (slots : List Slot) where
       x = slot_at slots k
 
       go : (p q r : Bool) (rest : Checked)
-          → cond p (Refused NoSuchSlot) (cond q (Refused NoSuchSlot) (cond r (Refused NoSuchSlot) rest))
-          ≡ cond (p || q || r) (Refused NoSuchSlot) rest
+          → cond p (Err NoSuchSlot) (cond q (Err NoSuchSlot) (cond r (Err NoSuchSlot) rest))
+          ≡ cond (p || q || r) (Err NoSuchSlot) rest
       go true q r rest = refl
       go false true r rest = refl
       go false false true rest = refl
@@ -122,8 +122,8 @@ module _ (L : View) (ok : Acceptable L) (slots : List Slot) where
 
   -- the two ways in which the tests of a slot end
   pub data Way (k : ℕ) : Type 0 where
-    fine : slot_fault L slots k ≡ Good → ((rule : Rule) → ¬ Breaks rule L slots k) → Way k
-    broken : (rule : Rule) → slot_fault L slots k ≡ Refused (refusal_for rule) → Breaks rule L slots k
+    fine : slot_fault L slots k ≡ Ok tt → ((rule : Rule) → ¬ Breaks rule L slots k) → Way k
+    broken : (rule : Rule) → slot_fault L slots k ≡ Err (refusal_for rule) → Breaks rule L slots k
         → KeepsBelow (numbered rule) k → Way k
 
   pub way : (k : ℕ) → k < length slots → NextTo slots k → Way k

@@ -9,7 +9,7 @@ use lib.Dec.{eqb}
 use lib.ListN.{length}
 use borrow.Author.Tests.{eqb-true, eqb-false, ne_eqb}
 use Rattle.refusals.specs.declared.Refusal.TheVariants.{SlotCount}
-use Rattle.refusals.specs.declared.Checked.TheVariants.{Refused}
+use Rattle.std.specs.Prelude.{Err}
 use Rattle.refusals.specs.Refusals.{number_given}
 use Rattle.load.specs.View.{View, steps_in_all}
 use Rattle.load.specs.Acceptable.{Acceptable}
@@ -21,20 +21,20 @@ use Rattle.rules.proofs.check.BrokenSlot.{numbered-range}
 use Rattle.rules.proofs.check.FirstBroken.{first-given, found_number}
 
 module _ (L : View) (ok : Acceptable L) (slots : List Slot) where
-  miscounted : length slots ≢ steps_in_all L → check_slots L slots ≡ Refused SlotCount
+  miscounted : length slots ≢ steps_in_all L → check_slots L slots ≡ Err SlotCount
   unfolding check_slots
   miscounted ne = rw (ne_eqb (length slots) (steps_in_all L) ne)
 
-  pub count-given : (check_slots L slots ≡ Refused SlotCount) ↔ (length slots ≢ steps_in_all L)
+  pub count-given : (check_slots L slots ≡ Err SlotCount) ↔ (length slots ≢ steps_in_all L)
   count-given = (
     λ e same. found_number L ok slots (ap number_given (sym (check_slots-counted L slots same) ∙ e)),
     miscounted,
   )
 
-  pub rule-given : (rule : Rule) → (check_slots L slots ≡ Refused (refusal_for rule)) ↔ CountedFirst L slots rule
+  pub rule-given : (rule : Rule) → (check_slots L slots ≡ Err (refusal_for rule)) ↔ CountedFirst L slots rule
   rule-given rule = (to, λ c. check_slots-counted L slots c.as_many ∙ (first-given L ok slots rule).1 c.first)
     where
-      to : check_slots L slots ≡ Refused (refusal_for rule) → CountedFirst L slots rule
+      to : check_slots L slots ≡ Err (refusal_for rule) → CountedFirst L slots rule
       to e = go (eqb (length slots) (steps_in_all L)) refl
         where
           go : (b : Bool) → eqb (length slots) (steps_in_all L) ≡ b → CountedFirst L slots rule

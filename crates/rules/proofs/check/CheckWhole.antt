@@ -13,8 +13,8 @@ use Rattle.counting.specs.Lists.{any_in}
 use Rattle.counting.proofs.tests.TestLaws.{or-neither}
 use Rattle.counting.proofs.lists.MemberLaws.{any_in-false}
 use Rattle.refusals.specs.declared.Refusal.TheVariants.{SlotCount}
-use Rattle.refusals.specs.declared.Checked.{Checked}
-use Rattle.refusals.specs.declared.Checked.TheVariants.{Good}
+use Rattle.refusals.specs.Checked.{Checked}
+use Rattle.std.specs.Prelude.{Ok}
 use Rattle.refusals.specs.FirstMet.{first_met, first_fault_to}
 use Rattle.refusals.proofs.FirstMetLaws.{first_fault_to-good}
 use Rattle.refusals.proofs.FirstFaultLaws.{first_met-good, first_fault-good}
@@ -54,7 +54,7 @@ record Unmet (L : View) (slots : List Slot) (k : ℕ) (x : Slot) : Type 0 where
   window : ends_window_late L slots x ≡ false
   row : ends_row_late L x ≡ false
 
-slot-unmet : (L : View) (slots : List Slot) (k : ℕ) (x : Slot) → first_met (slot_tests L slots k x) ≡ Good
+slot-unmet : (L : View) (slots : List Slot) (k : ℕ) (x : Slot) → first_met (slot_tests L slots k x) ≡ Ok tt
     → Unmet L slots k x
 unfolding slot_tests
 slot-unmet L slots k x e =
@@ -68,7 +68,7 @@ counted L slots = first_met ((not (eqb (length slots) (steps_in_all L)), SlotCou
 abbrev slot_by_slot : View → List Slot → Checked
 slot_by_slot L slots = first_fault_to (slot_fault L slots) (length slots)
 
-count-met : (L : View) (slots : List Slot) → check_slots L slots ≡ Good → length slots ≡ steps_in_all L
+count-met : (L : View) (slots : List Slot) → check_slots L slots ≡ Ok tt → length slots ≡ steps_in_all L
 unfolding check_slots
 count-met L slots e =
     let c = first_fault-good (counted L slots ∷ slot_by_slot L slots ∷ []) e 0 in
@@ -76,7 +76,7 @@ count-met L slots e =
     (not-false (eqb (length slots) (steps_in_all L))
     (first_met-good ((not (eqb (length slots) (steps_in_all L)), SlotCount) ∷ []) c 0))
 
-slots-met : (L : View) (slots : List Slot) → check_slots L slots ≡ Good → (k : ℕ) → k < length slots
+slots-met : (L : View) (slots : List Slot) → check_slots L slots ≡ Ok tt → (k : ℕ) → k < length slots
     → Unmet L slots k (slot_at slots k)
 unfolding check_slots
 slots-met L slots e k l =
@@ -84,7 +84,7 @@ slots-met L slots e k l =
     (first_fault_to-good (slot_fault L slots) (length slots)
     (first_fault-good (counted L slots ∷ slot_by_slot L slots ∷ []) e 1) k l)
 
-module _ (L : View) (slots : List Slot) (e : check_slots L slots ≡ Good) where
+module _ (L : View) (slots : List Slot) (e : check_slots L slots ≡ Ok tt) where
   met : (k : ℕ) → k < length slots → Unmet L slots k (slot_at slots k)
   met = slots-met L slots e
 

@@ -8,7 +8,7 @@ use mathlib.Core.Path.{◌≡◌, refl, ap, sym, ◌∙◌, subst}
 use native.Mathlib.Decide.{ℕ_discrete, dec_lt}
 use native.Mathlib.Omega.{arith}
 use lib.ListN.{length}
-use Rattle.refusals.specs.declared.Checked.TheVariants.{Good, Refused}
+use Rattle.std.specs.Prelude.{Ok, Err}
 use Rattle.refusals.specs.Refusals.{number_given}
 use Rattle.refusals.specs.FirstMet.{first_fault_to}
 use Rattle.refusals.proofs.FirstMetLaws.{good-refused}
@@ -47,8 +47,8 @@ module _ (L : View) (ok : Acceptable L) (slots : List Slot) where
 
   -- and those of all slots below n
   data Ways (n : ℕ) : Type 0 where
-    all-fine : first_fault_to (slot_fault L slots) n ≡ Good → FineTo n → Ways n
-    one : (rule : Rule) → first_fault_to (slot_fault L slots) n ≡ Refused (refusal_for rule) → (k : ℕ) → k < n
+    all-fine : first_fault_to (slot_fault L slots) n ≡ Ok tt → FineTo n → Ways n
+    one : (rule : Rule) → first_fault_to (slot_fault L slots) n ≡ Err (refusal_for rule) → (k : ℕ) → k < n
         → Breaks rule L slots k → KeepsBelow L ok slots (numbered rule) k → FineTo k → Ways n
 
   -- one slot more
@@ -97,10 +97,10 @@ module _ (L : View) (ok : Acceptable L) (slots : List Slot) where
 
   -- what the slots are refused with is the first rule that is met
   pub first-given : (rule : Rule)
-      → (first_fault_to (slot_fault L slots) (length slots) ≡ Refused (refusal_for rule)) ↔ FirstBroken L slots rule
+      → (first_fault_to (slot_fault L slots) (length slots) ≡ Err (refusal_for rule)) ↔ FirstBroken L slots rule
   first-given rule = (λ e. to (ways (length slots) (omega arith)) e, λ f. from (ways (length slots) (omega arith)) f)
     where
-      to : Ways (length slots) → first_fault_to (slot_fault L slots) (length slots) ≡ Refused (refusal_for rule)
+      to : Ways (length slots) → first_fault_to (slot_fault L slots) (length slots) ≡ Err (refusal_for rule)
           → FirstBroken L slots rule
       to (all-fine q f) e = absurd (good-refused _ _ q e)
       to (one own q k l b low f) e =
@@ -109,11 +109,11 @@ module _ (L : View) (ok : Acceptable L) (slots : List Slot) where
           (record { place = k; below = l; broken = b; none-lower = low; none_before = f })
 
       from : Ways (length slots) → FirstBroken L slots rule
-          → first_fault_to (slot_fault L slots) (length slots) ≡ Refused (refusal_for rule)
+          → first_fault_to (slot_fault L slots) (length slots) ≡ Err (refusal_for rule)
       from (all-fine q f) g = absurd (f rule g.place g.below g.broken)
       from (one own q k l b low f) g =
           q
-          ∙ ap (λ (r : Rule). Refused (refusal_for r))
+          ∙ ap (λ (r : Rule). Err (refusal_for r))
           (first-unique own rule
           (record { place = k; below = l; broken = b; none-lower = low; none_before = f }) g)
 

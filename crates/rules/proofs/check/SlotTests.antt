@@ -12,7 +12,7 @@ use borrow.Author.Tests.{eqb-true, le-ltb, eq-eqb}
 use Rattle.counting.proofs.tests.TestLaws.{and_left, and_right, and_both}
 use Rattle.counting.proofs.lists.MemberLaws.{First, true-any_in, false-any_in, any_in-true}
 use Rattle.refusals.specs.declared.Refusal.TheVariants.{RowLate}
-use Rattle.refusals.specs.declared.Checked.TheVariants.{Good, Refused}
+use Rattle.std.specs.Prelude.{Ok, Err}
 use Rattle.load.specs.declared.Window.{Window}
 use Rattle.load.specs.Load.{last_moment, shown, no_window}
 use Rattle.load.specs.View.{View}
@@ -181,6 +181,6 @@ module _ (L : View) (slots : List Slot) (w : Whole L slots)
               (f.its-step ∙ sym opens) step
 
   -- 13 to 16 are not met
-  pub slot-late : slot_fault L slots k ≡ cond (ends_row_late L x) (Refused RowLate) Good
+  pub slot-late : slot_fault L slots k ≡ cond (ends_row_late L x) (Err RowLate) (Ok tt)
   unfolding slot_tests
   slot-late = rw (names-false, next-false, start-false, overlaps-false, early-false, window-false)

@@ -8,8 +8,8 @@ use lib.Dec.{eqb, ltb}
 use lib.ListN.{length}
 use borrow.Author.Tests.{eqb-true, le-ltb, eq-eqb}
 use Rattle.refusals.specs.declared.Refusal.TheVariants.{RowLate}
-use Rattle.refusals.specs.declared.Checked.{Checked}
-use Rattle.refusals.specs.declared.Checked.TheVariants.{Good, Refused}
+use Rattle.refusals.specs.Checked.{Checked}
+use Rattle.std.specs.Prelude.{Ok, Err}
 use Rattle.refusals.specs.FirstMet.{first_fault_to, and_then}
 use Rattle.refusals.proofs.FirstMetLaws.{and_then-last, good-first_fault_to}
 use Rattle.load.specs.View.{View, steps_in_all}
@@ -49,13 +49,13 @@ module _ (L : View) (slots : List Slot) (w : Whole L slots)
     where
       at : (k : ℕ) → k < length slots → (b : Bool) → ends_row_late L (slot_at slots k) ≡ b
           → GoodOrLate (slot_fault L slots k)
-      at k l true e = late (slot-late L slots w long first k l ∙ ap (λ b. cond b (Refused RowLate) Good) e)
-      at k l false e = good (slot-late L slots w long first k l ∙ ap (λ b. cond b (Refused RowLate) Good) e)
+      at k l true e = late (slot-late L slots w long first k l ∙ ap (λ b. cond b (Err RowLate) (Ok tt)) e)
+      at k l false e = good (slot-late L slots w long first k l ∙ ap (λ b. cond b (Err RowLate) (Ok tt)) e)
 
   -- Good where each row's last step ends by its deadline
   pub check-good : ((k : ℕ) → k < length slots → (slot_at slots k).step ≡ L.steps (row_of (slot_at slots k))
       → slot_end L (slot_at slots k) ≤ L.deadline (row_of (slot_at slots k)))
-      → check_slots L slots ≡ Good
+      → check_slots L slots ≡ Ok tt
   check-good deadlines =
       check_slots-counted L slots w.in_all ∙ good-first_fault_to (slot_fault L slots) (length slots) right
     where
@@ -67,8 +67,8 @@ module _ (L : View) (slots : List Slot) (w : Whole L slots)
           le-ltb (L.deadline (row_of (slot_at slots k))) (slot_end L (slot_at slots k))
           (deadlines k l (eqb-true (slot_at slots k).step (L.steps (row_of (slot_at slots k))) e))
 
-      right : (k : ℕ) → k < length slots → slot_fault L slots k ≡ Good
+      right : (k : ℕ) → k < length slots → slot_fault L slots k ≡ Ok tt
       right k l =
           slot-late L slots w long first k l
-          ∙ ap (λ b. cond b (Refused RowLate) Good)
+          ∙ ap (λ b. cond b (Err RowLate) (Ok tt))
           (in-time k l (eqb (slot_at slots k).step (L.steps (row_of (slot_at slots k)))) refl)

@@ -14,7 +14,7 @@ use Rattle.counting.proofs.sums.SumLaws.{sum_to-next, sum_to-le}
 use Rattle.counting.proofs.lists.ListLaws.{join_to-length}
 use Rattle.words.specs.Decimal.{decimal}
 use Rattle.words.proofs.DecimalLaws.{decimal-length-le}
-use Rattle.refusals.specs.declared.Checked.TheVariants.{Good}
+use Rattle.std.specs.Prelude.{Ok}
 use Rattle.refusals.proofs.FirstFaultLaws.{test_at, first_met-good}
 use Rattle.load.specs.declared.Row.{Row}
 use Rattle.load.specs.declared.Load.{Load}
@@ -189,7 +189,7 @@ module _ (load : Load) (i : ℕ) (row : Row) (good : RowGood load i row) where
       )
 
 -- 24 rows
-pub sheet_bytes-le : (load : Load) → check_load load ≡ Good → length (sheet_bytes load) ≤ most_sheet_bytes
+pub sheet_bytes-le : (load : Load) → check_load load ≡ Ok tt → length (sheet_bytes load) ≤ most_sheet_bytes
 unfolding sheet_bytes
 sheet_bytes-le load e =
     let good = check_load-good load e in

@@ -10,7 +10,7 @@ use lib.Dec.{eqb, ltb}
 use Rattle.counting.specs.Sums.{all_from}
 use Rattle.counting.proofs.tests.TestLaws.{any_to-ext, all_to-ext}
 use Rattle.refusals.specs.declared.Refusal.TheVariants.{OutOfRange, IdentifierTaken, BoxTaken}
-use Rattle.refusals.specs.declared.Checked.TheVariants.{Good, Refused}
+use Rattle.std.specs.Prelude.{Ok, Err}
 use Rattle.refusals.specs.FirstMet.{first_met, and_then, first_fault, first_fault_to}
 use Rattle.refusals.proofs.FirstMetLaws.{first_fault_to-good}
 use Rattle.refusals.proofs.FirstFaultLaws.{and_then-agree, first_fault_to-agree}
@@ -38,7 +38,7 @@ pub data Kept (row kept : Row) : Type 0 where
   long : most_steps < row.steps → kept ≡ zero_row → Kept row kept
 
 -- a row of more than eight steps; the tests before that of the steps have its number
-fields-long : (row : Row) → most_steps < row.steps → check_fields row ≡ Refused OutOfRange
+fields-long : (row : Row) → most_steps < row.steps → check_fields row ≡ Err OutOfRange
 unfolding row_tests
 fields-long row l =
     rw (le-ltb row.steps 1 (omega arith), lt-ltb most_steps row.steps l)
@@ -48,7 +48,7 @@ fields-long row l =
     (cond_same (outside 1 last_moment row.deadline) _ _ refl))))
 
 module _ (load kept : Load) (i : ℕ) (earlier : (k : ℕ) → k < i → row_at kept k ≡ row_at load k) (row : Row) where
-  taken-cut : check_fields row ≡ Good → check_taken kept i (narrow_row row) ≡ check_taken load i row
+  taken-cut : check_fields row ≡ Ok tt → check_taken kept i (narrow_row row) ≡ check_taken load i row
   unfolding taken_tests
   taken-cut good =
       ap₂ (λ x y. first_met ((x, IdentifierTaken) ∷ (y, BoxTaken) ∷ []))
@@ -64,12 +64,12 @@ module _ (load kept : Load) (i : ℕ) (earlier : (k : ℕ) → k < i → row_at 
       let fields : check_fields (narrow_row row) ≡ check_fields row = ap first_met (row_tests-cut row) in
       and_then-agree _ _ _ _ fields
       (λ good.
-      ap₂ (λ t p. and_then t (and_then p Good)) (taken-cut (sym fields ∙ good)) (parts_cut row rest))
+      ap₂ (λ t p. and_then t (and_then p (Ok tt))) (taken-cut (sym fields ∙ good)) (parts_cut row rest))
 
   row_fault-long : most_steps < row.steps → row_fault kept i zero_row ≡ row_fault load i row
   unfolding row_fault row_tests zero_row
   row_fault-long l =
-      sym (ap (λ c. and_then c (and_then (check_taken load i row) (and_then (check_parts row) Good)))
+      sym (ap (λ c. and_then c (and_then (check_taken load i row) (and_then (check_parts row) (Ok tt))))
       (fields-long row l))
 
   pub row_fault-kept : (k : Row) → Kept row k → row_fault kept i k ≡ row_fault load i row
@@ -82,7 +82,7 @@ kept_same load i row k g (cut rest e) = e ∙ narrow_row-good row rest load i g
 kept_same load i row k g (long l e) = absurd (omega (arith, fields-steps-le row g.fields-good))
 
 module _ (load kept : Load) (each : (i : ℕ) → i < load.rows → Kept (row_at load i) (row_at kept i)) where
-  row-good : (i : ℕ) → i < load.rows → row_fault load i (row_at load i) ≡ Good → row_at kept i ≡ row_at load i
+  row-good : (i : ℕ) → i < load.rows → row_fault load i (row_at load i) ≡ Ok tt → row_at kept i ≡ row_at load i
   row-good i l good =
       kept_same load i (row_at load i) (row_at kept i) (row_fault-good load i (row_at load i) good) (each i l)
 
@@ -96,7 +96,7 @@ module _ (load kept : Load) (each : (i : ℕ) → i < load.rows → Kept (row_at
       (row_at load i) (row_at kept i) (each i l)))
 
   -- where nothing is found, no row was replaced
-  pub narrow_good : check_load load ≡ Good → (i : ℕ) → i < load.rows → row_at kept i ≡ row_at load i
+  pub narrow_good : check_load load ≡ Ok tt → (i : ℕ) → i < load.rows → row_at kept i ≡ row_at load i
   narrow_good good i l =
       kept_same load i (row_at load i) (row_at kept i) ((check_load-good load good).each-row-good i l) (each i l)
 

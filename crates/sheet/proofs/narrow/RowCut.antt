@@ -13,8 +13,8 @@ use lib.ListN.{get_or, length-map, get_or-map}
 use lib.Seq.{ext_get_or}
 use Rattle.counting.proofs.tests.TestLaws.{all_to-ext}
 use Rattle.refusals.specs.declared.Refusal.TheVariants.{OutOfRange, WindowSteps, LimitBelowChain}
-use Rattle.refusals.specs.declared.Checked.{Checked}
-use Rattle.refusals.specs.declared.Checked.TheVariants.{Good, Refused}
+use Rattle.refusals.specs.Checked.{Checked}
+use Rattle.std.specs.Prelude.{Ok, Err}
 use Rattle.refusals.specs.FirstMet.{first_met, first_fault_to}
 use Rattle.refusals.proofs.FirstMetLaws.{first_fault_to-ext}
 use Rattle.refusals.proofs.FirstFaultLaws.{first_met-good}
@@ -88,7 +88,7 @@ cond_same false x y e = e
 
 -- the tests before that of the limit have its number
 window_found-limit : (w : Window) (steps before chain : ℕ) → outside 1 largest_limit w.limit ≡ true
-    → window_found w steps before chain ≡ Refused OutOfRange
+    → window_found w steps before chain ≡ Err OutOfRange
 window_found-limit w steps before chain e =
     rw e (cond_same (eqb w.first 0) _ _ (cond_same (eqb w.last 0) _ _ refl))
 
@@ -150,7 +150,7 @@ module _ (row : Row) where
         ∙ sym (rest.no-window (row.windows + k) (omega arith))))
 
     -- steps that passed were not cut
-    module _ (passed : (j : ℕ) → j < row.steps → check_step row j ≡ Good) where
+    module _ (passed : (j : ℕ) → j < row.steps → check_step row j ≡ Ok tt) where
       step_fits : (j : ℕ) → j < row.steps → narrow_step (step_at row j) ≡ step_at row j
       unfolding step_tests
       step_fits j l =

@@ -7,7 +7,7 @@ use native.Mathlib.Decide.{dec_lt}
 use native.Mathlib.Nat.{min-eq_left}
 use native.Mathlib.Omega.{arith}
 use borrow.Author.Tests.{ltb-false}
-use Rattle.refusals.specs.declared.Checked.TheVariants.{Good}
+use Rattle.std.specs.Prelude.{Ok}
 use Rattle.refusals.specs.FirstMet.{and_then}
 use Rattle.refusals.proofs.FirstMetLaws.{first_fault_to-good}
 use Rattle.refusals.proofs.FirstFaultLaws.{first_met-good, and_then-agree}
@@ -38,7 +38,7 @@ use Rattle.sheet.proofs.narrow.RowCut.{
 }
 
 -- a row whose fields are good fits, its steps and windows apart
-module _ (row : Row) (good : check_fields row ≡ Good) where
+module _ (row : Row) (good : check_fields row ≡ Ok tt) where
   pub identifier-same : (narrow_row row).identifier ≡ row.identifier
   unfolding narrow_row row_tests
   identifier-same =
@@ -71,9 +71,9 @@ module _ (row : Row) (rest : Unused row) where
       (λ good.
       let passed = first_fault_to-good (check_step row) row.steps (sym (steps-cut row) ∙ good) in
       ap₂ and_then (ap all_zero (no-steps-cut row rest))
-      (ap₂ and_then (windows-cut row rest passed) (ap (λ z. and_then (all_zero z) Good) (no-windows-cut row rest))))
+      (ap₂ and_then (windows-cut row rest passed) (ap (λ z. and_then (all_zero z) (Ok tt)) (no-windows-cut row rest))))
 
-  window_same : ((k : ℕ) → k < row.windows → check_window row k ≡ Good) → map narrow_window row.window ≡ row.window
+  window_same : ((k : ℕ) → k < row.windows → check_window row k ≡ Ok tt) → map narrow_window row.window ≡ row.window
   unfolding window_tests
   window_same passed = map-stays narrow_window no_window row.window stays refl
     where

@@ -13,7 +13,7 @@ use lib.ListN.{length, get_or, replicate, length-replicate, get_or-replicate, ge
 use lib.Seq.{get_or-append-add}
 use Rattle.counting.specs.Lists.{list_to}
 use Rattle.counting.proofs.lists.ListLaws.{list_to-length, filled-ext, get_or-filled, get_or-unfilled}
-use Rattle.refusals.specs.declared.Checked.TheVariants.{Good}
+use Rattle.std.specs.Prelude.{Ok}
 use Rattle.load.specs.declared.Step.{Step}
 use Rattle.load.specs.Load.{most_rows, most_steps, most_windows, no_step, no_window, no_row, zero_row, row_at}
 use Rattle.load.specs.Check.{check_load}
@@ -81,7 +81,7 @@ module _ (bs : List ℕ) where
   unfolding load_in_sheet kept_load
   kept-check = narrow-check (load_in_sheet bs) (kept_load bs) refl each-kept unused-kept
 
-  pub kept-good : check_load (load_in_sheet bs) ≡ Good → kept_load bs ≡ load_in_sheet bs
+  pub kept-good : check_load (load_in_sheet bs) ≡ Ok tt → kept_load bs ≡ load_in_sheet bs
   unfolding load_in_sheet kept_load
   kept-good good =
       ap (λ l. record { rows = rows_in bs; row = l })

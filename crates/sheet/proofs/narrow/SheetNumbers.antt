@@ -9,8 +9,8 @@ use lib.Dec.{eqb, ltb}
 use Rattle.counting.specs.Sums.{all_from}
 use Rattle.counting.specs.Lists.{any_in}
 use Rattle.refusals.specs.declared.Refusal.TheVariants.{OutOfRange}
-use Rattle.refusals.specs.declared.Checked.{Checked}
-use Rattle.refusals.specs.declared.Checked.TheVariants.{Good}
+use Rattle.refusals.specs.Checked.{Checked}
+use Rattle.std.specs.Prelude.{Ok}
 use Rattle.refusals.specs.Refusals.{number_given}
 use Rattle.load.specs.declared.Row.{Row}
 use Rattle.load.specs.declared.Load.{Load}
@@ -57,7 +57,7 @@ in_sheet found = any_in (eqb (number_given found)) (0 ∷ numbers_in_sheet)
 abbrev InSheet : Checked → Type 0
 InSheet = Passes in_sheet
 
-good-in : InSheet Good
+good-in : InSheet (Ok tt)
 unfolding any_in
 good-in = record { passes = refl }
 
@@ -117,7 +117,7 @@ module _ (bs : List ℕ) where
       (first_met-passes in_sheet good-in (end_tests (line_before bs (lines_in bs))) refl))
 
   -- the load of lines that 18 to 20 do not refuse
-  load-in : lines_fault bs ≡ Good → InSheet (check_load (load_in_sheet bs))
+  load-in : lines_fault bs ≡ Ok tt → InSheet (check_load (load_in_sheet bs))
   unfolding check_load load_in_sheet any_in
   load-in lines =
       and_then-passes in_sheet good-in _ _

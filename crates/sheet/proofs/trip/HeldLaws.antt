@@ -5,7 +5,7 @@ use mathlib.Core.Path.{◌≡◌}
 use native.Mathlib.Decide.{dec_lt}
 use native.Mathlib.Omega.{arith}
 use lib.ListN.{length, length-take}
-use Rattle.refusals.specs.declared.Checked.TheVariants.{Good}
+use Rattle.std.specs.Prelude.{Ok}
 use Rattle.load.specs.declared.Load.{Load}
 use Rattle.load.specs.Load.{most_steps, most_windows, row_at, step_at, window_at}
 use Rattle.load.specs.View.{view_of}
@@ -21,7 +21,7 @@ use Rattle.load_file.proofs.faults.ZeroLaws.{
   no_window-held,
 }
 
-module _ (load : Load) (e : check_load load ≡ Good) (i : ℕ) (l : i < load.rows) where
+module _ (load : Load) (e : check_load load ≡ Ok tt) (i : ℕ) (l : i < load.rows) where
   ok : Acceptable (view_of load)
   ok = check-acceptable load e
 

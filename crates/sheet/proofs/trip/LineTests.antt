@@ -8,7 +8,7 @@ use native.Mathlib.Omega.{arith}
 use lib.Dec.{eqb}
 use borrow.Author.Tests.{eqb-true, eq-eqb, not-false}
 use Rattle.counting.proofs.tests.TestLaws.{or_left, or_right, true-false, never_true}
-use Rattle.refusals.specs.declared.Checked.TheVariants.{Good}
+use Rattle.std.specs.Prelude.{Ok}
 use Rattle.refusals.specs.FirstMet.{first_met}
 use Rattle.refusals.proofs.FirstFaultLaws.{test_at}
 use Rattle.sheet_line.specs.declared.Line.{Line}
@@ -78,7 +78,7 @@ not-and true b h = rw (h refl)
 not-and false b h = refl
 
 module _ (is_there on : Bool) (before line : Line) (there : is_there ≡ true) where
-  pub next-tests : on ≡ true → NextLine before line → first_met (line_tests is_there on before line) ≡ Good
+  pub next-tests : on ≡ true → NextLine before line → first_met (line_tests is_there on before line) ≡ Ok tt
   unfolding line_tests
   next-tests e next =
       rw (
@@ -91,7 +91,7 @@ module _ (is_there on : Bool) (before line : Line) (there : is_there ≡ true) w
         not-and (is_limit before.mark) (is_dash line.mark) next.dash-behind,
       )
 
-  pub first-tests : on ≡ false → FirstLine before line → first_met (line_tests is_there on before line) ≡ Good
+  pub first-tests : on ≡ false → FirstLine before line → first_met (line_tests is_there on before line) ≡ Ok tt
   unfolding line_tests
   first-tests e first = rw (there, e, first.no-dash, first.no-limit)
 

@@ -9,7 +9,7 @@ use native.Mathlib.Omega.{arith}
 use lib.ListN.{length, length-append, length-replicate}
 use Rattle.counting.proofs.lists.ListLaws.{filled-length, get_or-filled, get_or-unfilled}
 use Rattle.counting.proofs.lists.PieceLaws.{Stands, joined-place, joined-stands, stands-whole}
-use Rattle.refusals.specs.declared.Checked.TheVariants.{Good}
+use Rattle.std.specs.Prelude.{Ok}
 use Rattle.load.specs.declared.Row.{Row}
 use Rattle.load.specs.Load.{most_rows, most_steps, most_windows, no_step, no_row, zero_row, row_at}
 use Rattle.load.specs.Check.{check_load}
@@ -45,7 +45,7 @@ use Rattle.sheet.proofs.trip.HeldLaws.{good-row-held}
 use Rattle.sheet.proofs.marks.RowTrip.{lines-row}
 
 -- a row of a sheet whose lines are not refused
-module _ (bs : List ℕ) (h : lines_fault bs ≡ Good) (i : ℕ) (l : i < rows_in bs) where
+module _ (bs : List ℕ) (h : lines_fault bs ≡ Ok tt) (i : ℕ) (l : i < rows_in bs) where
   abbrev at : ℕ
   at = row_place bs i
 
@@ -90,7 +90,7 @@ module _ (bs : List ℕ) where
   row-unused i from l =
       get_or-unfilled (λ i. row_from bs (row_place bs i)) (rows_in bs) most_rows i zero_row no_row from l
 
-module _ (bs : List ℕ) (h : lines_fault bs ≡ Good) where
+module _ (bs : List ℕ) (h : lines_fault bs ≡ Ok tt) where
   row-stands-there : (i : ℕ) → i < rows_in bs → Stands (row_lines (row_at (load_in_sheet bs) i)) bs (row_place bs i)
   row-stands-there i l = rw (row-used bs i l) (row-stands bs h i l)
 
@@ -108,7 +108,7 @@ module _ (bs : List ℕ) (h : lines_fault bs ≡ Good) where
       (joined-stands f (row_place bs) bs (rows_in bs) row-behind-there row-stands-there)
 
 -- a sheet whose load passes the check
-module _ (bs : List ℕ) (good : check_load (load_in_sheet bs) ≡ Good) where
+module _ (bs : List ℕ) (good : check_load (load_in_sheet bs) ≡ Ok tt) where
   held-row : (i : ℕ) → i < rows_in bs → HeldRow (row_at (load_in_sheet bs) i)
   unfolding load_in_sheet row_of
   held-row i l =
@@ -122,7 +122,7 @@ module _ (bs : List ℕ) (good : check_load (load_in_sheet bs) ≡ Good) where
       (rw is (simp (length-append, length-replicate) (omega arith)))
 
   -- no line carries a class or a head
-  pub read_plain : check_plain (load_in_sheet bs) ≡ Good
+  pub read_plain : check_plain (load_in_sheet bs) ≡ Ok tt
   unfolding load_in_sheet row_of
   read_plain =
       good-check_plain (load_in_sheet bs)

@@ -10,8 +10,8 @@ use lib.Dec.{ltb}
 use lib.ListN.{length}
 use borrow.Author.Tests.{eqb-true, eqb-false, eq-eqb, not-true, lt-ltb, lt-leb}
 use Rattle.counting.proofs.tests.TestLaws.{and_both, and_right, never_true}
-use Rattle.refusals.specs.declared.Checked.{Checked}
-use Rattle.refusals.specs.declared.Checked.TheVariants.{Good}
+use Rattle.refusals.specs.Checked.{Checked}
+use Rattle.std.specs.Prelude.{Ok}
 use Rattle.refusals.specs.FirstMet.{first_met, first_fault_to}
 use Rattle.refusals.proofs.FirstMetLaws.{first_fault_to-good}
 use Rattle.refusals.proofs.FirstFaultLaws.{test_at, finding_at, first_met-good, first_fault-good}
@@ -68,8 +68,8 @@ findings bs =
 pub row-line : (bs : List ℕ) (i j : ℕ) → line_from bs (row_place bs i) j ≡ line_from bs 0 (row_line bs i + j)
 row-line bs i j = ap (line_in bs) (row_line-place bs i j)
 
-module _ (bs : List ℕ) (h : lines_fault bs ≡ Good) where
-  found : (k : ℕ) → finding_at (findings bs) k ≡ Good
+module _ (bs : List ℕ) (h : lines_fault bs ≡ Ok tt) where
+  found : (k : ℕ) → finding_at (findings bs) k ≡ Ok tt
   unfolding lines_fault
   found = first_fault-good (findings bs) h
 
@@ -157,7 +157,7 @@ row-begins bs zero l = rw (row_line-zero bs)
 row-begins bs (suc i) l = next-begins bs i l
 
 -- the lines of a row are those that neither 19 nor 20 refuses
-module _ (bs : List ℕ) (h : lines_fault bs ≡ Good) (i : ℕ) (l : i < rows_in bs) where
+module _ (bs : List ℕ) (h : lines_fault bs ≡ Ok tt) (i : ℕ) (l : i < rows_in bs) where
   abbrev at : ℕ
   at = row_place bs i
 

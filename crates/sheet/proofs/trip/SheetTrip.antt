@@ -5,8 +5,9 @@ use mathlib.Core.List.{List, [], ◌∷◌}
 use mathlib.Core.Path.{◌≡◌, refl, ap, sym, ◌∙◌}
 use lib.ListN.{length}
 use Rattle.words.specs.LittleEndian.{Bytes}
-use Rattle.refusals.specs.declared.Checked.{Checked}
-use Rattle.refusals.specs.declared.Checked.TheVariants.{Good}
+use Rattle.refusals.specs.Checked.{Checked}
+use Rattle.std.specs.Prelude.{Ok}
+use Rattle.refusals.proofs.GivenLaws.{given-good, given-is}
 use Rattle.refusals.proofs.FirstFaultLaws.{finding_at, first_fault-good}
 use Rattle.load.specs.declared.Load.{Load}
 use Rattle.load.specs.Check.{check_load}
@@ -27,13 +28,13 @@ use Rattle.sheet.proofs.marks.RowSize.{sheet_bytes-le}
 abbrev findings : List ℕ → List Checked
 findings bs = lines_fault bs ∷ check_load (load_in_sheet bs) ∷ []
 
-module _ (bs : List ℕ) (h : sheet_fault bs ≡ Good) where
-  finding : (k : ℕ) → finding_at (findings bs) k ≡ Good
+module _ (bs : List ℕ) (h : sheet_fault bs ≡ Ok tt) where
+  finding : (k : ℕ) → finding_at (findings bs) k ≡ Ok tt
   unfolding sheet_fault
   finding = first_fault-good (findings bs) h
 
   -- a sheet that is not refused spells a load that passes the check
-  pub accepted-good : check_load (load_in_sheet bs) ≡ Good
+  pub accepted-good : check_load (load_in_sheet bs) ≡ Ok tt
   accepted-good = finding 1
 
   -- what reading it gives
@@ -50,22 +51,23 @@ module _ (bs : List ℕ) (h : sheet_fault bs ≡ Good) where
         sheet = read-sheet bs (finding 0);
       }
 
-pub good-read_sheet : (bs : List ℕ) (load : Load) → read_sheet bs ≡ accepted load → sheet_fault bs ≡ Good
+pub good-read_sheet : (bs : List ℕ) (load : Load) → read_sheet bs ≡ accepted load → sheet_fault bs ≡ Ok tt
 unfolding read_sheet
-good-read_sheet bs load h = ap (λ r. r.answer) h
+good-read_sheet bs load h = given-good (sheet_fault bs) (load_in_sheet bs) load (sym h)
 
 -- an accepted sheet reads to exactly one load
-reads_load : (bs : List ℕ) → Bytes bs → (read_sheet bs).answer ≡ Good → AcceptedSheet bs (read_sheet bs).load
-reads_load bs b h = record { bytes = b; reads = λ i. record { answer = h i; load = (read_sheet bs).load } }
+reads_load : (bs : List ℕ) → Bytes bs → sheet_fault bs ≡ Ok tt → AcceptedSheet bs (load_in_sheet bs)
+reads_load bs b h = record { bytes = b; reads = read_sheet-good bs h }
 
 AcceptedSheet-unique : (bs : List ℕ) (load other : Load) → AcceptedSheet bs load → AcceptedSheet bs other
     → load ≡ other
-AcceptedSheet-unique bs load other a c = ap (λ r. r.load) (sym a.reads ∙ c.reads)
+AcceptedSheet-unique bs load other a c = given-is (Ok tt) other load (sym a.reads ∙ c.reads)
 
 sheet-exports : (bs : List ℕ) (load : Load) → AcceptedSheet bs load → ExportedLoad load bs
+unfolding read_sheet
 sheet-exports bs load a =
-    let h : sheet_fault bs ≡ Good = good-read_sheet bs load a.reads in
-    let e : load_in_sheet bs ≡ load = ap (λ r. r.load) (sym (read_sheet-good bs h) ∙ a.reads) in
+    let h : sheet_fault bs ≡ (Ok tt) = good-read_sheet bs load a.reads in
+    let e : load_in_sheet bs ≡ load = sym (given-is (sheet_fault bs) (load_in_sheet bs) load (sym a.reads)) in
     rw (← e) (accepted-exported bs h)
 
 -- an exported sheet is not refused, and spells the load
@@ -73,7 +75,7 @@ module _ (bs : List ℕ) (load : Load) (x : ExportedLoad load bs) where
   exported-load : load_in_sheet bs ≡ load
   exported-load = written-load bs load x
 
-  exported-fault : sheet_fault bs ≡ Good
+  exported-fault : sheet_fault bs ≡ Ok tt
   unfolding sheet_fault
   exported-fault = rw (written-lines bs load x, ap check_load exported-load ∙ (exported-plain bs load x).load-good)
 
@@ -102,6 +104,6 @@ pub read-write : (bs : List ℕ) (load : Load) → Bytes bs → read_sheet bs �
 read-write bs load b h = sym (sheet-trip.read-write bs load (record { bytes = b; reads = h })).sheet
 
 -- an exported load reads back as itself
-pub write_read : (load : Load) → Held load → check_plain load ≡ Good → read_sheet (sheet_bytes load) ≡ accepted load
+pub write_read : (load : Load) → Held load → check_plain load ≡ Ok tt → read_sheet (sheet_bytes load) ≡ accepted load
 write_read load held plain =
     (sheet-trip.write_read (sheet_bytes load) load (record { held = held; plain = plain; sheet = refl })).reads

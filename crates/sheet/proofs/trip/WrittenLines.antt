@@ -7,7 +7,7 @@ use mathlib.Core.Path.{◌≡◌, ap, sym, ◌∙◌}
 use native.Mathlib.Decide.{dec_lt}
 use native.Mathlib.Omega.{arith}
 use Rattle.counting.proofs.tests.TestLaws.{never_true}
-use Rattle.refusals.specs.declared.Checked.TheVariants.{Good}
+use Rattle.std.specs.Prelude.{Ok}
 use Rattle.refusals.proofs.FirstMetLaws.{good-first_fault_to}
 use Rattle.load.specs.declared.Load.{Load}
 use Rattle.load.specs.Load.{row_at}
@@ -66,7 +66,7 @@ module _ (bs : List ℕ) (load : Load) (x : ExportedLoad load bs) where
       is-line = ap (is_line bs) line-place ∙ (line-written bs load x i l j m).is-line
 
     -- a line that is not the row's first
-    next-good : (j : ℕ) → suc j < (row_at load i).steps → line_fault bs (suc (row_line bs i + j)) ≡ Good
+    next-good : (j : ℕ) → suc j < (row_at load i).steps → line_fault bs (suc (row_line bs i + j)) ≡ Ok tt
     unfolding line_fault
     next-good j m =
         let n : ℕ = row_line bs i + j in
@@ -100,7 +100,7 @@ module _ (bs : List ℕ) (load : Load) (x : ExportedLoad load bs) where
   before-row zero l = rw (row_line-zero bs)
   before-row (suc i) l = row_last i l
 
-  first_good : (i : ℕ) → i < load.rows → line_fault bs (row_line bs i) ≡ Good
+  first_good : (i : ℕ) → i < load.rows → line_fault bs (row_line bs i) ≡ Ok tt
   unfolding line_fault
   first_good i l =
       let least = steps-least bs load x i l in
@@ -114,7 +114,7 @@ module _ (bs : List ℕ) (load : Load) (x : ExportedLoad load bs) where
         no-limit = before-row i (omega arith);
       })
 
-  line-good : (i : ℕ) → i < load.rows → (j : ℕ) → j < (row_at load i).steps → line_fault bs (row_line bs i + j) ≡ Good
+  line-good : (i : ℕ) → i < load.rows → (j : ℕ) → j < (row_at load i).steps → line_fault bs (row_line bs i + j) ≡ Ok tt
   line-good i l zero m =
       let q : row_line bs i + 0 ≡ row_line bs i = omega arith in
       ap (line_fault bs) q ∙ first_good i l
@@ -123,7 +123,7 @@ module _ (bs : List ℕ) (load : Load) (x : ExportedLoad load bs) where
       ap (line_fault bs) q ∙ next-good i l j m
 
   -- the lines of the rows below i
-  lines-good : (i : ℕ) → i ≤ load.rows → (n : ℕ) → n < row_line bs i → line_fault bs n ≡ Good
+  lines-good : (i : ℕ) → i ≤ load.rows → (n : ℕ) → n < row_line bs i → line_fault bs n ≡ Ok tt
   lines-good zero l n m = absurd (omega (arith, row_line-zero bs))
   lines-good (suc i) l n m =
       elim (dec_lt n (row_line bs i)) [
@@ -143,7 +143,7 @@ module _ (bs : List ℕ) (load : Load) (x : ExportedLoad load bs) where
       ∙ place_is bs load x rows (omega arith)
       ∙ place_end bs load x)
 
-  pub written-lines : lines_fault bs ≡ Good
+  pub written-lines : lines_fault bs ≡ Ok tt
   unfolding lines_fault
   written-lines =
       let rows : ℕ = load.rows in

@@ -3,7 +3,7 @@
 use Prim.Native.Nat.{ℕ, zero, suc, ◌≤◌, ◌<◌}
 use mathlib.Core.Bool.{Bool, true, false}
 use mathlib.Core.List.{List}
-use mathlib.Core.Path.{◌≡◌, refl, sym, ap, ◌∙◌}
+use mathlib.Core.Path.{◌≡◌, sym, ap, ◌∙◌}
 use native.Mathlib.Decide.{dec_lt}
 use native.Mathlib.Numerals.{add-one}
 use native.Mathlib.Omega.{arith}
@@ -12,11 +12,10 @@ use lib.ListN.{length}
 use borrow.Author.Tests.{lt-ltb}
 use Rattle.refusals.specs.declared.Refusal.{Refusal}
 use Rattle.refusals.specs.declared.Refusal.TheVariants.{LineMalformed}
-use Rattle.refusals.specs.declared.Checked.{Checked}
-use Rattle.refusals.specs.declared.Checked.TheVariants.{Good, Refused}
+use Rattle.refusals.specs.Checked.{Checked}
+use Rattle.std.specs.Prelude.{Some, None, Ok, Err}
 use Rattle.refusals.specs.FirstMet.{first_met, first_fault_to}
 use Rattle.refusals.proofs.FirstMetLaws.{
-  good-refused,
   and_then-both,
   and_then-last,
   first_fault_to-zero,
@@ -27,8 +26,8 @@ use Rattle.sheet_line.specs.declared.Line.{Line}
 use Rattle.sheet_line.specs.declared.LineRead.{LineRead}
 use Rattle.sheet_line.specs.Line.{is_line}
 use Rattle.sheet_line.specs.Calls.{LineAt, no_line}
-use Rattle.sheet.specs.Lines.{line_place, line_from, lines_in}
-use Rattle.sheet.specs.LineFaults.{line_tests, line_before, goes_on, line_fault, end_tests, lines_fault}
+use Rattle.sheet.specs.Lines.{line_place, lines_in}
+use Rattle.sheet.specs.LineFaults.{line_tests, line_before, line_fault, end_tests, lines_fault}
 use Rattle.sheet.specs.inner.Walk.{goes_on_from}
 use Rattle.sheet.proofs.trip.PlaceLaws.{
   line_place-zero,
@@ -37,7 +36,7 @@ use Rattle.sheet.proofs.trip.PlaceLaws.{
   lines_in-before,
   lines_in-lt,
 }
-use Rattle.sheet.proofs.walk.ReadLaws.{read-there, read-line, read_next}
+use Rattle.sheet.proofs.walk.ReadLaws.{some-there, some-read, none-there, line-says, line-next}
 
 -- the lines before a place are checked: no fault is found in them, and the last is kept
 pub record Walked (bs : List ℕ) (at : ℕ) (before : Line) : Type 0 where
@@ -45,7 +44,7 @@ pub record Walked (bs : List ℕ) (at : ℕ) (before : Line) : Type 0 where
   pub lines-le : lines ≤ lines_in bs
   pub place_is : at ≡ line_place bs 0 lines
   pub before-is : before ≡ line_before bs lines
-  pub no-fault : first_fault_to (line_fault bs) lines ≡ Good
+  pub no-fault : first_fault_to (line_fault bs) lines ≡ Ok tt
 
 pub walked_none : (bs : List ℕ) (before : Line) → before ≡ no_line → Walked bs 0 before
 walked_none bs before e =
@@ -66,75 +65,73 @@ first-place bs (suc n) =
 
 -- what stands at a place where there is no line
 tests-none : (t goes : Bool) (before line : Line) → t ≡ false
-    → first_met (line_tests t goes before line) ≡ Refused LineMalformed
+    → first_met (line_tests t goes before line) ≡ Err LineMalformed
 unfolding line_tests
 tests-none t goes before line e = rw e
 
-tests-good : (t goes : Bool) (before line : Line) → first_met (line_tests t goes before line) ≡ Good → t ≡ true
-tests-good true goes before line h = refl
-tests-good false goes before line h = absurd (good-refused _ _ h (tests-none false goes before line refl))
+module _ (bs : List ℕ) (n at : ℕ) (place : at ≡ line_place bs 0 n) where
+  -- no line stands there
+  line-malformed : LineAt bs at None → line_fault bs n ≡ Err LineMalformed
+  unfolding line_fault
+  line-malformed read = tests-none _ _ _ _ (ap (is_line bs) (sym place) ∙ none-there bs at read)
 
--- what is asked of line n is what the definition asks
-line-asked : (bs : List ℕ) (n at : ℕ) (before : Line) (r : LineRead) → at ≡ line_place bs 0 n
-    → before ≡ line_before bs n → LineAt bs at r
-    → first_met (line_tests r.is_line (goes_on_from at before r.line) before r.line) ≡ line_fault bs n
-unfolding line_fault
-line-asked bs n at before r place kept read = go (is_line bs (line_place bs 0 n)) refl
-  where
-    there : r.is_line ≡ is_line bs (line_place bs 0 n)
-    there = read-there bs 0 n at r place read
-
-    go : (t : Bool) → is_line bs (line_place bs 0 n) ≡ t
-        → first_met (line_tests r.is_line (goes_on_from at before r.line) before r.line)
-        ≡ first_met (line_tests (is_line bs (line_place bs 0 n)) (goes_on bs n) (line_before bs n) (line_from bs 0 n))
-    go true h =
-        rw (there, read-line bs 0 n at r place read h, kept, ap (ltb 0) place ∙ first-place bs n)
-    go false h = tests-none _ _ _ _ (there ∙ h) ∙ sym (tests-none _ _ _ _ h)
+  -- what is asked of line n is what the definition asks
+  line-asked : (before : Line) (r : LineRead) (goes : Bool) → before ≡ line_before bs n → LineAt bs at (Some r)
+      → goes ≡ goes_on_from at before r.line → first_met (line_tests true goes before r.line) ≡ line_fault bs n
+  unfolding line_fault
+  line-asked before r goes kept read g =
+      rw (
+        g,
+        ap (is_line bs) (sym place) ∙ some-there bs at r read,
+        line-says bs 0 n place (some-read bs at r read),
+        kept,
+        ap (ltb 0) place ∙ first-place bs n,
+      )
 
 -- one line more
-module _ {bs : List ℕ} {at : ℕ} {before : Line} (so_far : Walked bs at before) (l : at < length bs) (r : LineRead)
-    (read : LineAt bs at r) (found : Checked)
-    (e : found ≡ first_met (line_tests r.is_line (goes_on_from at before r.line) before r.line)) where
+module _ {bs : List ℕ} {at : ℕ} {before : Line} (so_far : Walked bs at before) (l : at < length bs) where
   line-there : so_far.lines < lines_in bs
   line-there = lines_in-lt bs so_far.lines (rw so_far.place_is at l)
 
-  line-found : found ≡ line_fault bs so_far.lines
-  line-found = e ∙ line-asked bs so_far.lines at before r so_far.place_is so_far.before-is read
-
   -- that is refused decides
-  pub line-decides : (refusal : Refusal) → found ≡ Refused refusal → Refused refusal ≡ lines_fault bs
+  decides : (refusal : Refusal) → line_fault bs so_far.lines ≡ Err refusal → lines_fault bs ≡ Err refusal
   unfolding lines_fault
-  line-decides refusal h =
-      let z : first_fault_to (line_fault bs) (lines_in bs) ≡ Refused refusal =
-      first_fault_to-refused (line_fault bs) (lines_in bs) so_far.lines refusal line-there so_far.no-fault
-      (sym line-found ∙ h) in
+  decides refusal h =
+      let z : first_fault_to (line_fault bs) (lines_in bs) ≡ Err refusal =
+      first_fault_to-refused (line_fault bs) (lines_in bs) so_far.lines refusal line-there so_far.no-fault h in
       rw z
 
-  module _ (good : found ≡ Good) where
-    line-passes : is_line bs (line_place bs 0 so_far.lines) ≡ true
-    line-passes =
-        sym (read-there bs 0 so_far.lines at r so_far.place_is read) ∙ tests-good _ _ _ _ (sym e ∙ good)
+  pub none-decides : LineAt bs at None → lines_fault bs ≡ Err LineMalformed
+  none-decides read = decides LineMalformed (line-malformed bs so_far.lines at so_far.place_is read)
+
+  module _ (r : LineRead) (read : LineAt bs at (Some r)) (goes : Bool) (g : goes ≡ goes_on_from at before r.line) where
+    asked : first_met (line_tests true goes before r.line) ≡ line_fault bs so_far.lines
+    asked = line-asked bs so_far.lines at so_far.place_is before r goes so_far.before-is read g
+
+    pub line-decides : (refusal : Refusal) → Err refusal ≡ first_met (line_tests true goes before r.line)
+        → lines_fault bs ≡ Err refusal
+    line-decides refusal h = decides refusal (sym (h ∙ asked))
 
     next-is : r.next ≡ line_place bs 0 (suc so_far.lines)
     next-is =
-        let n = so_far.lines in
-        read_next bs 0 n at r so_far.place_is read line-passes ∙ ap (line_place bs 0) (add-one n)
+        line-next bs 0 so_far.lines so_far.place_is (some-read bs at r read)
+        ∙ ap (line_place bs 0) (add-one so_far.lines)
 
     pub next-behind : at < r.next
     next-behind = omega (arith, next-is, so_far.place_is, line_place-lt bs 0 so_far.lines)
 
-    pub walked_next : Walked bs r.next r.line
-    walked_next =
+    pub walked_next : Ok tt ≡ first_met (line_tests true goes before r.line) → Walked bs r.next r.line
+    walked_next good =
         let n = so_far.lines in
         record {
           lines = suc n;
           lines-le = line-there;
           place_is = next-is;
-          before-is = read-line bs 0 n at r so_far.place_is read line-passes;
+          before-is = line-says bs 0 n so_far.place_is (some-read bs at r read);
           no-fault =
               ap (first_fault_to (line_fault bs)) (sym (add-one n))
               ∙ first_fault_to-next (line_fault bs) n
-              ∙ and_then-both _ _ so_far.no-fault (sym line-found ∙ good);
+              ∙ and_then-both _ _ so_far.no-fault (sym (good ∙ asked));
         }
 
 -- behind the last line
@@ -149,7 +146,7 @@ module _ {bs : List ℕ} {at : ℕ} {before : Line} (so_far : Walked bs at befor
   pub end-decides : (found : Checked) → found ≡ first_met (end_tests before) → found ≡ lines_fault bs
   unfolding lines_fault
   end-decides found e =
-      let z : first_fault_to (line_fault bs) (lines_in bs) ≡ Good = rw (← walked_all) so_far.no-fault in
+      let z : first_fault_to (line_fault bs) (lines_in bs) ≡ (Ok tt) = rw (← walked_all) so_far.no-fault in
       e
       ∙ ap (λ b. first_met (end_tests b)) (so_far.before-is ∙ ap (line_before bs) walked_all)
       ∙ sym (rw z (and_then-last _))

@@ -13,7 +13,6 @@ use borrow.Author.Tests.{le-leb, lt-leb, eq-eqb, ne_eqb}
 use Rattle.sheet_line.specs.declared.Line.{Line}
 use Rattle.sheet_line.specs.declared.LineRead.{LineRead}
 use Rattle.sheet_line.specs.Line.{is_line}
-use Rattle.sheet_line.specs.Calls.{LineAt}
 use Rattle.sheet.specs.Lines.{line_place, line_from}
 use Rattle.sheet.specs.SheetRows.{row_ends, steps_from}
 use Rattle.sheet.specs.declared.rows.Run.{Run}
@@ -27,7 +26,7 @@ use Rattle.sheet.proofs.trip.PlaceLaws.{
   steps_from-inside,
   steps_from-is,
 }
-use Rattle.sheet.proofs.walk.ReadLaws.{read-line, read_next}
+use Rattle.sheet.proofs.walk.ReadLaws.{read_at, line-says, line-next}
 
 -- the lines of a row are lines
 pub row-stands : (bs : List ℕ) (at : ℕ) → RowStands bs at → LinesStand bs at (steps_from bs at)
@@ -55,15 +54,20 @@ module _ {bs : List ℕ} {at : ℕ} (stands : RowStands bs at) where
   next-inside n l =
       rw (add-one, line_place-next) (line-inside bs (line_place bs at n) (stands.are-lines n l))
 
-  pub run-one : (r : LineRead) → LineAt bs at r → RunSoFar bs at r.line 1 r.next
+  -- a line stands where the row begins
+  pub row-begins : is_line bs at ≡ true
+  row-begins =
+      ap (is_line bs) (sym (line_place-zero bs at))
+      ∙ stands.are-lines 0 (omega (arith, stands.inside, line_place-zero bs at))
+
+  pub run-one : (r : LineRead) → r ≡ read_at bs at → RunSoFar bs at r.line 1 r.next
   run-one r read =
       let e : at ≡ line_place bs at 0 = sym (line_place-zero bs at) in
       let inside : line_place bs at 0 < length bs = omega (arith, stands.inside) in
-      let there = stands.are-lines 0 inside in
-      let next = read_next bs at 0 at r e read there in
+      let next = line-next bs at 0 e read in
       record {
         least = omega arith;
-        first-is = read-line bs at 0 at r e read there;
+        first-is = line-says bs at 0 e read;
         next-is = next;
         next_le = omega (arith, next-inside 0 inside);
         going = λ k l. absurd (omega arith);
@@ -84,19 +88,19 @@ module _ {bs : List ℕ} {at : ℕ} (stands : RowStands bs at) where
     run_ends h = found (rw (le-leb (length bs) (line_place bs at steps) (rw so_far.next-is at h)))
 
     -- one line more
-    module _ (l : next < length bs) (r : LineRead) (read : LineAt bs next r) where
+    pub run-line : next < length bs → is_line bs next ≡ true
+    run-line l = ap (is_line bs) so_far.next-is ∙ stands.are-lines steps (rw so_far.next-is at l)
+
+    module _ (l : next < length bs) (r : LineRead) (read : r ≡ read_at bs next) where
       inside : line_place bs at steps < length bs
       inside = rw so_far.next-is at l
-
-      there : is_line bs (line_place bs at steps) ≡ true
-      there = stands.are-lines steps inside
 
       -- the row ends before it where its identifier is another
       ends_by : row_ends bs at steps ≡ not (eqb r.line.identifier first.identifier)
       ends_by =
           rw (
             lt-leb (length bs) (line_place bs at steps) inside,
-            ← read-line bs at steps next r so_far.next-is read there,
+            ← line-says bs at steps so_far.next-is read,
             ← so_far.first-is,
           )
 
@@ -104,7 +108,7 @@ module _ {bs : List ℕ} {at : ℕ} (stands : RowStands bs at) where
       run-differs h = found (ends_by ∙ rw (ne_eqb r.line.identifier first.identifier h))
 
       next_place : r.next ≡ line_place bs at (steps + 1)
-      next_place = read_next bs at steps next r so_far.next-is read there
+      next_place = line-next bs at steps so_far.next-is read
 
       pub next-behind : next < r.next
       next-behind =

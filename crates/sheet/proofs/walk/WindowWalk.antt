@@ -24,7 +24,7 @@ use Rattle.sheet.specs.Lines.{line_place, line_from}
 use Rattle.sheet.specs.LineFaults.{is_dash, is_limit}
 use Rattle.sheet.specs.SheetRows.{dashes_behind, window_by, windows_of, window_places}
 use Rattle.sheet.specs.inner.Narrow.{Marked, narrow_window}
-use Rattle.sheet.specs.inner.Walk.{LinesStand, limit_of, dashes_from, kept_windows}
+use Rattle.sheet.specs.inner.Walk.{LinesStand, dashes_from, kept_windows}
 use Rattle.sheet.proofs.trip.PlaceLaws.{line_place-add}
 use Rattle.sheet.proofs.marks.WindowLaws.{windows_of-well}
 
@@ -56,12 +56,6 @@ window_by-none : (mark : Mark) (j behind : ℕ) → is_limit mark ≡ false → 
 window_by-none Nothing j behind h = refl
 window_by-none Dash j behind h = refl
 window_by-none (Limit limit) j behind h = absurd (true-false true refl h)
-
-window_by-limit : (mark : Mark) (j behind : ℕ) → is_limit mark ≡ true
-    → window_by mark j behind ≡ record { first = shown j; last = shown j + behind; limit = limit_of mark } ∷ []
-window_by-limit Nothing j behind h = absurd (true-false false h refl)
-window_by-limit Dash j behind h = absurd (true-false false h refl)
-window_by-limit (Limit limit) j behind h = refl
 
 -- a window stored behind others
 window_places-stored : (ws window : List Window) (w : Window) → window ≡ window_places ws → length ws < most_windows
@@ -116,20 +110,21 @@ module _ (bs : List ℕ) (from count : ℕ) where
       (fun_ext (λ k. ap (λ at. not (is_dash (line_in bs at).mark)) (sym (line_place-add bs from (suc j) k))))
 
   -- the window that begins at line j, as it is kept
-  abbrev pub window_from : ℕ → Window
-  window_from j =
+  abbrev pub window_from : ℕ → ℕ → Window
+  window_from j limit =
       narrow_window
       (record {
         first = shown j;
         last = shown j + dashes_from bs (line_place bs from (j + 1)) (count - (j + 1));
-        limit = limit_of (mark j);
+        limit = limit;
       })
 
-  windows_to-limit : (j : ℕ) → is_limit (mark j) ≡ true → windows_to (j + 1) ≡ windows_to j ++ window_from j ∷ []
+  windows_to-limit : (j limit : ℕ) → mark j ≡ Limit limit
+      → windows_to (j + 1) ≡ windows_to j ++ window_from j limit ∷ []
   unfolding windows_at
-  windows_to-limit j h =
+  windows_to-limit j limit h =
       windows_to-next j
-      ∙ ap (λ ws. windows_to j ++ map narrow_window ws) (window_by-limit (mark j) j (dashes_behind mark count j) h)
+      ∙ ap (λ m. windows_to j ++ map narrow_window (window_by m j (dashes_behind mark count j))) h
       ∙ rw (← dashes-behind j, add-one)
 
   -- a row of at most eight lines has places for its windows
@@ -154,24 +149,24 @@ module _ (bs : List ℕ) (from count : ℕ) where
           sum_to-more (λ i. length (windows_at i)) j count l,
         )
 
-    pub windows_to-lt : (j : ℕ) → j < count → is_limit (mark j) ≡ true → length (windows_to j) < most_windows
-    windows_to-lt j l h =
+    pub windows_to-lt : (j limit : ℕ) → j < count → mark j ≡ Limit limit → length (windows_to j) < most_windows
+    windows_to-lt j limit l h =
         omega (
           arith,
           windows_to-le (j + 1) (omega arith),
-          ap length (windows_to-limit j h),
-          length-append (windows_to j) (window_from j ∷ []),
+          ap length (windows_to-limit j limit h),
+          length-append (windows_to j) (window_from j limit ∷ []),
         )
 
   -- one is stored
-  pub stored : (j : ℕ) → length (windows_to j) < most_windows → is_limit (mark j) ≡ true
+  pub stored : (j limit : ℕ) → length (windows_to j) < most_windows → mark j ≡ Limit limit
       → {n : ℕ} {window : List Window}
-      {w : Window} → n ≡ length (windows_to j) → window ≡ window_places (windows_to j) → w ≡ window_from j
+      {w : Window} → n ≡ length (windows_to j) → window ≡ window_places (windows_to j) → w ≡ window_from j limit
       → (n + 1 ≡ length (windows_to (j + 1))) × (set window n w ≡ window_places (windows_to (j + 1)))
-  stored j l h {n} {window} {w} count windows window-is = (
-    omega (arith, ap length (windows_to-limit j h), length-append (windows_to j) (window_from j ∷ [])),
+  stored j limit l h {n} {window} {w} count windows window-is = (
+    omega (arith, ap length (windows_to-limit j limit h), length-append (windows_to j) (window_from j limit ∷ [])),
     ap (λ n. set window n w) count
         ∙ window_places-stored (windows_to j) window w windows l
         ∙ ap (λ w. window_places (windows_to j ++ w ∷ [])) window-is
-        ∙ ap window_places (sym (windows_to-limit j h)),
+        ∙ ap window_places (sym (windows_to-limit j limit h)),
   )

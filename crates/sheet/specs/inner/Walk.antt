@@ -1,20 +1,18 @@
 -- What the walk over a sheet's lines asks and gives: the lines that stand from a place on, how many
 -- of them are a row's, and the parts of the row that they spell, cut to their fields.
-use Rattle.std.specs.Prelude.{ℕ, min, ◌<◌, Bool, true, not, ◌||◌, ◌&&◌, List, map, ◌≡◌, ltb, length}
+use Rattle.std.specs.Prelude.{ℕ, ◌<◌, Bool, true, not, ◌||◌, ◌&&◌, List, map, ◌≡◌, ltb, length}
 use Rattle.counting.specs.Lists.{filled}
 use Rattle.counting.specs.Searches.{first_to}
 use Rattle.load.specs.declared.Step.{Step}
 use Rattle.load.specs.declared.Window.{Window}
-use Rattle.load.specs.declared.Load.{Load}
-use Rattle.load.specs.Load.{most_rows, most_steps, no_step, zero_row}
+use Rattle.load.specs.Load.{most_steps, no_step}
 use Rattle.sheet_line.specs.declared.Mark.{Mark}
-use Rattle.sheet_line.specs.declared.Mark.TheVariants.{Nothing, Dash, Limit}
 use Rattle.sheet_line.specs.declared.Line.{Line}
 use Rattle.sheet_line.specs.Line.{is_line}
 use Rattle.sheet.specs.Lines.{line_place, line_from}
 use Rattle.sheet.specs.LineFaults.{is_dash, is_limit, is_same_row}
-use Rattle.sheet.specs.SheetRows.{steps_from, step_of, windows_of, row_place, rows_in}
-use Rattle.sheet.specs.inner.Narrow.{RowLines, narrow_step, narrow_window, kept_from}
+use Rattle.sheet.specs.SheetRows.{steps_from, step_of, windows_of}
+use Rattle.sheet.specs.inner.Narrow.{RowLines, narrow_step, narrow_window}
 
 -- so many lines stand from a place on
 pub record LinesStand (bs : List ℕ) (at count : ℕ) : Type 0 where
@@ -25,12 +23,6 @@ pub record RowStands (bs : List ℕ) (at : ℕ) : Type 0 where
   pub inside : at < length bs
   pub are-lines : (n : ℕ) → line_place bs at n < length bs → is_line bs (line_place bs at n) ≡ true
   pub row-lines : RowLines (line_from bs at) (steps_from bs at)
-
--- the limit that a mark is, and 0 where it is none
-abbrev pub limit_of : Mark → ℕ
-limit_of Nothing = 0
-limit_of Dash = 0
-limit_of (Limit limit) = limit
 
 -- the mark of a window's step, which a dash may follow
 abbrev pub is_window_mark : Mark → Bool
@@ -63,12 +55,3 @@ dashes_from bs at left = first_to (λ k. not (is_dash (line_from bs at k).mark))
 -- the windows of so many lines, cut to their fields
 unfoldable pub kept_windows : List ℕ → ℕ → ℕ → List Window
 kept_windows bs at count = map narrow_window (windows_of (λ j. (line_from bs at j).mark) count)
-
--- the first so many rows of a sheet, as they are kept
-abbrev pub kept_rows : List ℕ → ℕ → Load
-kept_rows bs n =
-    record { rows = n; row = filled (λ i. kept_from bs (row_place bs i)) n most_rows zero_row }
-
--- how many of them there are places for
-abbrev pub rows_kept : List ℕ → ℕ
-rows_kept bs = min (rows_in bs) most_rows

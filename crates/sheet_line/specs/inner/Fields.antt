@@ -1,5 +1,6 @@
 -- What the parts of line_at give: a field, the six fields of a line, and the mark behind them.
-use Rattle.std.specs.Prelude.{ℕ, ◌+◌, Bool, true, ◌&&◌, List, ◌≡◌, eqb}
+use Rattle.std.specs.Prelude.{ℕ, ◌+◌, Bool, cond, ◌&&◌, List, ◌≡◌, eqb}
+use Rattle.std.specs.Prelude.{Option, Some, None}
 use Rattle.counting.specs.Sums.{all_to}
 use Rattle.counting.specs.Lists.{list_to}
 use Rattle.words.specs.LittleEndian.{byte_at}
@@ -19,21 +20,27 @@ use Rattle.sheet_line.specs.Line.{
   behind_mark,
 }
 
--- whether a field stands at a place; where one does, its number, and the place behind its comma
-pub record FieldAt (bs : List ℕ) (place : ℕ) (r : Field) : Type 0 where
-  pub says : r.is_field ≡ is_field_at bs place
-  pub value : r.is_field ≡ true → r.value ≡ plain_value bs place
-  pub next : r.is_field ≡ true → r.next ≡ behind_digits bs place + 1
+-- the field at a place, where one stands there: its number, and the place behind its comma
+abbrev pub FieldAt : List ℕ → ℕ → Option Field → Type 0
+FieldAt bs place r =
+    r
+    ≡ cond
+    (is_field_at bs place)
+    (Some (record { value = plain_value bs place; next = behind_digits bs place + 1 }))
+    None
 
 -- the first n numbers of a line stand there, each with its comma
 abbrev pub fields_to : List ℕ → ℕ → ℕ → Bool
 fields_to bs at n = all_to (λ k. is_field_at bs (field_place bs at k)) n
 
--- whether six do; where they do, what they are, and the place behind them
-pub record FieldsAt (bs : List ℕ) (at : ℕ) (r : Fields) : Type 0 where
-  pub says : r.are_fields ≡ fields_to bs at numbers
-  pub are : r.are_fields ≡ true → r.values ≡ list_to (field_in bs at) numbers
-  pub next : r.are_fields ≡ true → r.next ≡ mark_place bs at
+-- six do: what they are, and the place behind them
+abbrev pub FieldsAt : List ℕ → ℕ → Option Fields → Type 0
+FieldsAt bs at r =
+    r
+    ≡ cond
+    (fields_to bs at numbers)
+    (Some (record { values = list_to (field_in bs at) numbers; next = mark_place bs at }))
+    None
 
 -- the mark at a place, and the place behind it
 abbrev pub MarkReadAt : List ℕ → ℕ → MarkRead → Type 0

@@ -1,6 +1,6 @@
--- `words::bytes32` gives the four lowest bytes: those of the lower half, and behind them those of the upper half.
+-- `words::bytes32` gives std's bytes: each counts as many times 256 as the definition divides by 256.
+use Prim.Native.Nat.{◌/◌}
 use mathlib.Core.Path.{◌≡◌}
-use Prim.Native.Nat.{◌/◌, ◌%◌}
 use native.Mathlib.Omega.{arith}
 use Rattle.words.specs.LittleEndian.{little_endian}
 use Rattle.words.proofs.bytes32.Goals as goal
@@ -9,8 +9,6 @@ pub returns : goal.returns
 unfolding little_endian
 returns c =
     let n = c.args.number in
-    let first : n % 65536 % 256 ≡ n % 256 = omega arith in
-    let upper : n / 65536 ≡ n / 256 / 256 = omega arith in
-    let lower : n % 65536 / 256 ≡ n / 256 % 256 = omega arith in
-    let second : n % 65536 / 256 % 256 ≡ n / 256 % 256 = omega arith in
-    rw (c.bytes16-low.ensures, c.bytes16-high.ensures, first, second, upper)
+    let third : n / 256 / 256 ≡ n / 65536 = omega arith in
+    let fourth : n / 65536 / 256 ≡ n / 16777216 = omega arith in
+    rw (third, fourth) c.to_le_bytes.ensures

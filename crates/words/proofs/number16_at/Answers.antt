@@ -1,13 +1,13 @@
--- `words::number16_at` counts the two bytes where they are all there. Else it counts the two first of the bytes from
--- the place on, those past the end as 0.
+-- `words::number16_at` takes two bytes, and std counts them by their weights.
+use mathlib.Core.Path.{◌≡◌, ◌∙◌}
 use native.Mathlib.Omega.{arith}
 use Rattle.words.specs.LittleEndian.{number_at}
-use Rattle.words.proofs.LittleEndianLaws.{number_at-first}
+use Rattle.words.proofs.LittleEndianLaws.{number_at-taken}
 use Rattle.words.proofs.number16_at.Goals as goal
-use Rattle.words.proofs.number16_at.Goals.{After-bytes_from-rest}
 
 pub returns : goal.returns
 unfolding number_at
 returns c =
-    let a = (goal.at.returns c).After-bytes_from-rest in
-    omega (arith, number_at-first 2 _ _ a.args.at a.bytes_from-rest.ensures)
+    let taken = c.bytes_at.result in
+    let weights : c.from_le_bytes.result ≡ number_at 2 taken 0 = omega (arith, c.from_le_bytes.ensures) in
+    weights ∙ number_at-taken 2 c.args.bytes.now taken c.args.at c.bytes_at.ensures

@@ -1,48 +1,29 @@
 -- `steps_of` adds one row's steps a turn: at i it has those of the first i rows.
-use Prim.Native.Nat.{ℕ, ◌+◌, ◌≤◌}
-use mathlib.Core.Path.{◌≡◌, ap, ap₂, sym, ◌∙◌}
-use native.Mathlib.Omega.{arith}
-use borrow.Author.Rules.{rules}
-use Rattle.counting.specs.Sums.{sum_to}
+use Rattle.std.proofs.Common.{arith, ◌≡◌, ◌≤◌, ◌<◌, ◌+◌, sym, ◌∙◌, take, get_or, length-take}
+use mathlib.Core.Path.{ap₂}
+use lib.Seq.{get_or-take}
 use Rattle.counting.specs.Lists.{member_at}
 use Rattle.counting.proofs.sums.SumLaws.{sum_to-zero, sum_to-next}
-use Rattle.plan.specs.Boards.{numbers_from}
-use Rattle.plan.proofs.BoardLaws.{numbers_from-at}
 use Rattle.bench.proofs.boards.steps_of.Goals as goal
-use Rattle.bench.proofs.boards.steps_of.Goals.{In-loop-i, In-loop-i}
+use Rattle.bench.proofs.boards.steps_of.Goals.{In-loop-steps}
 
 -- what a turn adds
-module _ (c : In-loop-i) where
-  abbrev here : ℕ
-  here = member_at c.args.counts.now (24 + c.loop-i.i)
+module _ (c : In-loop-steps) where
+  below : c.loop-steps.steps-index < c.args.rows
+  below = omega (arith, c.loop-steps-test.true, length-take c.args.rows c.args.board.now.steps)
 
-  here-is : member_at (numbers_from c.args.counts.now 24) c.loop-i.i ≡ here
-  here-is =
-      numbers_from-at c.args.counts.now 24 c.loop-i.i
-      (omega (arith, c.loop-i-test.true, c.requires.0))
+  here-is : get_or (take c.args.rows c.args.board.now.steps) c.loop-steps.steps-index 0
+      ≡ member_at c.args.board.now.steps c.loop-steps.steps-index
+  here-is = get_or-take c.args.rows c.args.board.now.steps c.loop-steps.steps-index 0 below
 
-  here-most : here ≤ 8
-  here-most = omega (arith, here-is, c.requires.1 c.loop-i.i c.loop-i-test.true)
+  here-most : member_at c.args.board.now.steps c.loop-steps.steps-index ≤ 8
+  here-most = c.requires.1 c.loop-steps.steps-index below
 
-pub loop-i-preserved : goal.loop-i-preserved
-loop-i-preserved c =
-    let here = (goal.at.loop-i-preserved c).In-loop-i in
-    let inv = c.loop-i.invariant in (
-      search rules,
-      ap₂ ◌+◌ inv.1 (sym (here-is here)) ∙ sym (sum_to-next _ _),
-      omega (arith, here-most here, inv.2),
-    )
+pub loop-steps-init : goal.loop-steps-init
+loop-steps-init c = (sym (sum_to-zero _), omega arith)
 
-pub returns : goal.returns
-returns c =
-    let e : c.loop-i.i ≡ c.args.rows = omega arith in
-    c.loop-i.invariant.1 ∙ ap (sum_to (member_at (numbers_from c.args.counts.now 24))) e
-
-pub loop-i-init : goal.loop-i-init
-loop-i-init c = (search rules, sym (sum_to-zero _), search rules)
-
-pub overflow_cast-sum : goal.overflow_cast-sum
-overflow_cast-sum c = omega (arith, here-most (goal.at.overflow_cast-sum c).In-loop-i)
-
-pub overflow_add-sum-in-loop-i : goal.overflow_add-sum-in-loop-i
-overflow_add-sum-in-loop-i c = omega (arith, here-most (goal.at.overflow_add-sum-in-loop-i c).In-loop-i, c.requires.0)
+pub loop-steps-preserved : goal.loop-steps-preserved
+loop-steps-preserved c =
+    let at = (goal.at.loop-steps-preserved c).In-loop-steps in
+    let inv = c.loop-steps.invariant in
+    (ap₂ ◌+◌ inv.0 (here-is at) ∙ sym (sum_to-next _ _), omega (arith, here-is at, here-most at, inv.1))

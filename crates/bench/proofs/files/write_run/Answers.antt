@@ -5,141 +5,88 @@ use mathlib.Core.Path.{ap, sym, ◌∙◌, ◌≡◌, refl}
 use native.Mathlib.Omega.{arith}
 use borrow.Author.Rules.{rules}
 use lib.Seq.{sets}
-use lib.ListN.{length, length-set}
-use Rattle.refusals.specs.declared.Checked.TheVariants.{Good}
+use lib.ListN.{length}
+use Rattle.std.specs.Prelude.{Ok}
+use Rattle.refusals.proofs.PassedOn.{passed_on}
 use Rattle.load.specs.View.{view_of}
-use Rattle.load.specs.Load.{row_at}
 use Rattle.load.specs.Check.{check_load}
 use Rattle.load_file.proofs.CallLaws.{ReadLoad-accepted}
 use Rattle.rules.specs.Run.{schedule}
-use Rattle.rules.specs.State.{fresh}
-use Rattle.plan.specs.Looks.{look_by}
-use Rattle.plan.specs.Boards.{board_in}
 use Rattle.schedule_file.specs.ScheduleFile.{slot_record}
-use Rattle.schedule_file.proofs.ArrayLaws.{records-next, records_of-zero}
-use Rattle.bench.specs.Held.{bench_of}
-use Rattle.bench.specs.inner.Boards.{Shows}
-use Rattle.bench.proofs.shown.CheckedLaws.{checked-rows, checked-steps}
-use Rattle.bench.proofs.shown.ShownRows.{shown-next, shows-all, fresh-looked, fresh-steps, fresh-opening, classes-next}
-use Rattle.bench.proofs.shown.PutLaws.{board_in-wide, put-renewed, put-placed}
+use Rattle.schedule_file.proofs.RecordLaws.{records-next, records_of-zero}
+use Rattle.bench.proofs.shown.CheckedLaws.{checked-rows}
 use Rattle.bench.proofs.running.FileRuns.{written-run, unread-run, short-run}
-use Rattle.bench.proofs.running.RunningLaws.{steps-counted, running-fresh}
+use Rattle.bench.proofs.running.RunningLaws.{fresh-shaped, steps-counted, running-fresh}
 use Rattle.bench.proofs.running.StartedRun.{NextUp, next_up}
 use Rattle.bench.proofs.files.write_run.Goals as goal
-use Rattle.bench.proofs.files.write_run.Goals.{In_default, After-loop-i, After-next_start-next}
+use Rattle.bench.proofs.files.write_run.Goals.{In_ok-load, After-next_start-next}
 
-pub returns-in-Refused : goal.returns-in-Refused
-returns-in-Refused c = unread-run _ _ c.read_load-read.result c.read_load-read.ensures _ c.in-Refused.is
+pub returns-in_err-load : goal.returns-in_err-load
+returns-in_err-load c =
+    rw (passed_on _ _ c.from_residual.ensures.1) (unread-run _ _ _ c.in_err-load.ensures)
 
 -- the file was read
-accepted : (c : In_default) → check_load c.read_load-read.result.load ≡ Good
-accepted c =
-    ReadLoad-accepted _ _ c.read_load-read.ensures (λ at. grind arith) c.in_default.is
+accepted : (c : In_ok-load) → check_load c.in_ok-load.load ≡ Ok tt
+accepted c = ReadLoad-accepted _ _ c.in_ok-load.ensures (λ at. grind arith)
 
-pub loop-i-init : goal.loop-i-init
-loop-i-init c = (
-  search rules,
-  record { counts-length = refl; lengths-length = refl; moments-length = refl },
-  λ k l. absurd (omega arith),
-  refl,
-  λ k l. absurd (omega arith),
-)
-
-pub offset_bounds-load-i : goal.offset_bounds-load-i
-offset_bounds-load-i c =
-    omega (arith, c.loop-i-test.true, checked-rows _ (accepted (goal.at.offset_bounds-load-i c).In_default))
-
-pub bounds-load-i : goal.bounds-load-i
-bounds-load-i c = omega (arith, c.loop-i-test.true, checked-rows _ (accepted (goal.at.bounds-load-i c).In_default))
-
-pub bounds-classes-i : goal.bounds-classes-i
-bounds-classes-i c =
-    omega (arith, c.loop-i-test.true, checked-rows _ (accepted (goal.at.bounds-classes-i c).In_default))
-
-pub loop-i-preserved : goal.loop-i-preserved
-loop-i-preserved c =
-    let file = c.read_load-read.result.load in
-    let ok = accepted (goal.at.loop-i-preserved c).In_default in
-    let inv = c.loop-i.invariant in
-    let i = c.loop-i.i in
-    let steps = checked-steps file ok i c.loop-i-test.true in
-    let place : i < 24 = omega (arith, c.loop-i-test.true, checked-rows file ok) in
-    let put = c.fresh_row.ensures in
-    let look = look_by (row_at file i) 0 0 0 in (
-      omega (arith, c.loop-i-test.true),
-      put-placed _ _ _ i look _ _ _ put place inv.1,
-      shown-next file (bench_of fresh) _ _ i look place (put-renewed _ _ _ i look _ _ _ put place inv.1 look
-          refl) inv.2
-          (fresh-looked file i steps) (fresh-steps file i steps) (fresh-opening file i steps),
-      length-set c.loop-i.classes i _ ∙ inv.3,
-      classes-next file c.loop-i.classes i (omega (arith, place, inv.3)) inv.4,
-    )
-
--- every row was looked up
-shows : (c : After-loop-i)
-    → Shows c.read_load-read.result.load (bench_of fresh) (board_in c.loop-i.counts c.loop-i.lengths c.loop-i.moments)
-shows c =
-    shows-all _ _ _ (board_in-wide _ _ _) (λ k l. c.loop-i.invariant.2 k (omega (arith, c.loop-i-test.false)))
+pub fill_board-requires : goal.fill_board-requires
+fill_board-requires c =
+    let ok = accepted (goal.at.fill_board-requires c).In_ok-load in
+    record { load_value = ok; bench_value = rw c.fresh.ensures (fresh-shaped _ ok (checked-rows _ ok)) }
 
 pub steps_of-steps-requires : goal.steps_of-steps-requires
 steps_of-steps-requires c = (
-  checked-rows _ (accepted (goal.at.steps_of-steps-requires c).In_default),
-  (shows (goal.at.steps_of-steps-requires c).After-loop-i).steps-most,
+  checked-rows _ (accepted (goal.at.steps_of-steps-requires c).In_ok-load),
+  c.fill_board.ensures.shows.steps-most,
 )
 
-pub returns-in-Refused-room : goal.returns-in-Refused-room
-returns-in-Refused-room c =
-    let file = c.read_load-read in
-    let ok = accepted (goal.at.returns-in-Refused-room c).In_default in
-    let all = shows (goal.at.returns-in-Refused-room c).After-loop-i in
-    short-run _ _ file.result file.ensures c.in_default.is ok _
-    (c.steps_of-steps.ensures ∙ steps-counted _ ok (checked-rows _ ok) _ _ all) _
-    (sym c.check_room-room.ensures ∙ c.in-Refused-room.is)
+pub returns-in_err-check_room : goal.returns-in_err-check_room
+returns-in_err-check_room c =
+    let ok = accepted (goal.at.returns-in_err-check_room c).In_ok-load in
+    rw (passed_on _ _ c.from_residual-in_err-check_room.ensures.1)
+    (short-run _ _ _ c.in_ok-load.ensures ok _
+    (c.steps_of-steps.ensures ∙ steps-counted _ ok (checked-rows _ ok) _ _ c.fill_board.ensures.shows) _
+    (sym c.in_err-check_room.ensures))
 
 pub loop-k-init : goal.loop-k-init
 loop-k-init c =
-    let ok = accepted (goal.at.loop-k-init c).In_default in (
+    let ok = accepted (goal.at.loop-k-init c).In_ok-load in (
       search rules,
       refl,
       rw records_of-zero,
-      c.loop-i.invariant.1,
-      running-fresh _ ok (checked-rows _ ok) _ _ refl (shows (goal.at.loop-k-init c).After-loop-i),
+      running-fresh _ ok (checked-rows _ ok) _ _ c.fresh.ensures c.fill_board.ensures.shows,
     )
 
 -- the next start is looked for
 module _ (c : After-next_start-next) where
-  ok : check_load c.read_load-read.result.load ≡ Good
-  ok = ReadLoad-accepted _ _ c.read_load-read.ensures (λ at. grind arith) c.in_default.is
+  ok : check_load c.in_ok-load.load ≡ Ok tt
+  ok = ReadLoad-accepted _ _ c.in_ok-load.ensures (λ at. grind arith)
 
-  less : c.loop-k.k < length (schedule (view_of c.read_load-read.result.load))
+  less : c.loop-k.k < length (schedule (view_of c.in_ok-load.load))
   less =
-      let all = shows-all _ _ _ (board_in-wide _ _ _)
-      (λ k l. c.loop-i.invariant.2 k (omega (arith, c.loop-i-test.false))) in
-      omega (arith, c.loop-k-test.true, c.steps_of-steps.ensures ∙ steps-counted _ ok (checked-rows _ ok) _ _ all)
+      let counted = steps-counted _ ok (checked-rows _ ok) _ _ c.fill_board.ensures.shows in
+      omega (arith, c.loop-k-test.true, c.steps_of-steps.ensures ∙ counted)
 
-  up : NextUp c.read_load-read.result.load (board_in c.loop-k.counts c.loop-k.lengths c.loop-k.moments) c.loop-k.k
+  up : NextUp c.in_ok-load.load c.loop-k.board c.loop-k.k
       c.next_start-next.result
   up =
-      next_up c.read_load-read.result.load ok (checked-rows _ ok) (board_in _ _ _) _ _ c.loop-k.invariant.4 less
-      _ (λ k l. c.loop-i.invariant.4 k (omega (arith, c.loop-i-test.false))) c.next_start-next.result
+      next_up c.in_ok-load.load ok (checked-rows _ ok) _ _ _ c.loop-k.invariant.3 less
+      _ c.fill_board.ensures.classes_of c.next_start-next.result
       c.next_start-next.ensures
 
-pub offset_bounds-load-i-in-loop-k : goal.offset_bounds-load-i-in-loop-k
-offset_bounds-load-i-in-loop-k c =
-    let at = (goal.at.offset_bounds-load-i-in-loop-k c).After-next_start-next in
+pub offset_bounds-load-i : goal.offset_bounds-load-i
+offset_bounds-load-i c =
+    let at = (goal.at.offset_bounds-load-i c).After-next_start-next in
     omega (arith, (up at).row_is, checked-rows _ (ok at))
 
-pub bounds-load-i-in-loop-k : goal.bounds-load-i-in-loop-k
-bounds-load-i-in-loop-k c =
-    let at = (goal.at.bounds-load-i-in-loop-k c).After-next_start-next in
+pub bounds-load-i : goal.bounds-load-i
+bounds-load-i c =
+    let at = (goal.at.bounds-load-i c).After-next_start-next in
     omega (arith, (up at).row_is, checked-rows _ (ok at))
 
 pub start_row-started-requires : goal.start_row-started-requires
 start_row-started-requires c =
-    record {
-      can_start = (up (goal.at.start_row-started-requires c).After-next_start-next).can;
-      placed = c.loop-k.invariant.3;
-    }
+    (up (goal.at.start_row-started-requires c).After-next_start-next).can
 
 pub overflow_mul-k : goal.overflow_mul-k
 overflow_mul-k c = omega (arith, (up (goal.at.overflow_mul-k c).After-next_start-next).room)
@@ -158,12 +105,11 @@ loop-k-preserved c =
     let inv = c.loop-k.invariant in (
       omega (arith, c.loop-k-test.true),
       c.overwrite-in-loop-k.auto.out ∙ inv.1,
-      records-next (schedule (view_of c.read_load-read.result.load)) _ _ _ _ c.loop-k.k
+      records-next (schedule (view_of c.in_ok-load.load)) _ _ _ _ c.loop-k.k
           (less at) inv.2
-          (c.slot_record-record.ensures ∙ ap slot_record (started.row_started.slot_is ∙ next.slot_is))
+          (c.slot_record-record.ensures ∙ ap slot_record (started.slot_is ∙ next.slot_is))
           c.overwrite-in-loop-k.ensures,
-      started.placed_2,
-      next.on _ _ started.row_started,
+      next.on _ _ started,
     )
 
 pub shape_of-out : goal.shape_of-out
@@ -172,11 +118,10 @@ shape_of-out c = c.loop-k.invariant.1 ∙ c.overwrite.auto.out
 pub returns : goal.returns
 returns c =
     let at = goal.at.returns c in
-    let ok = accepted at.In_default in
-    let file = c.read_load-read in
+    let ok = accepted at.In_ok-load in
     let inv = c.loop-k.invariant in
-    written-run _ _ file.result file.ensures c.in_default.is ok _
-    (c.steps_of-steps.ensures ∙ steps-counted _ ok (checked-rows _ ok) _ _ (shows at.After-loop-i)) _ _ c.loop-k.k
-    (sym c.check_room-room.ensures ∙ c.in_default-room.is)
+    written-run _ _ _ c.in_ok-load.ensures ok _
+    (c.steps_of-steps.ensures ∙ steps-counted _ ok (checked-rows _ ok) _ _ c.fill_board.ensures.shows) _ _ c.loop-k.k
+    (sym c.in_ok-check_room.ensures)
     (omega (arith, inv.0, c.loop-k-test.false))
     (c.overwrite.ensures ∙ ap (sets _ 0) c.head_record.ensures) inv.2

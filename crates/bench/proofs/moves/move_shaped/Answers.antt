@@ -10,7 +10,6 @@ use Prim.Native.Nat.{◌≤◌}
 use mathlib.Core.Path.{◌≡◌, sym, ◌∙◌}
 use Rattle.load.specs.View.{view_of}
 use Rattle.rules.specs.Move.{all_finished}
-use Rattle.plan.specs.Boards.{board_in}
 use Rattle.bench.specs.Held.{state_of, HeldBench}
 use Rattle.bench.proofs.shown.CheckedLaws.{checked-rows, shaped-clock}
 use Rattle.bench.proofs.choice.NextLaws.{full-move, finished-is, done-move}
@@ -39,14 +38,14 @@ asked : (c : After-all_finished) → HeldBench c.args.bench → c.args.load.rows
     → c.all_finished.result ≡ all_finished (view_of c.args.load) (state_of c.args.bench)
 asked c held few =
     c.all_finished.ensures
-    ∙ finished-is c.args.load c.args.bench (board_in _ _ _) c.fill_board.ensures.shows held few
+    ∙ finished-is c.args.load c.args.bench _ c.fill_board.ensures.shows held few
 
 pub returns-then-all_finished : goal.returns-then-all_finished
 returns-then-all_finished c =
     let at = goal.at.returns-then-all_finished c in
     c.handed.ensures
     ∙ sym
-    (done-move c.args.load c.args.bench (board_in _ _ _) c.fill_board.ensures.shows
+    (done-move c.args.load c.args.bench _ c.fill_board.ensures.shows
     (size at.Start) (rows-most at.Start) c.requires.bench_value
     (sym (asked at.After-all_finished (size at.Start) (rows-most at.Start)) ∙ c.if-all_finished.true))
 
@@ -97,10 +96,8 @@ returns c =
     (record {
       row = c.chosen_row-i.result;
       chosen = c.chosen_row-i.ensures;
-      starts = λ l. handed-start _ _ _ _ _ _ _ _ _ _ _ _ (place at.Else-rows-i (rows-most at.Start))
-          c.fill_board.ensures.placed_2.counts-length
-          c.look_at-look.ensures c.opening_after-opening.ensures refl c.slot_of-slot.ensures
-          c.start-next.ensures c.handed-2.ensures;
+      starts = λ l. handed-start _ _ _ _ _ _ _ _ _ _ c.look_at-look.ensures c.opening_after-opening.ensures refl
+          c.slot_of-slot.ensures c.start-next.ensures c.handed-2.ensures;
       idles = λ l. absurd (omega (arith, row_is at.Else-rows-i));
     })
 
@@ -109,8 +106,6 @@ fill_board-requires c =
     record {
       load_value = c.requires.load_value;
       bench_value = c.requires.bench_value;
-      placed = record { counts-length = refl; lengths-length = refl; moments-length = refl };
-      classes_len = refl;
     }
 
 pub all_finished-requires : goal.all_finished-requires
@@ -129,15 +124,10 @@ pub handed-requires-then-rows-i : goal.handed-requires-then-rows-i
 handed-requires-then-rows-i c =
     rows-most (goal.at.handed-requires-then-rows-i c).Start
 
-pub overflow_add-counts : goal.overflow_add-counts
-overflow_add-counts c =
-    let at = goal.at.overflow_add-counts c in
-    omega (arith, place at.Else-rows-i (rows-most at.Start))
-
-pub bounds-counts-i : goal.bounds-counts-i
-bounds-counts-i c =
-    let at = goal.at.bounds-counts-i c in
-    omega (arith, place at.Else-rows-i (rows-most at.Start))
+pub bounds-board-i : goal.bounds-board-i
+bounds-board-i c =
+    let at = goal.at.bounds-board-i c in
+    place at.Else-rows-i (rows-most at.Start)
 
 pub slot_of-slot-requires : goal.slot_of-slot-requires
 slot_of-slot-requires c =

@@ -1,14 +1,13 @@
 -- `run_checked` makes one start a turn. What holds at every turn is `Running`: the slots so far are the first of the
 -- schedule, and with fewer than the schedule has, work is left and there is a next start.
 use Prim.Native.Nat.{◌<◌}
-use mathlib.Core.Path.{refl, sym, ◌∙◌}
+use mathlib.Core.Path.{sym, ◌∙◌}
 use native.Mathlib.Omega.{arith}
 use borrow.Author.Rules.{rules}
 use Rattle.counting.proofs.lists.ListLaws.{filled_none, filled-stored}
 use Rattle.load.specs.View.{view_of}
 use Rattle.rules.specs.Slots.{no_slot, slot_places, slot_at}
 use Rattle.rules.specs.Run.{schedule}
-use Rattle.plan.specs.Boards.{board_in}
 use Rattle.bench.proofs.shown.CheckedLaws.{checked-rows}
 use Rattle.bench.proofs.running.RunningLaws.{fresh-shaped, steps-counted, running-fresh, running-done}
 use Rattle.bench.proofs.running.StartedRun.{NextUp, next_up}
@@ -20,8 +19,6 @@ fill_board-requires c =
     let ok = c.requires in record {
       load_value = ok;
       bench_value = rw c.fresh.ensures (fresh-shaped _ ok (checked-rows _ ok));
-      placed = record { counts-length = refl; lengths-length = refl; moments-length = refl };
-      classes_len = refl;
     }
 
 pub steps_of-steps-requires : goal.steps_of-steps-requires
@@ -36,18 +33,17 @@ loop-k-init c =
     let shows = c.fill_board.ensures.shows in (
       search rules,
       c.steps_of-steps.ensures ∙ steps-counted load ok most _ _ shows,
-      c.fill_board.ensures.placed_2,
       running-fresh load ok most _ _ c.fresh.ensures shows,
       sym (filled_none (slot_at (schedule (view_of load))) slot_places no_slot),
     )
 
 -- the next start is looked for
 module _ (c : After-next_start-next) where
-  up : NextUp c.args.load (board_in c.loop-k.counts c.loop-k.lengths c.loop-k.moments) c.loop-k.k
+  up : NextUp c.args.load c.loop-k.board c.loop-k.k
       c.next_start-next.result
   up =
       let inv = c.loop-k.invariant in
-      next_up c.args.load c.requires (checked-rows c.args.load c.requires) (board_in _ _ _) _ _ inv.3
+      next_up c.args.load c.requires (checked-rows c.args.load c.requires) _ _ _ inv.2
       (omega (arith, c.loop-k-test.true, inv.1)) _ c.fill_board.ensures.classes_of c.next_start-next.result
       c.next_start-next.ensures
 
@@ -61,17 +57,16 @@ loop-k-preserved c =
     let started = c.start_row-started.ensures in (
       search rules,
       inv.1,
-      started.placed_2,
-      next.on _ _ started.row_started,
-      filled-stored (slot_at (schedule (view_of c.args.load))) _ slot_places no_slot _ _ inv.4
-          (started.row_started.slot_is ∙ next.slot_is) (omega (arith, next.room)),
+      next.on _ _ started,
+      filled-stored (slot_at (schedule (view_of c.args.load))) _ slot_places no_slot _ _ inv.3
+          (started.slot_is ∙ next.slot_is) (omega (arith, next.room)),
     )
 
 pub returns : goal.returns
 returns c =
     let inv = c.loop-k.invariant in
     running-done c.args.load c.requires (checked-rows c.args.load c.requires) _ _ _
-    (omega (arith, inv.0, c.loop-k-test.false)) inv.1 inv.4
+    (omega (arith, inv.0, c.loop-k-test.false)) inv.1 inv.3
 
 pub offset_bounds-load-i : goal.offset_bounds-load-i
 offset_bounds-load-i c = omega (arith, place (goal.at.offset_bounds-load-i c).After-next_start-next)
@@ -81,10 +76,7 @@ bounds-load-i c = place (goal.at.bounds-load-i c).After-next_start-next
 
 pub start_row-started-requires : goal.start_row-started-requires
 start_row-started-requires c =
-    record {
-      can_start = (up (goal.at.start_row-started-requires c).After-next_start-next).can;
-      placed = c.loop-k.invariant.2;
-    }
+    (up (goal.at.start_row-started-requires c).After-next_start-next).can
 
 pub offset_bounds-slots-k : goal.offset_bounds-slots-k
 offset_bounds-slots-k c = omega (arith, (up (goal.at.offset_bounds-slots-k c).After-next_start-next).room)

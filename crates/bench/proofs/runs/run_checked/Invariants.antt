@@ -7,8 +7,6 @@ use Rattle.counting.specs.Lists.{filled}
 use Rattle.load.specs.View.{view_of}
 use Rattle.rules.specs.Slots.{no_slot, slot_places, slot_at}
 use Rattle.rules.specs.Run.{schedule}
-use Rattle.plan.specs.Boards.{board_in}
-use Rattle.bench.specs.inner.Boards.{Placed}
 use Rattle.bench.proofs.running.RunningLaws.{Running}
 use Rattle.bench.proofs.runs.run_checked.Given as goal
 
@@ -16,8 +14,7 @@ abbrev pub invariant-loop-k : goal.invariant-loop-k
 invariant-loop-k l =
     (l.k ≤ l.steps)
     × (l.steps ≡ length (schedule (view_of l.load)))
-    × Placed l.counts l.lengths l.moments
-    × Running l.load (board_in l.counts l.lengths l.moments) l.clock l.k
+    × Running l.load l.board l.clock l.k
     × (l.slots ≡ filled (slot_at (schedule (view_of l.load))) l.k slot_places no_slot)
 
 abbrev pub decreases-loop-k : goal.decreases-loop-k

@@ -18,7 +18,7 @@ use Rattle.bound.proofs.blames.blames_by.Goals.{In-loop-i}
 
 -- the load, and the row's place, of a turn
 abbrev load : In-loop-i → Load
-load c = c.args.load
+load c = c.args.load.now
 
 abbrev place : In-loop-i → ℕ
 place c = c.loop-i.i
@@ -29,7 +29,7 @@ steps c = accepted-steps (load c) c.requires.0 (place c) (omega arith)
 
 -- the blame that is read is the row's
 read : (c : In-loop-i)
-    → get_or c.args.cut ((row_at (load c) (place c)).steps - 1) nobody
+    → get_or c.args.cut.now ((row_at (load c) (place c)).steps - 1) nobody
     ≡ row_blame (view_of (load c)) (place c)
 unfolding view_of
 read c =
@@ -42,7 +42,7 @@ read c =
 pub loop-i-init : goal.loop-i-init
 loop-i-init c = (
   search rules,
-  accepted-few c.args.load c.requires.0,
+  accepted-few c.args.load.now c.requires.0,
   sym (filled_none _ 24 nobody),
 )
 
@@ -59,17 +59,17 @@ loop-i-preserved c =
 pub returns : goal.returns
 unfolding blames view_of
 returns c =
-    let load = c.args.load in
+    let load = c.args.load.now in
     let e : c.loop-i.i ≡ load.rows = omega arith in
     c.loop-i.invariant.2
     ∙ ap (λ i. filled (row_blame (view_of load)) i 24 nobody) e
     ∙ filled-list_to (row_blame (view_of load)) load.rows 24 nobody (omega arith)
 
-pub overflow_sub-k : goal.overflow_sub-k
-overflow_sub-k c = (steps (goal.at.overflow_sub-k c).In-loop-i).0
+pub overflow_sub-blames : goal.overflow_sub-blames
+overflow_sub-blames c = (steps (goal.at.overflow_sub-blames c).In-loop-i).0
 
-pub offset_bounds-cut-k : goal.offset_bounds-cut-k
-offset_bounds-cut-k c = omega (arith, steps (goal.at.offset_bounds-cut-k c).In-loop-i)
+pub offset_bounds-cut-load : goal.offset_bounds-cut-load
+offset_bounds-cut-load c = omega (arith, steps (goal.at.offset_bounds-cut-load c).In-loop-i)
 
-pub bounds-cut-k : goal.bounds-cut-k
-bounds-cut-k c = omega (arith, steps (goal.at.bounds-cut-k c).In-loop-i)
+pub bounds-cut-load : goal.bounds-cut-load
+bounds-cut-load c = omega (arith, steps (goal.at.bounds-cut-load c).In-loop-i)

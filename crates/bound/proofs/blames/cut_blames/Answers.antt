@@ -1,9 +1,8 @@
 -- `cut_blames` looks at one place a turn, keeps the worst so far, and stores it for the next number of steps.
-use Prim.Native.Nat.{◌+◌, ◌-◌}
+use Prim.Native.Nat.{◌+◌}
 use mathlib.Core.List.{List}
 use mathlib.Core.Path.{◌≡◌, sym, ◌∙◌, ap}
 use native.Mathlib.Omega.{arith}
-use borrow.Author.Rules.{rules}
 use lib.ListN.{replicate}
 use Rattle.counting.specs.Sums.{max_to}
 use Rattle.counting.specs.Lists.{filled}
@@ -25,40 +24,39 @@ first places =
 
 pub loop-k-init : goal.loop-k-init
 loop-k-init c =
-    let places = c.args.places in
-    (search rules, search rules, sym (max_to-zero _), blame_among-zero (place_in places), first places)
+    let places = c.args.places.now in
+    record { largest = sym (max_to-zero _); blamed = blame_among-zero (place_in places); stored = first places }
 
 pub loop-k-preserved : goal.loop-k-preserved
 loop-k-preserved c =
     let loop = c.loop-k in
-    let places = c.args.places in
-    let e : loop.k + 1 - 1 ≡ loop.k = omega arith in
-    let now : (c.if-most-place.most ≡ max_to (λ j. (place_in places j).left) loop.k)
-    × (c.if-most-place.worst ≡ blame_among (place_in places) loop.k) =
+    let places = c.args.places.now in
+    let now : (c.if-most-place.most ≡ max_to (λ j. (place_in places j).left) (loop.k + 1))
+    × (c.if-most-place.worst ≡ blame_among (place_in places) (loop.k + 1)) =
     elim c.if-most-place.branch [
       | then-most-place w ↦
-          let turn = worse-turn places loop.k loop.most loop.invariant.0 loop.invariant.2 w.if-most-place.true in
+          let turn = worse-turn places loop.k loop.most loop.invariant.largest w.if-most-place.true in
           (w.most-is ∙ turn.0, w.worst-is ∙ turn.1)
       | else-most-place w ↦
           let turn =
-          other-turn places loop.k loop.most loop.invariant.0 loop.invariant.2 loop.worst loop.invariant.3
+          other-turn places loop.k loop.most loop.invariant.largest loop.worst loop.invariant.blamed
           w.if-most-place.false
           in
           (w.most-is ∙ turn.0, w.worst-is ∙ turn.1)
     ]
-    in (
-      search rules,
-      search rules,
-      now.0 ∙ ap (max_to (λ j. (place_in places j).left)) (sym e),
-      now.1 ∙ ap (blame_among (place_in places)) (sym e),
-      filled-stored (blame_among (place_in places)) loop.k 8 nobody _ loop.blames loop.invariant.4 now.1
-          (omega arith),
-    )
+    in
+    record {
+      largest = now.0;
+      blamed = now.1;
+      stored =
+          filled-stored (blame_among (place_in places)) (loop.k + 1) 8 nobody _ loop.blames loop.invariant.stored now.1
+          (omega arith);
+    }
 
 pub returns : goal.returns
 returns c =
-    let places = c.args.places in
-    let e : c.loop-k.k ≡ 8 = omega arith in
-    c.loop-k.invariant.4
+    let places = c.args.places.now in
+    let e : c.loop-k.k + 1 ≡ 8 = omega arith in
+    c.loop-k.invariant.stored
     ∙ ap (λ k. filled (blame_among (place_in places)) k 8 nobody) e
     ∙ filled-all (blame_among (place_in places)) 8 nobody

@@ -21,9 +21,9 @@ total : (c : After-kept_ticks)
     → let loop = c.loop-k in
     let phase = c.largest_phase-phase.result in
     c.kept_ticks.result + phase + member_at c.args.waits.now loop.k
-    ≡ bound_at (view_of c.args.load) loop.k
+    ≡ bound_at (view_of c.args.load.now) loop.k
 total c =
-    let L = view_of c.args.load in
+    let L = view_of c.args.load.now in
     let k = c.loop-k.k in
     let e : k + 1 - 1 ≡ k = omega arith in
     omega (
@@ -36,14 +36,14 @@ total c =
     )
 
 small : (c : After-kept_ticks)
-    → bound_at (view_of c.args.load) c.loop-k.k ≤ 806400
+    → bound_at (view_of c.args.load.now) c.loop-k.k ≤ 806400
 small c =
-    cut-bound-le (view_of c.args.load) c.requires.0 (c.loop-k.k + 1)
+    cut-bound-le (view_of c.args.load.now) c.requires.0 (c.loop-k.k + 1)
 
 pub loop-k-preserved : goal.loop-k-preserved
 loop-k-preserved c =
     let loop = c.loop-k in
-    let L = view_of c.args.load in (
+    let L = view_of c.args.load.now in (
       search rules,
       loop.invariant.1,
       filled-stored (bound_at L) loop.k 8 0 _ loop.bounds loop.invariant.2
@@ -52,7 +52,7 @@ loop-k-preserved c =
 
 pub returns : goal.returns
 returns c =
-    let L = view_of c.args.load in
+    let L = view_of c.args.load.now in
     let e : c.loop-k.k ≡ 8 = omega arith in
     c.loop-k.invariant.2 ∙ ap (λ k. filled (bound_at L) k 8 0) e ∙ filled-all (bound_at L) 8 0
 

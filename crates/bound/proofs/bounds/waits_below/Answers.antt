@@ -1,10 +1,5 @@
 -- `waits_below` adds the largest W of one place a turn, and stores the sum at the next place.
-use Prim.Native.Nat.{◌+◌, ◌-◌}
-use mathlib.Core.List.{List}
-use mathlib.Core.Path.{◌≡◌, refl, sym, ◌∙◌, ap}
-use native.Mathlib.Omega.{arith}
-use borrow.Author.Rules.{rules}
-use lib.ListN.{replicate}
+use Rattle.std.proofs.Common.{◌+◌, List, ◌≡◌, ◌∙◌, ap, arith, refl, replicate, rules}
 use Rattle.counting.specs.Sums.{sum_to}
 use Rattle.counting.specs.Lists.{join_to, filled}
 use Rattle.counting.proofs.sums.SumLaws.{sum_to-next}
@@ -23,26 +18,25 @@ unfolding sum_to
 none places = refl
 
 pub loop-k-init : goal.loop-k-init
-loop-k-init c = (search rules, search rules, none c.args.places, search rules, first c.args.places)
+loop-k-init c =
+    record { so_far = none c.args.places.now; few = search rules; stored = first c.args.places.now }
 
 pub loop-k-preserved : goal.loop-k-preserved
 loop-k-preserved c =
     let loop = c.loop-k in
-    let places = c.args.places in
-    let e : loop.k + 1 - 1 ≡ loop.k = omega arith in
-    let f : loop.k - 1 + 1 ≡ loop.k = omega arith in
-    let more : loop.sum + (place_in places (loop.k - 1)).left ≡ waits_below places loop.k =
-    omega (arith, sum_to-next (λ j. (place_in places j).left) (loop.k - 1), ap (waits_below places) f)
-    in (
-      search rules,
-      search rules,
-      more ∙ ap (waits_below places) (sym e),
-      search rules,
-      filled-stored (waits_below places) loop.k 8 0 _ loop.sums loop.invariant.4 more (omega arith),
-    )
+    let places = c.args.places.now in
+    let more : loop.sum + (place_in places loop.k).left ≡ waits_below places (loop.k + 1) =
+    omega (arith, sum_to-next (λ j. (place_in places j).left) loop.k, loop.invariant.so_far)
+    in
+    record {
+      so_far = more;
+      few = search rules;
+      stored =
+          filled-stored (waits_below places) (loop.k + 1) 8 0 _ loop.sums loop.invariant.stored more (omega arith);
+    }
 
 pub returns : goal.returns
 returns c =
-    let places = c.args.places in
-    let e : c.loop-k.k ≡ 8 = omega arith in
-    c.loop-k.invariant.4 ∙ ap (λ k. filled (waits_below places) k 8 0) e ∙ filled-all (waits_below places) 8 0
+    let places = c.args.places.now in
+    let e : c.loop-k.k + 1 ≡ 8 = omega arith in
+    c.loop-k.invariant.stored ∙ ap (λ k. filled (waits_below places) k 8 0) e ∙ filled-all (waits_below places) 8 0

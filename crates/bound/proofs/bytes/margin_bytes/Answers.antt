@@ -3,7 +3,6 @@ use Prim.Native.Nat.{ℕ, ◌+◌, ◌*◌}
 use mathlib.Core.List.{List, [], ◌++◌, append-nil}
 use mathlib.Core.Path.{◌≡◌, refl, sym, ◌∙◌, ap}
 use native.Mathlib.Omega.{arith}
-use borrow.Author.Rules.{rules}
 use lib.IntN.{ℤ}
 use lib.ListN.{length, drop}
 use lib.Seq.{sets}
@@ -33,7 +32,7 @@ blank-past = refl
 
 pub loop-i-init : goal.loop-i-init
 unfolding blank join_to
-loop-i-init c = (search rules, refl, refl)
+loop-i-init c = (refl, refl)
 
 -- what is written is the row's four bytes
 written : (c : After-bytes32-four) → c.bytes32-four.result ≡ four c.args.margins c.loop-i.i
@@ -58,11 +57,10 @@ pub loop-i-preserved : goal.loop-i-preserved
 loop-i-preserved c =
     let loop = c.loop-i in
     let zs = c.args.margins in (
-      search rules,
-      c.overwrite.auto.out ∙ loop.invariant.1,
+      c.overwrite.auto.out ∙ loop.invariant.0,
       c.overwrite.ensures
           ∙ ap (sets loop.bytes (4 * loop.i)) (written (goal.at.loop-i-preserved c).After-bytes32-four)
-          ∙ more zs loop.i loop.bytes loop.invariant.2,
+          ∙ more zs loop.i loop.bytes loop.invariant.1,
     )
 
 pub returns : goal.returns
@@ -71,7 +69,7 @@ returns c =
     let zs = c.args.margins in
     let e : c.loop-i.i ≡ 24 = omega arith in
     let n : length (join_to (four zs) 24) ≡ 96 = join_to-length-same (four zs) 4 24 (four-length zs) in
-    c.loop-i.invariant.2
+    c.loop-i.invariant.1
     ∙ ap (λ i. sets blank 0 (join_to (four zs) i)) e
     ∙ sets-front blank (join_to (four zs) 24) (omega (arith, n, blank-length))
     ∙ ap (λ k. join_to (four zs) 24 ++ drop k blank) n
@@ -79,7 +77,7 @@ returns c =
     ∙ append-nil (join_to (four zs) 24)
 
 pub slice_bounds-overwrite-end : goal.slice_bounds-overwrite-end
-slice_bounds-overwrite-end c = sym c.loop-i.invariant.1
+slice_bounds-overwrite-end c = sym c.loop-i.invariant.0
 
 pub slice_bounds-overwrite-end-in-loop-i : goal.slice_bounds-overwrite-end-in-loop-i
 slice_bounds-overwrite-end-in-loop-i c =

@@ -1,5 +1,5 @@
 -- `bound::margin_bytes` writes the four bytes of one row a turn, behind those of the rows before it.
-use Prim.Native.Nat.{ℕ, ◌-◌, ◌≤◌}
+use Prim.Native.Nat.{ℕ}
 use mathlib.Core.List.{List}
 use mathlib.Core.Path.{◌≡◌}
 use lib.IntN.{ℤ}
@@ -21,7 +21,4 @@ blank = replicate 96 0
 
 abbrev pub invariant-loop-i : goal.invariant-loop-i
 invariant-loop-i l =
-    (l.i ≤ 24) × (length l.bytes ≡ 96) × (l.bytes ≡ sets blank 0 (join_to (four l.margins) l.i))
-
-abbrev pub decreases-loop-i : goal.decreases-loop-i
-decreases-loop-i l = 24 - l.i
+    (length l.bytes ≡ 96) × (l.bytes ≡ sets blank 0 (join_to (four l.fn.margins) l.i))

@@ -1,19 +1,32 @@
 -- `costs_to` adds one cost a turn, each below 65,536.
-use mathlib.Core.Path.{◌≡◌, sym, ◌∙◌, ap}
-use native.Mathlib.Omega.{arith}
-use borrow.Author.Rules.{rules}
+use Rattle.std.proofs.Common.{◌≡◌, ◌∙◌, ap, arith, length, refl, rules, sym, take}
+use Rattle.std.proofs.lemmas.List.{get_or-take, length-take}
 use Rattle.counting.specs.Sums.{sum_to}
 use Rattle.counting.proofs.sums.SumLaws.{sum_to-zero, sum_to-next}
-use Rattle.load.specs.Load.{step_at}
+use Rattle.load.specs.declared.Step.{Step}
+use Rattle.load.specs.Load.{step_at, no_step}
+use Rattle.counting.proofs.sums.PastLaws.{sum_to-past}
 use Rattle.bound.proofs.cut.costs_to.Goals as goal
 
-pub loop-j-preserved : goal.loop-j-preserved
-loop-j-preserved c = (search rules, rw (sum_to-next, ← c.step_at-step.ensures) (omega arith), search rules)
+pub loop-step-init : goal.loop-step-init
+loop-step-init c = record { so_far = sym (sum_to-zero _); few = omega arith }
+
+pub loop-step-preserved : goal.loop-step-preserved
+loop-step-preserved c =
+    let row = c.args.row.now in
+    let j = c.loop-step.step-index in
+    let read = get_or-take c.args.n row.step j no_step (omega (arith, length-take c.args.n row.step)) in
+    record {
+      so_far = rw read (omega (arith, sum_to-next (λ j. (step_at row j).cost) j, c.loop-step.invariant.so_far));
+      few = search rules;
+    }
 
 pub returns : goal.returns
 returns c =
-    let e : c.loop-j.j ≡ c.args.n = omega arith in
-    (c.loop-j.invariant.1 ∙ ap (sum_to (λ j. (step_at c.args.row j).cost)) e, omega arith)
-
-pub loop-j-init : goal.loop-j-init
-loop-j-init c = (search rules, sym (sum_to-zero _), search rules)
+    let step = c.args.row.now.step in
+    let e : c.loop-step.step-index ≡ length (take c.args.n step) = omega arith in (
+      c.loop-step.invariant.so_far
+          ∙ ap (sum_to (λ j. (step_at c.args.row.now j).cost)) e
+          ∙ sum_to-past (λ (step : Step). step.cost) no_step refl step c.args.n,
+      omega (arith, c.loop-step.invariant.few, length-take c.args.n step),
+    )

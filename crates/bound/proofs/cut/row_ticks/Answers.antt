@@ -12,17 +12,17 @@ use Rattle.bound.proofs.cut.row_ticks.Goals as goal
 use Rattle.bound.proofs.cut.row_ticks.Goals.{After-kept_of-kept}
 
 most : (c : After-kept_of-kept) → c.kept_of-kept.result ≤ 8
-most c = let args = c.args in omega (arith, c.kept_of-kept.ensures, kept_of-le args.row args.m)
+most c = let args = c.args in omega (arith, c.kept_of-kept.ensures, kept_of-le args.row.now args.m)
 
 least : (c : After-kept_of-kept) → 1 ≤ c.kept_of-kept.result
-least c = let args = c.args in omega (arith, c.kept_of-kept.ensures, le-kept_of args.row args.m)
+least c = let args = c.args in omega (arith, c.kept_of-kept.ensures, le-kept_of args.row.now args.m)
 
 pub returns : goal.returns
 returns c =
     let args = c.args in
     let kept = c.kept_of-kept.ensures in (
-      ap₂ ◌+◌ (c.costs_to.ensures.0 ∙ ap (sum_to (λ j. (step_at args.row j).cost)) kept)
-          (c.waits_to.ensures.0 ∙ ap (λ n. sum_to (wait_in args.row) (n - 1)) kept),
+      ap₂ ◌+◌ (c.costs_to.ensures.0 ∙ ap (sum_to (λ j. (step_at args.row.now j).cost)) kept)
+          (c.waits_to.ensures.0 ∙ ap (λ n. sum_to (wait_in args.row.now) (n - 1)) kept),
       search rules,
     )
 

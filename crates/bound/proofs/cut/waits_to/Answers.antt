@@ -13,7 +13,7 @@ loop-j-preserved c = (search rules, rw sum_to-next (omega arith), search rules)
 pub returns : goal.returns
 returns c =
     let e : c.loop-j.j ≡ c.args.n = omega arith in
-    (c.loop-j.invariant.1 ∙ ap (sum_to (wait_in c.args.row)) e, omega arith)
+    (c.loop-j.invariant.1 ∙ ap (sum_to (wait_in c.args.row.now)) e, omega arith)
 
 pub loop-j-init : goal.loop-j-init
 loop-j-init c = (search rules, sym (sum_to-zero _), search rules)

@@ -23,7 +23,7 @@ use Rattle.bound.proofs.margins.margins_by.Goals.{In-loop-i}
 
 -- the load, and the row's place, of a turn
 abbrev load : In-loop-i → Load
-load c = c.args.load
+load c = c.args.load.now
 
 abbrev place : In-loop-i → ℕ
 place c = c.loop-i.i
@@ -68,7 +68,7 @@ stored c z made =
 pub loop-i-init : goal.loop-i-init
 loop-i-init c = (
   search rules,
-  accepted-few c.args.load c.requires.0,
+  accepted-few c.args.load.now c.requires.0,
   sym (filled_none _ 24 (pos 0)),
 )
 
@@ -89,17 +89,17 @@ loop-i-preserved c =
 pub returns : goal.returns
 unfolding margins view_of
 returns c =
-    let load = c.args.load in
+    let load = c.args.load.now in
     let e : c.loop-i.i ≡ load.rows = omega arith in
     c.loop-i.invariant.2
     ∙ ap (λ i. filled (margin (view_of load)) i 24 (pos 0)) e
     ∙ filled-list_to (margin (view_of load)) load.rows 24 (pos 0) (omega arith)
 
-pub overflow_sub-k : goal.overflow_sub-k
-overflow_sub-k c = (steps (goal.at.overflow_sub-k c).In-loop-i).0
+pub overflow_sub-row : goal.overflow_sub-row
+overflow_sub-row c = (steps (goal.at.overflow_sub-row c).In-loop-i).0
 
-pub offset_bounds-bounds-k : goal.offset_bounds-bounds-k
-offset_bounds-bounds-k c = omega (arith, steps (goal.at.offset_bounds-bounds-k c).In-loop-i)
+pub offset_bounds-bounds-row : goal.offset_bounds-bounds-row
+offset_bounds-bounds-row c = omega (arith, steps (goal.at.offset_bounds-bounds-row c).In-loop-i)
 
-pub bounds-bounds-k : goal.bounds-bounds-k
-bounds-bounds-k c = omega (arith, steps (goal.at.bounds-bounds-k c).In-loop-i)
+pub bounds-bounds-row : goal.bounds-bounds-row
+bounds-bounds-row c = omega (arith, steps (goal.at.bounds-bounds-row c).In-loop-i)

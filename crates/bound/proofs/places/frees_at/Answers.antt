@@ -1,27 +1,15 @@
--- `frees_at` stores the mark of one row a turn.
-use mathlib.Core.Bool.{false}
-use mathlib.Core.Path.{◌≡◌, sym, ◌∙◌, ap}
-use native.Mathlib.Omega.{arith}
-use borrow.Author.Rules.{rules}
-use Rattle.counting.specs.Lists.{filled}
-use Rattle.counting.proofs.lists.ListLaws.{filled_none, filled-stored}
+-- `frees_at` makes the mark of each row.
+use Rattle.std.proofs.Common.{ℕ, ◌∙◌, rules, sym, tests, ltb}
+use Rattle.std.specs.Prelude.{cond, false}
+use Rattle.counting.proofs.lists.ListLaws.{filled-list_to}
+use Rattle.load.specs.Load.{row_at}
+use Rattle.bound.specs.inner.Marks.{free_in}
+use Rattle.counting.proofs.lists.MadeLaws.{made-list_to}
 use Rattle.bound.proofs.places.frees_at.Goals as goal
-use Rattle.bound.proofs.places.frees_at.Invariants.{stored}
-
-pub loop-i-preserved : goal.loop-i-preserved
-loop-i-preserved c =
-    let loop = c.loop-i in
-    let args = c.args in (
-      search rules,
-      filled-stored (stored args.load args.j) loop.i 24 false _ loop.frees loop.invariant.1
-          c.free_in.ensures (omega arith),
-    )
 
 pub returns : goal.returns
 returns c =
-    let args = c.args in
-    let e : c.loop-i.i ≡ args.load.rows = omega arith in
-    c.loop-i.invariant.1 ∙ ap (λ i. filled (stored args.load args.j) i 24 false) e
-
-pub loop-i-init : goal.loop-i-init
-loop-i-init c = (search rules, sym (filled_none _ 24 false))
+    let load = c.args.load.now in
+    let at = λ (i : ℕ). cond (ltb i load.rows) (free_in (row_at load i) c.args.j) false in
+    made-list_to _ at false 24 _ (λ i y q l k. search (rules, tests)) _ c.from_fn.ensures.items
+    ∙ sym (filled-list_to (λ i. free_in (row_at load i) c.args.j) load.rows 24 false c.requires)

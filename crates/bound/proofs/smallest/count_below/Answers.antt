@@ -11,10 +11,10 @@ use Rattle.bound.proofs.smallest.count_below.Goals.{Start}
 
 -- the two tests
 abbrev here-test : Start → Bool
-here-test c = ltb (step_at c.args.row c.args.j).cost c.args.t
+here-test c = ltb (step_at c.args.row.now c.args.j).cost c.args.t
 
 abbrev next-test : Start → Bool
-next-test c = ltb (step_at c.args.row (c.args.j + 1)).cost c.args.t
+next-test c = ltb (step_at c.args.row.now (c.args.j + 1)).cost c.args.t
 
 -- each adds at most 1
 two-le : (a b : Bool) → bool_byte a + bool_byte b ≤ 2

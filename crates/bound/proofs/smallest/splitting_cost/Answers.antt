@@ -35,13 +35,13 @@ loop-k-preserved c = (
 counted : (c : After-loop-k)
     → let loop = c.loop-low in
     let a = c.args in
-    c.loop-k.up_to ≡ costs_below a.load a.j a.marks.now a.n ((loop.low + loop.high) / 2 + 1)
+    c.loop-k.up_to ≡ costs_below a.load.now a.j a.marks.now a.n ((loop.low + loop.high) / 2 + 1)
 counted c =
     let loop = c.loop-low in
     let a = c.args in
     let e : c.loop-k.k ≡ a.n = omega arith in
     c.loop-k.invariant.1
-    ∙ ap (λ k. costs_below a.load a.j a.marks.now k ((loop.low + loop.high) / 2 + 1)) e
+    ∙ ap (λ k. costs_below a.load.now a.j a.marks.now k ((loop.low + loop.high) / 2 + 1)) e
 
 pub loop-low-preserved-then-r-up_to : goal.loop-low-preserved-then-r-up_to
 loop-low-preserved-then-r-up_to c =
@@ -63,7 +63,7 @@ returns c =
     let low = c.loop-low.low in
     let e : c.loop-low.high ≡ low = omega arith in
     let up-to-is =
-    pairs_below-next (cost_at a.load a.j) (cost_at a.load (a.j + 1)) (is_marked a.marks.now) a.n low in (
+    pairs_below-next (cost_at a.load.now a.j) (cost_at a.load.now (a.j + 1)) (is_marked a.marks.now) a.n low in (
       record {
         below = omega (arith, c.requires.1);
         up_to = rw (← c.requires.1, ← up-to-is, ← e) c.loop-low.invariant.3;

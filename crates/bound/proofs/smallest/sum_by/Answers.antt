@@ -34,14 +34,14 @@ loop-k-preserved c = (
 all-added : (c : After-loop-k)
     → let loop = c.loop-k in
     let a = c.args in
-    (loop.below ≡ costs_below a.load a.j a.marks.now a.n a.t)
-    × (loop.sum ≡ added a.load a.j a.marks.now a.n a.t)
+    (loop.below ≡ costs_below a.load.now a.j a.marks.now a.n a.t)
+    × (loop.sum ≡ added a.load.now a.j a.marks.now a.n a.t)
 all-added c =
     let loop = c.loop-k in
     let a = c.args in
     let e : loop.k ≡ a.n = omega arith in (
-      loop.invariant.1 ∙ ap (λ k. costs_below a.load a.j a.marks.now k a.t) e,
-      loop.invariant.2 ∙ ap (λ k. added a.load a.j a.marks.now k a.t) e,
+      loop.invariant.1 ∙ ap (λ k. costs_below a.load.now a.j a.marks.now k a.t) e,
+      loop.invariant.2 ∙ ap (λ k. added a.load.now a.j a.marks.now k a.t) e,
     )
 
 -- at most r are below t
@@ -62,7 +62,7 @@ returns c =
     omega (
       arith,
       (all-added c).1,
-      pairs_smallest-threshold (cost_at a.load a.j) (cost_at a.load (a.j + 1)) (is_marked a.marks.now) a.n
+      pairs_smallest-threshold (cost_at a.load.now a.j) (cost_at a.load.now (a.j + 1)) (is_marked a.marks.now) a.n
           a.t d (omega (arith, (all-added c).0, enough c, c.requires.1)) c.requires.4.up_to,
     )
 

@@ -1,26 +1,19 @@
--- `any_marked` looks at one row a turn: none of the first i is marked, and the first that is ends the search.
-use mathlib.Core.Path.{◌≡◌, sym, ◌∙◌, ap}
-use native.Mathlib.Omega.{arith}
-use borrow.Author.Rules.{rules}
+-- `any_marked` asks the marks of the first n rows.
+use Rattle.std.proofs.Common.{arith, ap, ◌≡◌, min, ◌∙◌, rules, tests}
+use Rattle.std.specs.Prelude.{false}
+use Rattle.std.proofs.lemmas.Iterator.{YieldsList-from_slice, YieldsList-from_take}
+use Rattle.std.proofs.lemmas.Iterator.Search.{any_from_yields_List}
 use Rattle.counting.specs.Sums.{any_to}
 use Rattle.counting.specs.Lists.{is_marked}
-use Rattle.counting.proofs.tests.TestLaws.{or-neither, any_to-zero, any_to-next, true-any_to}
+use Rattle.counting.proofs.lists.TestedLaws.{list_any-take}
 use Rattle.bound.proofs.waits.any_marked.Goals as goal
-
-pub returns-then-marks-i : goal.returns-then-marks-i
-returns-then-marks-i c =
-    sym
-    (true-any_to (is_marked c.args.marks.now) c.args.n c.loop-i.i c.loop-i-test.true
-    c.if-marks-i.true)
-
-pub loop-i-preserved : goal.loop-i-preserved
-loop-i-preserved c =
-    (search rules, rw any_to-next (or-neither _ _ c.loop-i.invariant.1 c.if-marks-i.false))
 
 pub returns : goal.returns
 returns c =
-    let e : c.loop-i.i ≡ c.args.n = omega arith in
-    sym (ap (any_to (is_marked c.args.marks.now)) (sym e) ∙ c.loop-i.invariant.1)
-
-pub loop-i-init : goal.loop-i-init
-loop-i-init c = (search rules, any_to-zero _)
+    let marks = c.args.marks.now in
+    let few : min c.args.n 24 ≡ c.args.n = omega arith in
+    any_from_yields_List (λ b. b) _ _ _ c.any.ensures.ran
+    (YieldsList-from_take c.args.n (YieldsList-from_slice marks cc) cc)
+    (λ x b q k. search (rules, tests))
+    ∙ list_any-take (λ b. b) false c.args.n 24 marks (search rules)
+    ∙ ap (any_to (is_marked marks)) few

@@ -27,7 +27,7 @@ returns c =
     let a = c.args in
     let e : c.loop-i.i ≡ a.n = omega arith in
     c.loop-i.invariant.1
-    ∙ ap (largest_to (left a.load a.n a.j a.pairs a.frees.now)) e
+    ∙ ap (largest_to (left a.load.now a.n a.j a.pairs.now a.frees.now)) e
 
 pub loop-i-init : goal.loop-i-init
 loop-i-init c = (search rules, largest_to-zero _)

@@ -1,26 +1,19 @@
--- `lines::gather::last_end` gives the end of the slot before the count, where there is one.
-use mathlib.Core.Path.{◌≡◌, sym, ◌∙◌}
-use native.Mathlib.Omega.{arith}
-use lib.ListN.{length}
+-- `lines::gather::last_end` gives the end of the last slot, where there is one.
+use mathlib.Core.Path.{sym, ◌∙◌}
 use Rattle.load.specs.View.{view_of}
-use Rattle.lines.proofs.ScheduledLaws.{last_end-none, last_end-taken, rows_few, scheduled-names}
+use Rattle.lines.proofs.ScheduledLaws.{acceptable, last_end-none, last_end-at, scheduled-names}
 use Rattle.lines.proofs.gather.last_end.Goals as goal
-
-pub returns-then-count-eq0 : goal.returns-then-count-eq0
-returns-then-count-eq0 c = sym (last_end-none (view_of c.args.load) c.args.slots _ c.if-count-eq0.true)
 
 pub end_of-requires : goal.end_of-requires
 end_of-requires c =
-    let a = c.args in
-    (scheduled-names a.load a.slots a.count c.requires _ (omega arith), rows_few _ _ _ c.requires)
+    let args = c.args in (
+      acceptable args.load.now args.slots.now c.requires,
+      scheduled-names args.load.now args.slots.now c.requires _ _ (sym c.in-Some.ensures.value),
+    )
 
-pub returns : goal.returns
-returns c =
-    let long : length c.args.slots ≡ 256 = c.well_formed.1.0.1.0.1 in
-    c.end_of.ensures
-    ∙ sym
-    (last_end-taken (view_of c.args.load) c.args.slots c.args.count (omega arith)
-    (omega (arith, c.requires.few)))
+pub returns-in-Some : goal.returns-in-Some
+returns-in-Some c =
+    c.end_of.ensures ∙ sym (last_end-at (view_of c.args.load.now) c.args.slots.now _ (sym c.in-Some.ensures.value))
 
-pub bounds-slots-count : goal.bounds-slots-count
-bounds-slots-count c = omega (arith, c.requires.few)
+pub returns-in-None : goal.returns-in-None
+returns-in-None c = sym (last_end-none (view_of c.args.load.now) c.args.slots.now (sym c.in-None.ensures.value))

@@ -1,29 +1,16 @@
--- `zero_rows_from` asks one row a turn: while all are zeros, what is to be found is what those from here on show.
-use mathlib.Core.Path.{refl, sym, ◌∙◌}
-use Rattle.counting.proofs.tests.FromLaws.{all_from-zero, all_from-next}
+-- `zero_rows_from` asks the rows from place a on.
+use Rattle.std.proofs.Common.{rules, tests, ◌∙◌}
+use Rattle.std.proofs.lemmas.Iterator.{YieldsList-from_slice}
+use Rattle.std.proofs.lemmas.Iterator.Adapters.{YieldsList-from_skip}
+use Rattle.std.proofs.lemmas.Iterator.Search.{all_from_yields_List}
+use Rattle.counting.proofs.lists.TestedLaws.{list_all-drop}
+use Rattle.load.specs.Load.{no_row}
+use Rattle.load.specs.Check.{is_zero_row}
 use Rattle.load.proofs.zeros.zero_rows_from.Goals as goal
-use Rattle.load.proofs.zeros.zero_rows_from.Invariants.{zero-at}
-
-pub returns-then-not-is_zero_row : goal.returns-then-not-is_zero_row
-returns-then-not-is_zero_row c =
-    let zeros = zero-at c.args.load in
-    sym
-    (c.loop-i.invariant
-    ∙ all_from-next zeros c.loop-i.i 24 c.loop-i-test.true
-    ∙ rw (sym c.is_zero_row.ensures ∙ c.if-not-is_zero_row.true))
-
-pub loop-i-preserved : goal.loop-i-preserved
-loop-i-preserved c =
-    let zeros = zero-at c.args.load in
-    c.loop-i.invariant
-    ∙ all_from-next zeros c.loop-i.i 24 c.loop-i-test.true
-    ∙ rw (sym c.is_zero_row.ensures ∙ c.if-not-is_zero_row.false)
 
 pub returns : goal.returns
 returns c =
-    sym
-    (c.loop-i.invariant
-    ∙ all_from-zero (zero-at c.args.load) c.loop-i.i 24 c.loop-i-test.false)
-
-pub loop-i-init : goal.loop-i-init
-loop-i-init c = refl
+    all_from_yields_List is_zero_row _ _ _ c.all.ensures.ran
+    (YieldsList-from_skip c.args.a (YieldsList-from_slice c.args.load.now.row cc) cc)
+    (λ x b q k. search (rules, tests))
+    ∙ list_all-drop is_zero_row no_row c.args.a 24 c.args.load.now.row (search rules)

@@ -1,29 +1,16 @@
--- `zero_steps_from` asks one step a turn: while all are zeros, what is to be found is what those from here on show.
-use mathlib.Core.Path.{refl, sym, ◌∙◌}
-use Rattle.counting.proofs.tests.FromLaws.{all_from-zero, all_from-next}
+-- `zero_steps_from` asks the steps from place a on.
+use Rattle.std.proofs.Common.{rules, tests, ◌∙◌}
+use Rattle.std.proofs.lemmas.Iterator.{YieldsList-from_slice}
+use Rattle.std.proofs.lemmas.Iterator.Adapters.{YieldsList-from_skip}
+use Rattle.std.proofs.lemmas.Iterator.Search.{all_from_yields_List}
+use Rattle.counting.proofs.lists.TestedLaws.{list_all-drop}
+use Rattle.load.specs.Load.{no_step}
+use Rattle.load.specs.Check.{is_zero_step}
 use Rattle.load.proofs.zeros.zero_steps_from.Goals as goal
-use Rattle.load.proofs.zeros.zero_steps_from.Invariants.{zero-at}
-
-pub returns-then-not-is_zero_step : goal.returns-then-not-is_zero_step
-returns-then-not-is_zero_step c =
-    let zeros = zero-at c.args.row in
-    sym
-    (c.loop-j.invariant
-    ∙ all_from-next zeros c.loop-j.j 8 c.loop-j-test.true
-    ∙ rw (sym c.is_zero_step.ensures ∙ c.if-not-is_zero_step.true))
-
-pub loop-j-preserved : goal.loop-j-preserved
-loop-j-preserved c =
-    let zeros = zero-at c.args.row in
-    c.loop-j.invariant
-    ∙ all_from-next zeros c.loop-j.j 8 c.loop-j-test.true
-    ∙ rw (sym c.is_zero_step.ensures ∙ c.if-not-is_zero_step.false)
 
 pub returns : goal.returns
 returns c =
-    sym
-    (c.loop-j.invariant
-    ∙ all_from-zero (zero-at c.args.row) c.loop-j.j 8 c.loop-j-test.false)
-
-pub loop-j-init : goal.loop-j-init
-loop-j-init c = refl
+    all_from_yields_List is_zero_step _ _ _ c.all.ensures.ran
+    (YieldsList-from_skip c.args.a (YieldsList-from_slice c.args.row.step cc) cc)
+    (λ x b q k. search (rules, tests))
+    ∙ list_all-drop is_zero_step no_step c.args.a 8 c.args.row.step (search rules)

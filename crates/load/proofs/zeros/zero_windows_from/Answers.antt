@@ -1,29 +1,16 @@
--- `zero_windows_from` asks one window a turn: while all are zeros, what is to be found is what those from here on show.
-use mathlib.Core.Path.{refl, sym, ◌∙◌}
-use Rattle.counting.proofs.tests.FromLaws.{all_from-zero, all_from-next}
+-- `zero_windows_from` asks the windows from place a on.
+use Rattle.std.proofs.Common.{rules, tests, ◌∙◌}
+use Rattle.std.proofs.lemmas.Iterator.{YieldsList-from_slice}
+use Rattle.std.proofs.lemmas.Iterator.Adapters.{YieldsList-from_skip}
+use Rattle.std.proofs.lemmas.Iterator.Search.{all_from_yields_List}
+use Rattle.counting.proofs.lists.TestedLaws.{list_all-drop}
+use Rattle.load.specs.Load.{no_window}
+use Rattle.load.specs.Check.{is_zero_window}
 use Rattle.load.proofs.zeros.zero_windows_from.Goals as goal
-use Rattle.load.proofs.zeros.zero_windows_from.Invariants.{zero-at}
-
-pub returns-then-not-is_zero_window : goal.returns-then-not-is_zero_window
-returns-then-not-is_zero_window c =
-    let zeros = zero-at c.args.row in
-    sym
-    (c.loop-k.invariant
-    ∙ all_from-next zeros c.loop-k.k 4 c.loop-k-test.true
-    ∙ rw (sym c.is_zero_window.ensures ∙ c.if-not-is_zero_window.true))
-
-pub loop-k-preserved : goal.loop-k-preserved
-loop-k-preserved c =
-    let zeros = zero-at c.args.row in
-    c.loop-k.invariant
-    ∙ all_from-next zeros c.loop-k.k 4 c.loop-k-test.true
-    ∙ rw (sym c.is_zero_window.ensures ∙ c.if-not-is_zero_window.false)
 
 pub returns : goal.returns
 returns c =
-    sym
-    (c.loop-k.invariant
-    ∙ all_from-zero (zero-at c.args.row) c.loop-k.k 4 c.loop-k-test.false)
-
-pub loop-k-init : goal.loop-k-init
-loop-k-init c = refl
+    all_from_yields_List is_zero_window _ _ _ c.all.ensures.ran
+    (YieldsList-from_skip c.args.a (YieldsList-from_slice c.args.row.window cc) cc)
+    (λ x b q k. search (rules, tests))
+    ∙ list_all-drop is_zero_window no_window c.args.a 4 c.args.row.window (search rules)

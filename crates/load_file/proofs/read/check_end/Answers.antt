@@ -2,7 +2,8 @@
 use Prim.Native.Nat.{ℕ, ◌+◌}
 use mathlib.Core.Bool.{Bool, not}
 use mathlib.Core.List.{List, [], ◌∷◌}
-use mathlib.Core.Path.{◌≡◌}
+use mathlib.Core.Path.{◌≡◌, refl, ◌∙◌}
+use Rattle.refusals.proofs.PassedOn.{passed_on}
 use lib.Dec.{eqb, ltb}
 use lib.ListN.{length}
 use borrow.Author.Tests.{lt-ltb, le-ltb, eq-eqb, ne_eqb}
@@ -16,7 +17,7 @@ use Rattle.load_file.specs.Places.{load_in}
 use Rattle.load_file.specs.Reading.{due_tests, end_tests}
 use Rattle.load_file.proofs.faults.ReadingLaws.{behind-refused, behind-good}
 use Rattle.load_file.proofs.read.check_end.Goals as goal
-use Rattle.load_file.proofs.read.check_end.Goals.{In-Good}
+use Rattle.load_file.proofs.read.check_end.Goals.{In_ok-check_due}
 
 -- the end record's own tests
 abbrev own : List ℕ → ℕ → List (Bool × Refusal)
@@ -25,16 +26,16 @@ own bs at =
     ∷ (ltb (at + end_kind.size) (length bs), EndDiffers)
     ∷ []
 
-pub returns-in-Refused : goal.returns-in-Refused
+pub returns-in_err-check_due : goal.returns-in_err-check_due
 unfolding end_tests
-returns-in-Refused c =
+returns-in_err-check_due c =
     let start = c.args in
     let bs = start.bytes.now in
-    behind-refused (due_tests end_kind bs start.at) (own bs start.at) c.check_due.ensures
-    c.in-Refused.is
+    passed_on _ _ c.from_residual.ensures.1
+    ∙ behind-refused (due_tests end_kind bs start.at) (own bs start.at) c.in_err-check_due.ensures refl
 
 -- behind a record that is there and has its mark, its own tests are left
-passed : (c : In-Good)
+passed : (c : In_ok-check_due)
     → let start = c.args in
     let bs = start.bytes.now in
     first_met (own bs start.at) ≡ first_met (end_tests bs start.at)
@@ -42,13 +43,12 @@ unfolding end_tests
 passed c =
     let start = c.args in
     let bs = start.bytes.now in
-    behind-good (due_tests end_kind bs start.at) (own bs start.at) c.check_due.ensures
-    c.in-Good.is
+    behind-good (due_tests end_kind bs start.at) (own bs start.at) c.in_ok-check_due.ensures refl
 
 pub returns-then-count-steps : goal.returns-then-count-steps
 returns-then-count-steps c =
     simp (← c.number16_at-count.ensures, ← c.requires.steps_value, ne_eqb _ _ c.if-count-steps.true) at (passed
-    (goal.at.returns-then-count-steps c).In-Good)
+    (goal.at.returns-then-count-steps c).In_ok-check_due)
 
 pub returns-then-at-bytes : goal.returns-then-at-bytes
 returns-then-at-bytes c =
@@ -58,7 +58,7 @@ returns-then-at-bytes c =
       eq-eqb _ _ c.if-count-steps.false,
       lt-ltb _ _ c.if-at-bytes.true,
     ) at
-    (passed (goal.at.returns-then-at-bytes c).In-Good)
+    (passed (goal.at.returns-then-at-bytes c).In_ok-check_due)
 
 pub returns : goal.returns
 returns c =
@@ -68,4 +68,4 @@ returns c =
       eq-eqb _ _ c.if-count-steps.false,
       le-ltb _ _ c.if-at-bytes.false,
     ) at
-    (passed (goal.at.returns c).In-Good)
+    (passed (goal.at.returns c).In_ok-check_due)

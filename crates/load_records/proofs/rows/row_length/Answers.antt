@@ -1,23 +1,7 @@
 -- `load_records::rows::row_length` adds the sizes of the row's own record, of its steps' and of its windows' records.
-use Prim.Native.Nat.{◌≤◌}
-use native.Mathlib.Omega.{arith}
-use borrow.Author.Rules.{rules}
-use Rattle.load_records.specs.Records.{newest, row_kind}
-use Rattle.load_records.proofs.LengthLaws.{row_kind-most, row_bytes-length}
+use Rattle.std.proofs.Common.{arith}
+use Rattle.load_records.proofs.LengthLaws.{row_bytes-length}
 use Rattle.load_records.proofs.rows.row_length.Goals as goal
-use Rattle.load_records.proofs.rows.row_length.Goals.{After-row_size}
-
--- the own record's size is small, so the sums fit
-few_bytes : (c : After-row_size) → c.row_size.result ≤ (row_kind newest).size
-few_bytes c = rw c.row_size.ensures (row_kind-most c.args.version)
-
-pub overflow_add-result : goal.overflow_add-result
-overflow_add-result c = let few = few_bytes (goal.at.overflow_add-result c).After-row_size in search rules
-
-pub overflow_add-result-2 : goal.overflow_add-result-2
-overflow_add-result-2 c = let few = few_bytes (goal.at.overflow_add-result-2 c).After-row_size in search rules
 
 pub returns : goal.returns
-returns c =
-    let start = c.args in
-    omega (arith, c.row_size.ensures, row_bytes-length start.version start.row)
+returns c = omega (arith, c.row_size.ensures, row_bytes-length c.args.version c.args.row)

@@ -1,85 +1,81 @@
--- `load_records::writing::write_rows` writes row by row: after i turns the first i rows stand behind the header's
--- place, and the place is the one behind them. The rows of a checked load are written as they are, and so few and so
--- short that the place fits.
-use Prim.Native.Nat.{ℕ, ◌≤◌}
-use mathlib.Core.Path.{◌≡◌, refl, ap, sym, ◌∙◌}
-use native.Mathlib.Omega.{arith}
-use borrow.Author.Rules.{rules}
-use lib.ListN.{length, take}
-use lib.Seq.{sets, length-take-le}
+-- `load_records::writing::write_rows` writes row by row. The rows of a checked load are written as they are, and so few
+-- and so short that the place fits.
+use Rattle.std.proofs.Common.{◌≤◌, ◌≡◌, ◌∙◌, ap, arith, length, take}
+use Rattle.std.proofs.lemmas.List.Edits.{sets}
 use Rattle.words.proofs.OverwriteLaws.{sets-joined-zero, sets-joined-next}
 use Rattle.load.specs.declared.Row.{Row}
 use Rattle.load.specs.Load.{row_at}
 use Rattle.load_records.specs.Writing.{row_bytes, counted_row}
+use Rattle.load_records.specs.Calls.{records_holding}
 use Rattle.load_records.proofs.RowLaws.{records-length, records-inside, records-taken}
 use Rattle.load_records.proofs.WritingLaws.{rows_bytes-length-zero, rows_bytes-length-next, rows_bytes-length-le}
 use Rattle.load_records.proofs.WritingLaws.{row_bytes-length-le, rows-le, counted_same}
+use Rattle.load_records.proofs.WritingLaws.{next-counts, next-is, all-counted}
 use Rattle.load_records.proofs.writing.write_rows.Goals as goal
 use Rattle.load_records.proofs.writing.write_rows.Goals.{After-records_in-records}
 
-pub loop-i-init : goal.loop-i-init
-loop-i-init c =
-    let e = rows_bytes-length-zero c.args.version c.args.load in
-    (search rules, rows-le _ c.requires, omega arith, refl, sets-joined-zero _ _ _)
-
--- the records of a row are there, and they are the row's
+-- the records of the row in hand, which is written as it is
 module _ (c : After-records_in-records) where
-  there : c.records_in-records.result.length ≤ length c.records_in-records.result.bytes
-  there = records-inside _ _ _ c.records_in-records.ensures
-
-  abbrev version : ℕ
-  version = c.args.version
-
   abbrev row : Row
-  row = row_at c.args.load c.loop-i.i
+  row = row_at c.args.load c.loop-row.row-index
 
   same : counted_row row ≡ row
   same =
-      counted_same c.args.load c.requires c.loop-i.i (omega arith)
+      counted_same c.args.load c.requires c.loop-row.row-index
+      (next-counts c.args.load c.loop-row.row-index c.loop-row-test.true)
 
-  size : c.records_in-records.result.length ≡ length (row_bytes version row)
-  size = records-length _ _ _ c.records_in-records.ensures ∙ ap (λ row. length (row_bytes version row)) same
+  held : c.records_in-records.result ≡ records_holding (row_bytes c.args.version (counted_row row))
+  held =
+      c.records_in-records.ensures
+      ∙ ap (λ row. records_holding (row_bytes c.args.version (counted_row row)))
+      (next-is c.args.load c.loop-row.row-index c.loop-row-test.true)
 
-  taken : take c.records_in-records.result.length c.records_in-records.result.bytes ≡ row_bytes version row
-  taken = records-taken _ _ _ c.records_in-records.ensures ∙ ap (row_bytes version) same
+  there : c.records_in-records.result.length ≤ length c.records_in-records.result.bytes
+  there = records-inside _ _ _ held
+
+  size : c.records_in-records.result.length ≡ length (row_bytes c.args.version row)
+  size = records-length _ _ _ held ∙ ap (λ row. length (row_bytes c.args.version row)) same
+
+  taken : take c.records_in-records.result.length c.records_in-records.result.bytes ≡ row_bytes c.args.version row
+  taken = records-taken _ _ _ held ∙ ap (row_bytes c.args.version) same
+
+pub shared_ref_as_front-row-items : goal.shared_ref_as_front-row-items
+shared_ref_as_front-row-items c = rows-le _ c.requires
+
+pub loop-row-init : goal.loop-row-init
+loop-row-init c =
+    record {
+      next = omega (arith, rows_bytes-length-zero c.args.version c.args.load);
+      so_far = sets-joined-zero _ _ _;
+    }
 
 pub overflow_add-at : goal.overflow_add-at
 overflow_add-at c =
     let load = c.args.load in
-    let so_far = rows_bytes-length-le load c.requires c.args.version c.loop-i.i (omega arith) in
-    let row = row_bytes-length-le load c.requires c.loop-i.i (omega arith) c.args.version in
-    let e = size (goal.at.overflow_add-at c).After-records_in-records in
-    omega arith
+    let i = c.loop-row.row-index in
+    let l = next-counts load i c.loop-row-test.true in
+    let few = rows-le load c.requires in
+    let so_far = rows_bytes-length-le load c.requires c.args.version i (omega arith) in
+    let row = row_bytes-length-le load c.requires i l c.args.version in
+    omega (arith, size (goal.at.overflow_add-at c).After-records_in-records, c.loop-row.invariant.next)
 
-pub loop-i-preserved : goal.loop-i-preserved
-loop-i-preserved c =
-    let here = (goal.at.loop-i-preserved c).After-records_in-records in
+pub loop-row-preserved : goal.loop-row-preserved
+loop-row-preserved c =
+    let here = (goal.at.loop-row-preserved c).After-records_in-records in
     let load = c.args.load in
     let v = c.args.version in
-    let e = rows_bytes-length-next v load c.loop-i.i in
-    let long = size here in (
-      search rules,
-      search rules,
-      omega arith,
-      c.overwrite.auto.out ∙ c.loop-i.invariant.3,
-      sets-joined-next (λ i. row_bytes v (row_at load i)) _ _ _ 4 c.loop-i.at c.loop-i.i
-          c.loop-i.invariant.2 c.loop-i.invariant.4
-          (c.overwrite.ensures ∙ ap (sets _ c.loop-i.at) (taken here)),
-    )
+    let i = c.loop-row.row-index in
+    record {
+      next = omega (arith, size here, rows_bytes-length-next v load i, c.loop-row.invariant.next);
+      so_far =
+          sets-joined-next (λ i. row_bytes v (row_at load i)) _ _ _ 4 c.loop-row.at i
+          c.loop-row.invariant.next c.loop-row.invariant.so_far
+          (c.overwrite.ensures ∙ ap (sets _ c.loop-row.at) (taken here));
+    }
 
 pub returns : goal.returns
 returns c =
-    let e : c.loop-i.i ≡ c.args.load.rows = omega arith in record {
-      value = rw e at c.loop-i.invariant.2;
-      out_after = rw e at c.loop-i.invariant.4;
-    }
-
-pub slice_bounds-bytes-end : goal.slice_bounds-bytes-end
-slice_bounds-bytes-end c = there (goal.at.slice_bounds-bytes-end c).After-records_in-records
-
-pub slice_bounds-overwrite-end : goal.slice_bounds-overwrite-end
-slice_bounds-overwrite-end
-    c = sym (length-take-le _ _ (there (goal.at.slice_bounds-overwrite-end c).After-records_in-records))
-
-pub shape_of-out : goal.shape_of-out
-shape_of-out c = c.loop-i.invariant.3
+    let load = c.args.load in
+    let places : load.rows ≤ length load.row = omega (arith, rows-le load c.requires) in
+    let e = all-counted load c.loop-row.row-index places c.loop-row.auto.row-index-end c.loop-row-test.false in
+    record { value = rw e at c.loop-row.invariant.next; out_after = rw e at c.loop-row.invariant.so_far }

@@ -1,27 +1,19 @@
--- `none_open` asks one row a turn: at i it knows whether one of the first i rows has an open window.
-use mathlib.Core.Bool.{not, ◌||◌}
-use mathlib.Core.Path.{◌≡◌, ap, ap₂, sym, ◌∙◌}
-use native.Mathlib.Omega.{arith}
-use borrow.Author.Rules.{rules}
+-- `none_open` asks one row a turn: it knows whether one of those asked so far has an open window.
+use Rattle.std.proofs.Common.{arith, ◌<◌, sym, ◌∙◌, length-take}
+use mathlib.Core.Bool.{false, ◌||◌}
+use mathlib.Core.Path.{ap₂}
+use lib.Seq.{get_or-take}
 use Rattle.counting.specs.Lists.{is_marked}
-use Rattle.counting.specs.Sums.{any_to}
 use Rattle.counting.proofs.tests.TestLaws.{any_to-zero, any_to-next}
-use Rattle.plan.specs.Boards.{marks_from}
 use Rattle.plan.proofs.numbers.none_open.Goals as goal
 
-pub loop-i-preserved : goal.loop-i-preserved
-loop-i-preserved c =
-    let marked = is_marked (marks_from c.args.counts.now 48) in (
-      search rules,
-      ap₂ ◌||◌ c.loop-i.invariant.1 c.is_marked-any.ensures ∙ sym (any_to-next marked c.loop-i.i),
-    )
+pub loop-opened-init : goal.loop-opened-init
+loop-opened-init c = sym (any_to-zero _)
 
-pub returns : goal.returns
-returns c =
-    let loop = c.loop-i in
-    let args = c.args in
-    let e : loop.i ≡ args.rows = omega (arith, loop.invariant.0, c.loop-i-test.false) in
-    ap not (loop.invariant.1 ∙ ap (any_to (is_marked (marks_from args.counts.now 48))) e)
-
-pub loop-i-init : goal.loop-i-init
-loop-i-init c = (search rules, sym (any_to-zero _))
+pub loop-opened-preserved : goal.loop-opened-preserved
+loop-opened-preserved c =
+    let opened = c.args.board.now.opened in
+    let k = c.loop-opened.opened-index in
+    let l : k < c.args.rows = omega (arith, c.loop-opened-test.true, length-take c.args.rows opened) in
+    ap₂ ◌||◌ c.loop-opened.invariant (get_or-take c.args.rows opened k false l)
+    ∙ sym (any_to-next (is_marked opened) k)

@@ -1,24 +1,59 @@
--- The loop is the fold of the check over the slots, and that fold finds what the definitions say of all slots.
-use mathlib.Core.Path.{sym, ◌∙◌, ap}
-use Rattle.schedule.specs.declared.seen.Seen.{Seen}
-use Rattle.schedule.specs.inner.SeenFold.{seen_of, fold_slots}
-use Rattle.schedule.proofs.fold.CheckFold.{fold-checks}
-use Rattle.schedule.proofs.walks.FoldLaws.{fold_end, fold-turn}
+-- `schedule::check_schedule` asks the load, then the number of slots, then one slot a turn.
+use Rattle.std.proofs.Common.{◌≡◌, sym, ◌∙◌, arith, length}
+use borrow.Author.Tests.{eq-eqb, ne_eqb}
+use Rattle.load.proofs.CheckLaws.{check_load-good}
+use Rattle.rules.specs.Check.{check_slots, check_schedule}
+use Rattle.refusals.proofs.PassedOn.{passed_on}
+use Rattle.schedule.specs.inner.Seen.{no_row_seen}
+use Rattle.schedule.proofs.turns.TurnLaws.{before-zero, turn-refused, turn-row, turn-step, turn-kept}
 use Rattle.schedule.proofs.check.check_schedule.Goals as goal
 
-pub loop-i-init : goal.loop-i-init
-loop-i-init c = ap (fold_slots c.args.load c.args.slots.now) c.begin-seen.ensures
+pub returns-in_err-check_load : goal.returns-in_err-check_load
+unfolding check_schedule
+returns-in_err-check_load c = passed_on _ _ c.from_residual.ensures.1 ∙ rw (sym c.in_err-check_load.ensures)
 
-pub loop-i-preserved : goal.loop-i-preserved
-loop-i-preserved c =
-    fold-turn (seen_of c.args.load) c.args.slots.now c.loop-i.i c.loop-i.seen c.check_at-seen.result
-    c.loop-i-test.true c.check_at-seen.ensures
-    ∙ c.loop-i.invariant
+pub returns-then-slots-steps_in : goal.returns-then-slots-steps_in
+unfolding check_schedule check_slots
+returns-then-slots-steps_in c =
+    rw (sym c.in_ok-check_load.ensures, ← c.steps_in.ensures, ne_eqb _ _ c.if-slots-steps_in.true)
+
+pub loop-slot-init : goal.loop-slot-init
+loop-slot-init c =
+    let none = c.default-seen.ensures in
+    before-zero c.args.load c.args.slots.now _ none.0 none.1.long
+    (λ i l. let row = none.1.at i no_row_seen l in (row.0, row.1.long))
+
+pub check_slot-requires : goal.check_slot-requires
+check_slot-requires c = (check_load-good c.args.load (sym c.in_ok-check_load.ensures)).few-rows
+
+pub returns-in_err-end : goal.returns-in_err-end
+unfolding check_schedule check_slots
+returns-in_err-end c =
+    let refused =
+    turn-refused c.args.load c.args.slots.now (sym c.in_ok-check_load.ensures) c.loop-slot.slot-index c.loop-slot.seen
+    c.loop-slot.invariant c.loop-slot-test.true _ c.in_err-end.ensures in
+    passed_on _ _ c.from_residual-in_err-end.ensures.1
+    ∙ rw (sym c.in_ok-check_load.ensures, ← c.steps_in.ensures, eq-eqb _ _ c.if-slots-steps_in.false, refused)
+
+pub keep-requires-clause-row : goal.keep-requires-clause-row
+keep-requires-clause-row c =
+    turn-row c.args.load c.args.slots.now (sym c.in_ok-check_load.ensures) c.loop-slot.slot-index c.loop-slot.seen
+    c.loop-slot.invariant c.loop-slot-test.true _ c.in_ok-end.ensures
+
+pub keep-requires-clause-step : goal.keep-requires-clause-step
+keep-requires-clause-step c =
+    turn-step c.args.load c.args.slots.now (sym c.in_ok-check_load.ensures) c.loop-slot.slot-index c.loop-slot.seen
+    c.loop-slot.invariant c.loop-slot-test.true _ c.in_ok-end.ensures
+
+pub loop-slot-preserved : goal.loop-slot-preserved
+loop-slot-preserved c =
+    rw c.keep.ensures
+    (turn-kept c.args.load c.args.slots.now (sym c.in_ok-check_load.ensures) c.loop-slot.slot-index c.loop-slot.seen
+    c.loop-slot.invariant c.loop-slot-test.true _ c.in_ok-end.ensures)
 
 pub returns : goal.returns
+unfolding check_schedule check_slots
 returns c =
-    c.finish.ensures
-    ∙ ap (λ (s : Seen). s.found)
-    (sym (fold_end (seen_of c.args.load) c.args.slots.now c.loop-i.i c.loop-i.seen c.loop-i-test.false)
-    ∙ c.loop-i.invariant)
-    ∙ fold-checks c.args.load c.args.slots.now
+    let all : c.loop-slot.slot-index ≡ length c.args.slots.now = omega arith in
+    let clean = rw all at c.loop-slot.invariant.clean in
+    rw (sym c.in_ok-check_load.ensures, ← c.steps_in.ensures, eq-eqb _ _ c.if-slots-steps_in.false, clean)

@@ -1,31 +1,44 @@
--- The loop gathers the file slot by slot, and what is gathered of all slots is their file.
-use mathlib.Core.Path.{◌≡◌, sym, ◌∙◌, ap, subst}
-use lib.ListN.{length, take}
-use Rattle.refusals.specs.Given.{Given}
-use Rattle.schedule_file.specs.declared.write.Gathered.{Gathered}
-use Rattle.schedule_file.specs.ScheduleFile.{slot_place, count_fault}
-use Rattle.schedule_file.specs.inner.Gathered.{headed, gathered_of, gathered}
-use Rattle.schedule_file.proofs.GatheredLaws.{gathered-given}
-use Rattle.schedule.proofs.walks.FoldLaws.{fold_end, fold-turn}
+-- `schedule_file::write_schedule` asks the count and the room, and then writes the head and record behind record.
+use Rattle.std.proofs.Common.{◌≡◌, sym, ◌∙◌, ap, refl, arith, length}
+use Rattle.std.proofs.lemmas.List.Edits.{sets}
+use Rattle.refusals.proofs.PassedOn.{passed_on}
+use Rattle.schedule_file.proofs.FileLaws.{schedule_bytes-length}
+use Rattle.schedule_file.proofs.RoomLaws.{room-few, room-refused, room-written}
+use Rattle.schedule_file.proofs.RecordLaws.{records_of-zero, records-next, records-all}
 use Rattle.schedule_file.proofs.write.write_schedule.Goals as goal
 
-pub loop-i-init : goal.loop-i-init
-loop-i-init c = ap (gathered c.args.slots.now) c.head-file.ensures
+pub returns-in_err-check_room : goal.returns-in_err-check_room
+returns-in_err-check_room c =
+    let refused = passed_on _ _ c.from_residual.ensures.1 in
+    let slots = c.args.slots.now in
+    rw refused
+    (room-refused (length slots) _ c.args.out.now (λ few. schedule_bytes-length slots) _
+    (sym c.in_err-check_room.ensures))
 
-pub loop-i-preserved : goal.loop-i-preserved
-loop-i-preserved c =
-    fold-turn gathered_of c.args.slots.now c.loop-i.i c.loop-i.file c.write_at-file.result c.loop-i-test.true
-    c.write_at-file.ensures
-    ∙ c.loop-i.invariant
+pub loop-k-init : goal.loop-k-init
+loop-k-init c =
+    record {
+      few = room-few _ _ (sym c.in_ok-check_room.ensures);
+      room = refl;
+      so_far = rw records_of-zero;
+    }
+
+pub loop-k-preserved : goal.loop-k-preserved
+loop-k-preserved c =
+    record {
+      few = c.loop-k.invariant.few;
+      room = c.overwrite-in-loop-k.auto.out ∙ c.loop-k.invariant.room;
+      so_far =
+          records-next c.args.slots.now _ _ _ _ c.loop-k.k c.loop-k-test.true c.loop-k.invariant.so_far
+          c.slot_record-record.ensures c.overwrite-in-loop-k.ensures;
+    }
 
 pub returns : goal.returns
 returns c =
     let slots = c.args.slots.now in
-    let n = length slots in
-    let whole : c.loop-i.file ≡ gathered slots (headed n) =
-    sym (fold_end gathered_of slots c.loop-i.i c.loop-i.file c.loop-i-test.false) ∙ c.loop-i.invariant in
-    gathered-given slots c.args.out.now c.flush.result c.flush.new.out
-    (subst
-    (λ (file : Gathered). Given (count_fault n) (take (slot_place n) file.bytes) c.args.out.now c.flush.result
-    c.flush.new.out)
-    whole c.flush.ensures)
+    let done : c.loop-k.k ≡ length slots = omega arith in
+    room-written (length slots) _ c.args.out.now (λ few. schedule_bytes-length slots) _
+    (sym c.in_ok-check_room.ensures)
+    (records-all slots c.args.out.now c.overwrite.new.out _
+    (c.overwrite.ensures ∙ ap (sets c.args.out.now 0) c.head_record.ensures)
+    (rw done at c.loop-k.invariant.so_far))

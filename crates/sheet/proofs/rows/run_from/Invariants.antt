@@ -6,7 +6,7 @@ use Rattle.sheet.proofs.walk.RunLaws.{RunSoFar}
 use Rattle.sheet.proofs.rows.run_from.Given as goal
 
 abbrev pub invariant-loop-next : goal.invariant-loop-next
-invariant-loop-next l = RunSoFar l.bytes l.at l.first l.steps l.next
+invariant-loop-next l = RunSoFar l.bytes l.at l.first.line l.steps l.next
 
 abbrev pub decreases-loop-next : goal.decreases-loop-next
 decreases-loop-next l = length l.bytes - l.next

@@ -1,10 +1,7 @@
--- `sheet::writing::write_row` writes line by line: after j turns the first j lines stand from the place on, and the
--- place is the one behind them. A line has at most 63 bytes, so the place fits.
-use Prim.Native.Nat.{ℕ, ◌+◌, ◌-◌, ◌*◌, ◌≤◌}
-use mathlib.Core.List.{List}
-use mathlib.Core.Path.{◌≡◌}
-use lib.ListN.{length}
-use lib.Seq.{sets}
+-- `write_row` writes line by line: after j turns the first j lines stand from the place on, and the place is the one
+-- behind them. A line has at most 63 bytes, so the place fits.
+use Rattle.std.proofs.Common.{◌≡◌, ◌+◌, ◌*◌, ◌≤◌, length, ℕ, List}
+use Rattle.std.proofs.lemmas.List.Edits.{sets}
 use Rattle.counting.specs.Lists.{join_to}
 use Rattle.load.specs.declared.Row.{Row}
 use Rattle.sheet_line.specs.LineText.{line_of, line_bytes}
@@ -19,11 +16,8 @@ lines row n = join_to (line row) n
 
 abbrev pub invariant-loop-j : goal.invariant-loop-j
 invariant-loop-j l =
-    (l.j ≤ l.row.steps)
-    × (l.place ≡ l.at + length (lines l.row l.j))
-    × (l.place ≤ l.at + 63 * l.j)
-    × (length l.out ≡ length l.initial.out)
-    × (l.out ≡ sets l.initial.out l.at (lines l.row l.j))
-
-abbrev pub decreases-loop-j : goal.decreases-loop-j
-decreases-loop-j l = l.row.steps - l.j
+    record {
+      next : l.place ≡ l.at + length (lines l.row l.j);
+      few : l.place ≤ l.at + 63 * l.j;
+      so_far : l.out ≡ sets l.initial.out l.at (lines l.row l.j);
+    }

@@ -29,9 +29,6 @@ pub returns : goal.returns
 returns c =
     c.with_bytes.ensures ∙ ap (behind c.args.text) (taken (goal.at.returns c).After-decimal_of-word)
 
-pub slice_bounds-bytes-end : goal.slice_bounds-bytes-end
-slice_bounds-bytes-end c = there (goal.at.slice_bounds-bytes-end c).After-decimal_of-word
-
 pub slice_bounds-with_bytes-end : goal.slice_bounds-with_bytes-end
 slice_bounds-with_bytes-end
     c = sym (length-take-le _ _ (there (goal.at.slice_bounds-with_bytes-end c).After-decimal_of-word))

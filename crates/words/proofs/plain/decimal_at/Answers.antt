@@ -1,18 +1,20 @@
--- `words::plain::decimal_at` reads what the bytes from the place on begin with.
-use mathlib.Core.Path.{◌≡◌, ap, ap₂, ◌∙◌}
-use Rattle.words.specs.PlainDecimal.{plain_at, value_at, plain_value}
-use Rattle.words.proofs.DigitLaws.{value_at-drop}
-use Rattle.words.proofs.PlainLaws.{plain_at-drop}
+-- `words::plain::decimal_at` takes the digits that stand from the place on, and reads them where they are a plain
+-- decimal.
+use mathlib.Core.Path.{sym, ◌∙◌}
+use Rattle.words.proofs.ReadLaws.{taken-digits, taken-none, taken-some}
 use Rattle.words.proofs.plain.decimal_at.Goals as goal
+
+pub returns-then-not-is_plain : goal.returns-then-not-is_plain
+returns-then-not-is_plain c =
+    taken-none c.args.bytes.now c.bytes_from-rest.result.now c.args.at c.digit_run.result c.bytes_from-rest.ensures
+    c.digit_run.ensures (sym c.is_plain.ensures ∙ c.if-not-is_plain.true)
+
+pub spelled-requires-clause-are : goal.spelled-requires-clause-are
+spelled-requires-clause-are c =
+    taken-digits c.args.bytes.now c.bytes_from-rest.result.now c.args.at c.digit_run.result c.bytes_from-rest.ensures
+    c.digit_run.ensures
 
 pub returns : goal.returns
 returns c =
-    let start = c.args in
-    let from = c.bytes_from-rest.ensures in
-    let digits : c.plain_run-count.result ≡ plain_at start.bytes.now start.at =
-    c.plain_run-count.ensures ∙ ap (λ l. plain_at l 0) from ∙ plain_at-drop start.bytes.now start.at in
-    let value : c.spelled.result ≡ plain_value start.bytes.now start.at =
-    c.spelled.ensures
-    ∙ ap₂ (λ l n. value_at l 0 n) from digits
-    ∙ value_at-drop start.bytes.now start.at (plain_at start.bytes.now start.at) in
-    ap₂ (λ n v. record { count = n; value = v }) digits value
+    taken-some c.args.bytes.now c.bytes_from-rest.result.now c.args.at c.digit_run.result c.bytes_from-rest.ensures
+    c.digit_run.ensures c.spelled.result (sym c.is_plain.ensures ∙ c.if-not-is_plain.false) c.spelled.ensures

@@ -1,8 +1,0 @@
--- `put_moments` stores each number in the row's place of its part.
-use mathlib.Core.Path.{refl}
-use Rattle.plan.specs.Boards.{parts_with}
-use Rattle.plan.proofs.boards.put_moments.Goals as goal
-
-pub returns : goal.returns
-unfolding parts_with
-returns c = refl

@@ -1,0 +1,25 @@
+-- `margins_bytes` passes on what the file is refused for; the load of a file that was read passes its check.
+use Rattle.std.proofs.Common.{ap, arith, ◌∙◌}
+use Rattle.std.specs.Prelude.{Ok, Err}
+use Rattle.rules.specs.Margins.{bytes_of_margins, margin_bytes}
+use Rattle.refusals.proofs.GivenParts.{given-part, given-refused}
+use Rattle.refusals.proofs.PassedOn.{passed_on}
+use Rattle.reading_bench.proofs.ForCLaws.{read-given, unread-given}
+use Rattle.reading_bench.proofs.margins_bytes.Goals as goal
+
+pub returns-in_err-read_load : goal.returns-in_err-read_load
+returns-in_err-read_load c =
+    passed_on _ _ c.from_residual.ensures.1 ∙ unread-given c.args.bytes.now _ margin_bytes c.in_err-read_load.ensures
+
+pub returns-in_err-margins_of : goal.returns-in_err-margins_of
+returns-in_err-margins_of c =
+    passed_on _ _ c.from_residual-in_err-margins_of.ensures.1
+    ∙ read-given c.args.bytes.now _ (λ at. omega (arith, c.type_inv.bytes at)) c.in_ok-read_load.ensures
+    margin_bytes (Err _)
+    (given-refused _ _ _ _ c.in_err-margins_of.ensures)
+
+pub returns : goal.returns
+returns c =
+    read-given c.args.bytes.now _ (λ at. omega (arith, c.type_inv.bytes at)) c.in_ok-read_load.ensures
+    margin_bytes (Ok _)
+    (ap Ok c.margin_bytes.ensures ∙ given-part bytes_of_margins _ _ _ c.in_ok-margins_of.ensures)

@@ -1,2 +1,0 @@
--- What the parts of the code give, for private functions alone: nothing here needs to be believed.
-pub mod Gathered
