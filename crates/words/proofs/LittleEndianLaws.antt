@@ -76,6 +76,16 @@ pub number_at-taken : (width : ℕ) (bs taken : List ℕ) (at : ℕ)
 number_at-taken width bs taken at h =
     number_at-same width taken bs 0 at (λ k l. ap (byte_at taken) (zero-add k) ∙ h k l)
 
+-- the number of four bytes, by their weights
+pub number_at-four : (bs : List ℕ) (at : ℕ)
+    → number_at 4 bs at
+    ≡ byte_at bs at + 256 * byte_at bs (at + 1) + 65536 * byte_at bs (at + 2) + 16777216 * byte_at bs (at + 3)
+unfolding number_at
+number_at-four bs at =
+    let third : byte_at bs (at + 1 + 1) ≡ byte_at bs (at + 2) = ap (byte_at bs) (omega arith) in
+    let fourth : byte_at bs (at + 1 + 1 + 1) ≡ byte_at bs (at + 3) = ap (byte_at bs) (omega arith) in
+    omega (arith, third, fourth)
+
 read_head : (width n : ℕ) (ys : List ℕ) → n < 256 ^ width → number_at width (little_endian width n ++ ys) 0 ≡ n
 unfolding number_at little_endian
 read_head zero n ys h = omega arith
