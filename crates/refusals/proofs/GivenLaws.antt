@@ -1,13 +1,14 @@
--- What comes with a finding, by what it is. Two ways in which a writing call ends, each with what the contract asks of
--- it: the finding is refused, or the answer is written. And a length that is told: it is decided, and no more than the
--- output has.
-use Prim.Native.Nat.{ℕ, ◌≤◌}
+-- What comes with a finding, by what it is. The three ways in which a writing call ends, each with what the contract
+-- asks of it: the finding is refused, the output is too short for the answer, or the answer is written. And a length
+-- that is told: it is decided, and no more than the output has.
+use Prim.Native.Nat.{ℕ, ◌≤◌, ◌<◌}
 use mathlib.Core.List.{List, [], ◌∷◌}
 use mathlib.Core.Path.{◌≡◌, refl, ap, sym, ◌∙◌}
 use native.Mathlib.Omega.{arith}
 use lib.ListN.{length}
-use borrow.Author.Tests.{le-ltb, ltb-false}
+use borrow.Author.Tests.{lt-ltb, le-ltb, ltb-false}
 use Rattle.refusals.specs.declared.Refusal.{Refusal}
+use Rattle.refusals.specs.declared.Refusal.TheVariants.{OutputShort}
 use Rattle.refusals.specs.Checked.{Checked}
 use Rattle.std.specs.Prelude.{Result, Ok, Err}
 use Rattle.refusals.specs.FirstMet.{first_fault}
@@ -50,6 +51,10 @@ module _ {A : Type 0} (finding : Checked) (answer out : List A) where
   pub refused-given : (refusal : Refusal) → finding ≡ Err refusal
       → Given finding answer out (Err refusal) out
   refused-given refusal e = record { finding-is = rw e; output-is = refl }
+
+  pub short-given : finding ≡ Ok tt → length out < length answer
+      → Given finding answer out (Err OutputShort) out
+  short-given e h = record { finding-is = rw (e, lt-ltb _ _ h); output-is = refl }
 
   pub written-given : (after : List A) → finding ≡ Ok tt → length answer ≤ length out → after ≡ written answer out
       → Given finding answer out (Ok tt) after
