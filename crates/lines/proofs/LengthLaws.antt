@@ -70,7 +70,7 @@ unfolding text
 yes_or_no-le true = omega arith
 yes_or_no-le false = omega arith
 
-first_line_of-le : (rows steps end bound : ℕ) (answer : Bool)
+pub first_line_of-le : (rows steps end bound : ℕ) (answer : Bool)
     → length (first_line_of rows steps end bound answer) ≤ first_most
 unfolding first_line_of spaced text
 first_line_of-le rows steps end bound answer =
@@ -111,32 +111,32 @@ unblamed-le row fields margin =
       signed_decimal-le margin,
     ))
 
-row_line_of-le : (row : ℕ) (fields : Row) (margin : ℤ) (blamed : Bool) (blame : Blame)
+pub row_line_of-le : (row : ℕ) (fields : Row) (margin : ℤ) (blamed : Bool) (blame : Blame)
     → length (row_line_of row fields margin (blame_words blamed blame)) ≤ row_most
 row_line_of-le row fields margin true blame = blamed-le row fields margin blame
 row_line_of-le row fields margin false blame = unblamed-le row fields margin
 
-slot_line-le : (slot : Slot) → length (slot_line slot) ≤ slot_most
+pub slot_line-le : (slot : Slot) → length (slot_line slot) ≤ slot_most
 unfolding slot_line spaced text
 slot_line-le slot =
     simp length-append
     (omega (arith, decimal-le slot.start, decimal-le slot.row, decimal-le slot.step))
 
-refused_line-le : (refusal : Refusal) → length (refused_line refusal) ≤ text_places
+pub refused_line-le : (refusal : Refusal) → length (refused_line refusal) ≤ text_places
 unfolding refused_line spaced text
 refused_line-le refusal = simp length-append (omega (arith, decimal-le (number_of refusal)))
 
-load_line-le : (L : View) (slots : List Slot) → length (load_line L slots) ≤ first_most
+pub load_line-le : (L : View) (slots : List Slot) → length (load_line L slots) ≤ first_most
 unfolding load_line
 load_line-le L slots = first_line_of-le L.rows (steps_in_all L) (last_end L slots) (bound L) (verdict L)
 
-row_line-le : (blamed : Bool) (load : Load) (i : ℕ) → length (row_line blamed load i) ≤ row_most
+pub row_line-le : (blamed : Bool) (load : Load) (i : ℕ) → length (row_line blamed load i) ≤ row_most
 unfolding row_line
 row_line-le blamed load i =
     row_line_of-le (shown i) (row_at load i) (margin (view_of load) i) blamed (row_blame (view_of load) i)
 
 -- a run of pieces, each of at most so many bytes
-join_to-le : (f : ℕ → List ℕ) (most n : ℕ) → ((i : ℕ) → length (f i) ≤ most) → length (join_to f n) ≤ most * n
+pub join_to-le : (f : ℕ → List ℕ) (most n : ℕ) → ((i : ℕ) → length (f i) ≤ most) → length (join_to f n) ≤ most * n
 unfolding join_to
 join_to-le f most zero h = omega arith
 join_to-le f most (suc n) h =

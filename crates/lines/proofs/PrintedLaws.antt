@@ -21,7 +21,7 @@ module _ (blamed : Bool) (bs : List ℕ) where
   unfolding printed_by
   printed_by-good e = rw (e, printed_by)
 
-  printed_by-refused : (refusal : Refusal) → file_fault bs ≡ Err refusal
+  pub printed_by-refused : (refusal : Refusal) → file_fault bs ≡ Err refusal
       → printed_by blamed bs ≡ refused_line refusal
   unfolding printed_by
   printed_by-refused refusal e = rw (e, printed_by)
