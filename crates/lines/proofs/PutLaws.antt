@@ -1,6 +1,6 @@
 -- Laws of a text that is gathered piece by piece: two pieces put one behind the other are put as one, and what has room
 -- is what the text holds.
-use Prim.Native.Nat.{ℕ, ◌+◌, ◌≤◌, ◌<◌, min}
+use Prim.Native.Nat.{ℕ, suc, ◌+◌, ◌≤◌, ◌<◌, min}
 use mathlib.Core.List.{List, [], ◌∷◌, ◌++◌, append_assoc, append-nil}
 use mathlib.Core.Path.{◌≡◌, refl, ap, ap₂, sym, ◌∙◌}
 use native.Mathlib.Omega.{arith}
@@ -11,6 +11,9 @@ use Rattle.std.proofs.Common.{inl, inr}
 use Rattle.std.proofs.lemmas.Bool.{cases_lt}
 use Rattle.counting.specs.Lists.{join_to, join_in}
 use Rattle.counting.proofs.lists.ListLaws.{join_to-next, join_in-append}
+use Rattle.words.specs.declared.Word.{Word}
+use Rattle.words.specs.Calls.{word_holding}
+use Rattle.words.proofs.DecimalLaws.{word-taken}
 use Rattle.words.proofs.OverwriteLaws.{sets-append, sets_behind, sets-past, sets-alone}
 use Rattle.lines.specs.declared.Text.{Text}
 use Rattle.lines.specs.Calls.{text_places, text_holding}
@@ -97,3 +100,17 @@ puts-to_none f text = puts-none text
 pub puts-to_next : {old text new : Text} (f : ℕ → List ℕ) (n : ℕ) → Puts old (join_to f n) text → Puts text (f n) new
     → Puts old (join_to f (n + 1)) new
 puts-to_next f n p q = puts_same (sym (join_to-next f n)) (puts-more p q)
+
+-- a space and a word that holds a text of at most so many bytes: a text grows by no more than these
+pub put-held : {old new : Text} (word : Word) (bs : List ℕ) (most : ℕ) → word ≡ word_holding bs → length bs ≤ most
+    → Puts old (32 ∷ take word.length word.bytes) new
+    → Puts old (32 ∷ bs) new × ((had : List ℕ) → old ≡ text_with had → new.length ≤ old.length + suc most)
+put-held {old} {new} word bs most e h p =
+    let q = puts_same (ap (λ l. 32 ∷ l) (word-taken word bs e)) p in (
+      q,
+      λ had is.
+          let before : old.length ≡ min (length had) text_places = ap (λ (t : Text). t.length) is in
+          let after : new.length ≡ min (length (had ++ 32 ∷ bs)) text_places =
+          ap (λ (t : Text). t.length) (q.behind had is) in
+          omega (arith, before, after, length-append had (32 ∷ bs)),
+    )

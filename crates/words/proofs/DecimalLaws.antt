@@ -9,10 +9,11 @@ use native.Mathlib.Nat.{pow-suc, one-le-pow}
 use native.Mathlib.Omega.{arith}
 use borrow.Author.Tests.{lt-ltb, le-ltb}
 use lib.Dec.{ltb}
+use lib.IntN.{ℤ, pos, negsuc, nat_abs}
 use lib.ListN.{length, length-append, replicate, set, take}
 use lib.Seq.{sets, take-append_seam}
 use Rattle.words.specs.declared.Word.{Word}
-use Rattle.words.specs.Decimal.{digit, decimal_to, decimal}
+use Rattle.words.specs.Decimal.{digit, decimal_to, decimal, signed_decimal}
 use Rattle.words.specs.Calls.{word_places, word_holding}
 use Rattle.words.proofs.OverwriteLaws.{sets-set, sets_behind, sets-alone}
 
@@ -87,6 +88,11 @@ decimal-length-lt n =
       | yes l ↦ rw (decimal-small n l) (omega arith)
       | no l ↦ rw (decimal_to-next 9 n (omega arith), length-append) (omega arith)
     ]
+
+-- a sign takes one place more
+pub signed_decimal-length-le : (k : ℕ) (z : ℤ) → nat_abs z < 10 ^ suc k → length (signed_decimal z) ≤ suc (suc k)
+signed_decimal-length-le k (pos n) h = let l = decimal-length-le k n h in omega arith
+signed_decimal-length-le k (negsuc n) h = let l = decimal-length-le k (suc n) h in omega arith
 
 -- a number from 10 ^ k on and below 10 ^ (k + 1) has k + 1 digits
 pub decimal-length-is : (k n : ℕ) → 10 ^ k ≤ n → n < 10 * 10 ^ k → n < 10 ^ 10 → length (decimal n) ≡ k + 1
