@@ -96,7 +96,7 @@ module _ {bs : List ℕ} {row : List Row} {rows next : ℕ} (so_far : RowsKept b
 
   -- the sheet has ended: each of its rows is kept
   module _ (h : length bs ≤ next) where
-    rows-ended : rows ≡ rows_in bs
+    pub rows-ended : rows ≡ rows_in bs
     rows-ended =
         elim (dec_lt rows (rows_in bs)) [
           | yes l ↦ absurd (omega (arith, rows_in-before bs rows l, so_far.next-is))
