@@ -1,6 +1,6 @@
 -- Laws of plain decimal as it is read. Where a number's decimal stands, and no digit behind it, that number is read;
 -- and where a number is read, its decimal stands.
-use Prim.Native.Nat.{ℕ, suc, ◌+◌, ◌-◌, ◌^◌, ◌≤◌, ◌<◌}
+use Prim.Native.Nat.{ℕ, zero, suc, ◌+◌, ◌-◌, ◌^◌, ◌≤◌, ◌<◌}
 use mathlib.Core.Bool.{Bool, true, false, not, cond, ◌&&◌, ◌||◌}
 use mathlib.Core.List.{List}
 use mathlib.Core.Path.{◌≡◌, refl, ap, sym, subst, ◌∙◌}
@@ -110,13 +110,26 @@ module _ (bs : List ℕ) (at : ℕ) where
   pub plain-sign : (n : ℕ) → n < plain_at bs at → IsSign (byte_at bs (at + n))
   plain-sign n l = is_digit-true (byte_at bs (at + n)) (plain_at-run-of n l)
 
-  pub plain_value-lt : plain_value bs at < 10 ^ 10
-  plain_value-lt =
+  -- what the first n of them spell
+  pub plain-front-lt : (n : ℕ) → n < plain_at bs at → value_at bs at n < 10 ^ 9
+  plain-front-lt n l =
+      let few = plain_at-le in
       omega (
         arith,
-        value_at-lt bs at (plain_at bs at) plain_at-run-of,
-        pow-le-pow_right {n = 10} (omega arith) {i = plain_at bs at} {j = 10} plain_at-le,
+        value_at-lt bs at n (λ d g. plain_at-run-of d (omega arith)),
+        pow-le-pow_right {n = 10} (omega arith) {i = n} {j = 9} (omega arith),
       )
+
+  -- and all of them, one digit behind those in front of it
+  pub plain_value-lt : plain_value bs at < 10 ^ 10
+  unfolding value_at
+  plain_value-lt = go (plain_at bs at) refl
+    where
+      go : (n : ℕ) → plain_at bs at ≡ n → value_at bs at n < 10 ^ 10
+      go zero e = omega arith
+      go (suc n) e =
+          let l : n < plain_at bs at = omega arith in
+          omega (arith, plain-front-lt n l, (plain-sign n l).most)
 
   pub plain_at-inside : 0 < plain_at bs at → at + plain_at bs at ≤ length bs
   plain_at-inside l =
