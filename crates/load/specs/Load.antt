@@ -109,7 +109,7 @@ zero_row =
       window = replicate most_windows no_window;
     }
 
--- the load that a refused reading gives
+-- the load of zeros: no row, and every place unused
 unfoldable pub zero_load : Load
 unfolding zero_row
 zero_load = record { rows = 0; row = replicate most_rows zero_row }

@@ -1,6 +1,7 @@
 // The check of a load in memory: the row count, the rows in their order, then the unused rows. The
 // first refusal that is met is the one that is given.
 ghost use Rattle.std.specs.Prelude.{◌≡◌, ◌≤◌, ◌<◌};
+ghost use Rattle.counting.specs.Lists.{filled};
 ghost use Rattle.refusals.specs.FirstMet.{first_fault_to};
 ghost use Rattle.load.specs.Load.{most_rows, row_at};
 ghost use Rattle.load.specs.Check.{check_step, check_window, row_fault};
@@ -8,8 +9,9 @@ ghost use Rattle.load.specs.Calls.{CheckLoad, CheckParts};
 
 use crate::faults::{check_fields, check_step_at, check_window_at};
 use crate::ranges::MOST_ROWS;
+use crate::taken::{box_taken, identifier_taken};
 use crate::zeros::{zero_rows_from, zero_steps_from, zero_windows_from};
-use crate::{Load, Row};
+use crate::{BoxNumber, Identifier, Load, Row};
 use refusals::Refusal;
 
 // Checks the used steps of a row.
@@ -49,18 +51,27 @@ pub fn check_parts(row: Row) -> Result<(), Refusal>
     Ok(())
 }
 
-// Checks the row at a place: its own fields, what it shares with an earlier row, and its parts.
-fn check_row(load: &Load, i: usize) -> Result<(), Refusal>
-    requires { i < most_rows }
+// Checks the row at a place: its own fields, what it shares with an earlier row, and its parts. The
+// identifiers and the boxes of the rows before it are lent.
+fn check_row(
+    load: &Load,
+    i: usize,
+    identifiers: &[Identifier; MOST_ROWS],
+    boxes: &[BoxNumber; MOST_ROWS],
+) -> Result<(), Refusal>
+    requires place { i < most_rows }
+    requires identifiers_are { identifiers.now
+        ≡ filled (λ k. (row_at load.now k).identifier) i most_rows (record { 0 = 0 }) }
+    requires boxes_are { boxes.now
+        ≡ filled (λ k. (row_at load.now k).box_number) i most_rows (record { 0 = 0 }) }
     ensures { result ≡ row_fault load.now i (row_at load.now i) }
 {
     let row = load.row[i];
-    let earlier = &load.row[..i];
     check_fields(row)?;
-    if earlier.iter().any(|held| held.identifier == row.identifier) {
+    if identifier_taken(*identifiers, i, row.identifier) {
         return Err(Refusal::IdentifierTaken);
     }
-    if earlier.iter().any(|held| held.box_number == row.box_number) {
+    if box_taken(*boxes, i, row.box_number) {
         return Err(Refusal::BoxTaken);
     }
     check_parts(row)
@@ -72,9 +83,13 @@ fn check_rows(load: &Load) -> Result<(), Refusal>
     ensures { result
         ≡ first_fault_to (λ i. row_fault load.now i (row_at load.now i)) load.now.rows }
 {
+    let mut identifiers = [Identifier(0); MOST_ROWS];
+    let mut boxes = [BoxNumber(0); MOST_ROWS];
     // Counted, as check_row goes by the place: the rows before it are asked too.
     for i in 0..load.rows as usize {
-        check_row(load, i)?;
+        check_row(load, i, &identifiers, &boxes)?;
+        identifiers[i] = load.row[i].identifier;
+        boxes[i] = load.row[i].box_number;
     }
     Ok(())
 }
