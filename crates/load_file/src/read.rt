@@ -12,7 +12,7 @@ ghost use Rattle.load_file.specs.inner.ReadingSteps.{rows_fault};
 
 use crate::read_parts::check_due;
 use crate::read_row::read_row;
-use load::{Load, MOST_ROWS};
+use load::{BoxNumber, Identifier, Load, MOST_ROWS};
 use load_records::{
     END_MARK, END_SIZE, HEADER_MARK, HEADER_SIZE, STEP_SIZE, VERSION_1, VERSION_2, WINDOW_SIZE,
     row_size,
@@ -76,12 +76,16 @@ fn read_rows(bytes: &[u8], version: u8, rows: u8) -> Result<Load, Refusal>
         × (rows ≤ most_rows) }
     ensures { result ≡ given (rows_fault bytes.now) (load_in bytes.now) }
 {
+    let mut identifiers = [Identifier(0); MOST_ROWS];
+    let mut boxes = [BoxNumber(0); MOST_ROWS];
     let mut kept = [load::zero_row(); MOST_ROWS];
     let mut at = HEADER_SIZE;
     let mut steps: u16 = 0;
-    // Counted, as the rows before are lent to the reading of the next, which is then kept.
+    // Counted, as what the rows before hold is lent to the reading of the next, which is then kept.
     for i in 0..rows as usize {
-        let row = read_row(bytes, at, version, &kept[..i])?;
+        let row = read_row(bytes, at, version, &identifiers, &boxes, i)?;
+        identifiers[i] = row.identifier;
+        boxes[i] = row.box_number;
         kept[i] = row;
         steps += row.steps as u16;
         at = place_behind(at, version, row.steps, row.windows);

@@ -1,18 +1,16 @@
 -- Laws that the reading call rests on: the tests behind tests that are found, the parts of a row's fault, what the rows
 -- before a row hold, and what reading a row gives.
-use Prim.Native.Nat.{ℕ, ◌≤◌, ◌<◌}
+use Prim.Native.Nat.{ℕ, min, ◌≤◌, ◌<◌}
 use mathlib.Core.Bool.{Bool}
 use mathlib.Core.List.{List, ◌++◌}
 use mathlib.Core.Path.{◌≡◌, refl, sym, ap, ◌∙◌}
 use native.Mathlib.Omega.{arith}
-use lib.ListN.{get_or, length}
+use lib.Dec.{eqb}
+use lib.ListN.{get_or}
 use Rattle.counting.specs.Sums.{sum_to, any_to}
 use Rattle.counting.proofs.sums.SumLaws.{sum_to-ext}
 use Rattle.counting.proofs.tests.TestLaws.{any_to-ext}
-use Rattle.counting.proofs.lists.ListLaws.{get_or-filled, get_or-list_to}
-use Rattle.counting.proofs.lists.MemberLaws.{any_in-any_to}
-use Rattle.counting.proofs.lists.TestedLaws.{any_in-list_any}
-use Rattle.std.specs.List.{list_any}
+use Rattle.counting.proofs.lists.ListLaws.{get_or-filled}
 use Rattle.refusals.specs.declared.Refusal.{Refusal}
 use Rattle.refusals.specs.Checked.{Checked}
 use Rattle.std.specs.Prelude.{Ok, Err}
@@ -23,12 +21,13 @@ use Rattle.refusals.proofs.FirstMetLaws.{
   append-good-first,
   append-good-second,
 }
+use Rattle.load.specs.declared.Identifier.{Identifier}
+use Rattle.load.specs.declared.BoxNumber.{BoxNumber}
 use Rattle.load.specs.declared.Step.{Step}
 use Rattle.load.specs.declared.Window.{Window}
-use Rattle.load.specs.declared.Row.{Row}
 use Rattle.load.specs.Load.{most_rows, most_steps, most_windows, no_row, zero_row, row_at}
 use Rattle.load.specs.View.{view_of, steps_in_all}
-use Rattle.load.specs.Faults.{row_tests, taken_tests}
+use Rattle.load.specs.Faults.{row_tests, taken_tests, identifier_taken, box_taken}
 use Rattle.load.proofs.CheckLaws.{fields-steps-le, fields-windows-le}
 use Rattle.load_records.specs.Records.{row_kind}
 use Rattle.load_file.specs.Places.{
@@ -76,20 +75,34 @@ steps_in_all-read bs =
     sum_to-ext (λ i. steps_said bs (row_place bs i)) (λ i. (row_at (load_in bs) i).steps) (rows_said bs)
     (λ i l. sym (ap (λ row. row.steps) (row_at-read bs i l)))
 
--- the rows before are those that the load has there, and what is asked of them is asked of the load
-module _ (bs : List ℕ) (earlier : List Row) (before : RowsBefore bs earlier) where
-  earlier-is : (k : ℕ) → k < length earlier → get_or earlier k no_row ≡ row_at (load_in bs) k
-  earlier-is k l =
-      ap (λ e. get_or e k no_row) before.are
-      ∙ get_or-list_to (λ k. row_from bs (row_place bs k)) (length earlier) k no_row l
-      ∙ sym (row_at-read bs k (omega (arith, before.said)))
+-- the identifiers and boxes of the rows before are those that the load has there
+module _ (bs : List ℕ) (i : ℕ) (identifiers : List Identifier) (boxes : List BoxNumber)
+    (before : RowsBefore bs i identifiers boxes) where
+  within : min i most_rows ≡ i
+  within = omega (arith, before.few)
 
-  pub asked-before : (p : Row → Bool)
-      → list_any p earlier ≡ any_to (λ k. p (row_at (load_in bs) k)) (length earlier)
-  asked-before p =
-      sym (any_in-list_any p earlier)
-      ∙ any_in-any_to p no_row earlier
-      ∙ any_to-ext _ _ (length earlier) (λ k l. ap p (earlier-is k l))
+  pub identifier_taken-before : (identifier : Identifier)
+      → any_to (λ k. eqb (get_or identifiers k (record { 0 = 0 })).0 identifier.0) (min i most_rows)
+      ≡ identifier_taken (load_in bs) i identifier
+  identifier_taken-before identifier =
+      rw (within, before.identifiers-are)
+      (any_to-ext _ _ i
+      (λ k l.
+      ap (λ x. eqb x.0 identifier.0)
+      (get_or-filled (λ k. (row_from bs (row_place bs k)).identifier) i most_rows k (record { 0 = 0 })
+      (record { 0 = 0 }) l
+      ∙ sym (ap (λ row. row.identifier) (row_at-read bs k (omega (arith, before.said)))))))
+
+  pub box_taken-before : (box : BoxNumber)
+      → any_to (λ k. eqb (get_or boxes k (record { 0 = 0 })).0 box.0) (min i most_rows) ≡ box_taken (load_in bs) i box
+  box_taken-before box =
+      rw (within, before.boxes-are)
+      (any_to-ext _ _ i
+      (λ k l.
+      ap (λ x. eqb x.0 box.0)
+      (get_or-filled (λ k. (row_from bs (row_place bs k)).box_number) i most_rows k (record { 0 = 0 })
+      (record { 0 = 0 }) l
+      ∙ sym (ap (λ row. row.box_number) (row_at-read bs k (omega (arith, before.said)))))))
 
 module _ (bs : List ℕ) (at : ℕ) where
   -- the tests of a row's own record ask its own fields alone

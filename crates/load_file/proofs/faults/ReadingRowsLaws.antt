@@ -1,17 +1,16 @@
 -- The rows of a file, as they are read one behind the other: what is known when the rows before row i are read, that it
 -- holds at the start and after one row more, and what the reading gives at the end.
-use Prim.Native.Nat.{ℕ, ◌+◌, ◌-◌, ◌*◌, ◌≤◌, ◌<◌}
-use mathlib.Core.List.{List, ◌++◌}
+use Prim.Native.Nat.{ℕ, ◌+◌, ◌*◌, ◌≤◌, ◌<◌}
+use mathlib.Core.List.{List}
 use mathlib.Core.Path.{◌≡◌, refl, sym, ap, ap₂, ◌∙◌}
 use native.Mathlib.Numerals.{add-one}
 use native.Mathlib.Omega.{arith}
-use lib.ListN.{length, set, take, replicate}
-use lib.Seq.{take-append_seam}
+use lib.ListN.{set, replicate}
 use borrow.Author.Tests.{ltb-false}
 use Rattle.counting.specs.Sums.{sum_to}
-use Rattle.counting.specs.Lists.{list_to, filled}
+use Rattle.counting.specs.Lists.{filled}
 use Rattle.counting.proofs.sums.SumLaws.{sum_to-zero, sum_to-next}
-use Rattle.counting.proofs.lists.ListLaws.{filled_none, filled-stored, list_to-length}
+use Rattle.counting.proofs.lists.ListLaws.{filled_none, filled-stored}
 use Rattle.refusals.specs.declared.Refusal.{Refusal}
 use Rattle.std.specs.Prelude.{Ok, Err}
 use Rattle.refusals.specs.FirstMet.{first_met, and_then, first_fault_to}
@@ -24,6 +23,8 @@ use Rattle.refusals.proofs.FirstMetLaws.{
   first_fault_to-refused,
 }
 use Rattle.refusals.proofs.FirstFaultLaws.{first_met-good}
+use Rattle.load.specs.declared.Identifier.{Identifier}
+use Rattle.load.specs.declared.BoxNumber.{BoxNumber}
 use Rattle.load.specs.declared.Row.{Row}
 use Rattle.load.specs.Load.{most_rows, most_steps, most_windows, zero_row}
 use Rattle.load.specs.View.{view_of, steps_in_all}
@@ -45,12 +46,12 @@ use Rattle.load_file.specs.Reading.{own_fault}
 use Rattle.load_file.specs.inner.ReadingSteps.{RowsBefore, rows_fault}
 use Rattle.load_file.proofs.faults.ReadingLaws.{row_fault_at-parts, own-steps-le, own-windows-le, steps_in_all-read}
 
--- the rows before row i are read: no fault is found in them, they are kept, the next record stands at a place, and they
--- have so many steps
-pub record RowsRead (bs : List ℕ) (i : ℕ) (rows : List Row) (at steps : ℕ) : Type 0 where
+-- the rows before row i are read: no fault is found in them, they are kept, their identifiers and boxes too, the next
+-- record stands at a place, and they have so many steps
+pub record RowsRead (bs : List ℕ) (i : ℕ) (identifiers : List Identifier) (boxes : List BoxNumber) (rows : List Row)
+    (at steps : ℕ) : Type 0 where
   pub no-fault : first_fault_to (row_fault_in bs) i ≡ Ok tt
-  pub said : i ≤ rows_said bs
-  pub few : i ≤ most_rows
+  pub before : RowsBefore bs i identifiers boxes
   pub rows_are : rows ≡ filled (λ k. row_from bs (row_place bs k)) i most_rows zero_row
   pub place_is : at ≡ row_place bs i
   pub place-le : at ≤ 4 + most_row_bytes * i
@@ -66,12 +67,19 @@ unfolding row_place
 row_place-next bs i = rw add-one
 
 -- before the first row
-pub rows_none : (bs : List ℕ) (zeros : Row) → zeros ≡ zero_row → RowsRead bs 0 (replicate most_rows zeros) 4 0
+pub rows_none : (bs : List ℕ) (zeros : Row) → zeros ≡ zero_row
+    → RowsRead bs 0 (replicate most_rows (record { 0 = 0 })) (replicate most_rows (record { 0 = 0 }))
+    (replicate most_rows zeros) 4 0
 rows_none bs zeros e =
     record {
       no-fault = first_fault_to-zero (row_fault_in bs);
-      said = omega arith;
-      few = omega arith;
+      before =
+          record {
+            said = omega arith;
+            few = omega arith;
+            identifiers-are = sym (filled_none _ most_rows _);
+            boxes-are = sym (filled_none _ most_rows _);
+          };
       rows_are = ap (replicate most_rows) e ∙ sym (filled_none _ most_rows zero_row);
       place_is = sym (row_place-zero bs);
       place-le = omega arith;
@@ -87,26 +95,8 @@ module _ (bs : List ℕ) where
   unfolding rows_fault
   rows_fault-parts = refl
 
-module _ {bs : List ℕ} {i : ℕ} {rows : List Row} {at steps : ℕ} (so_far : RowsRead bs i rows at steps) where
-  -- the rows that are kept so far
-  kept : take i rows ≡ list_to (λ k. row_from bs (row_place bs k)) i
-  kept =
-      let read : List Row = list_to (λ k. row_from bs (row_place bs k)) i in
-      let all : length read ≡ i = list_to-length (λ k. row_from bs (row_place bs k)) i in
-      ap (take i) so_far.rows_are
-      ∙ ap (λ n. take n (read ++ replicate (most_rows - i) zero_row)) (sym all)
-      ∙ take-append_seam read (replicate (most_rows - i) zero_row)
-
-  pub kept-length : length (take i rows) ≡ i
-  kept-length = ap length kept ∙ list_to-length (λ k. row_from bs (row_place bs k)) i
-
-  pub rows_before : RowsBefore bs (take i rows)
-  rows_before =
-      record {
-        said = omega (arith, kept-length, so_far.said);
-        are = kept ∙ ap (list_to (λ k. row_from bs (row_place bs k))) (sym kept-length);
-      }
-
+module _ {bs : List ℕ} {i : ℕ} {identifiers : List Identifier} {boxes : List BoxNumber} {rows : List Row} {at steps : ℕ}
+    (so_far : RowsRead bs i identifiers boxes rows at steps) where
   -- row i is read
   module _ (l : i < rows_said bs) where
     -- and refused: it decides
@@ -140,7 +130,8 @@ module _ {bs : List ℕ} {i : ℕ} {rows : List Row} {at steps : ℕ} (so_far : 
       few-windows : row.windows ≤ most_windows
       few-windows = rw windows-said (own-windows-le bs at i own-good)
 
-      pub rows_next : RowsRead bs (i + 1) (set rows i row)
+      pub rows_next : RowsRead bs (i + 1) (set identifiers i row.identifier) (set boxes i row.box_number)
+          (set rows i row)
           (at + (row_kind (version_said bs)).size + 6 * row.steps + 6 * row.windows)
           (steps + row.steps)
       rows_next =
@@ -151,8 +142,21 @@ module _ {bs : List ℕ} {i : ℕ} {rows : List Row} {at steps : ℕ} (so_far : 
             no-fault =
                 first_fault_to-one_more (row_fault_in bs) i so_far.no-fault
                 (ap (row_fault_at bs i) (sym so_far.place_is) ∙ h);
-            said = omega arith;
-            few = omega arith;
+            before =
+                record {
+                  said = omega arith;
+                  few = omega arith;
+                  identifiers-are =
+                      filled-stored (λ k. (row_from bs (row_place bs k)).identifier) i most_rows _ _ identifiers
+                      so_far.before.identifiers-are
+                      (ap (λ row. row.identifier) in_place)
+                      few;
+                  boxes-are =
+                      filled-stored (λ k. (row_from bs (row_place bs k)).box_number) i most_rows _ _ boxes
+                      so_far.before.boxes-are
+                      (ap (λ row. row.box_number) in_place)
+                      few;
+                };
             rows_are =
                 filled-stored (λ k. row_from bs (row_place bs k)) i most_rows zero_row row rows so_far.rows_are
                 in_place few;

@@ -1,14 +1,16 @@
 -- What the parts of the reading call give: definitions that its private functions cite, and no
 -- public contract. To be read after Reading.
 use Rattle.std.specs.Prelude.{ℕ, zero, suc, ◌+◌, ◌*◌, ◌≤◌, List, [], ◌∷◌, ◌++◌, ◌≡◌, get_or}
-use Rattle.std.specs.Prelude.{length, replicate}
-use Rattle.counting.specs.Lists.{list_to, filled}
+use Rattle.std.specs.Prelude.{replicate}
+use Rattle.counting.specs.Lists.{filled}
 use Rattle.refusals.specs.Checked.{Checked}
 use Rattle.refusals.specs.FirstMet.{first_met, first_fault, first_fault_to}
+use Rattle.load.specs.declared.Identifier.{Identifier}
+use Rattle.load.specs.declared.BoxNumber.{BoxNumber}
 use Rattle.load.specs.declared.Step.{Step}
 use Rattle.load.specs.declared.Window.{Window}
 use Rattle.load.specs.declared.Row.{Row}
-use Rattle.load.specs.Load.{most_steps, most_windows, no_step, no_window}
+use Rattle.load.specs.Load.{most_rows, most_steps, most_windows, no_step, no_window}
 use Rattle.load.specs.Faults.{row_tests, taken_tests}
 use Rattle.load_records.specs.Records.{Kind, row_kind, step_kind, window_kind}
 use Rattle.load_file.specs.Places.{
@@ -54,10 +56,15 @@ abbrev pub last_in : List ℕ → ℕ → ℕ → ℕ
 last_in bs from zero = 0
 last_in bs from (suc k) = (window_in bs (from + window_kind.size * k)).last
 
--- rows that are those at the front of the file
-pub record RowsBefore (bs : List ℕ) (earlier : List Row) : Type 0 where
-  pub said : length earlier ≤ rows_said bs
-  pub are : earlier ≡ list_to (λ k. row_from bs (row_place bs k)) (length earlier)
+-- the identifiers and the boxes of the rows before row i, and zeros in the places behind them
+pub record RowsBefore (bs : List ℕ) (i : ℕ) (identifiers : List Identifier)
+    (boxes : List BoxNumber) : Type 0 where
+  pub said : i ≤ rows_said bs
+  pub few : i ≤ most_rows
+  pub identifiers-are : identifiers
+      ≡ filled (λ k. (row_from bs (row_place bs k)).identifier) i most_rows (record { 0 = 0 })
+  pub boxes-are : boxes
+      ≡ filled (λ k. (row_from bs (row_place bs k)).box_number) i most_rows (record { 0 = 0 })
 
 -- what row i is refused for by its own fields, and by what it shares with a row before
 unfoldable pub fields_fault : List ℕ → ℕ → Row → Checked

@@ -4,4 +4,4 @@ use Rattle.load_file.proofs.faults.ReadingRowsLaws.{RowsRead}
 use Rattle.load_file.proofs.read.read_rows.Given as goal
 
 abbrev pub invariant-loop-i : goal.invariant-loop-i
-invariant-loop-i l = RowsRead l.bytes l.i l.kept l.at l.steps
+invariant-loop-i l = RowsRead l.bytes l.i l.identifiers l.boxes l.kept l.at l.steps

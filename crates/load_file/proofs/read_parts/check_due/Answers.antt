@@ -1,6 +1,6 @@
 -- `check_due` asks in order whether the file holds the record and whether the two bytes of its mark are the kind's: as
 -- each is below 256, they are where both pairs have one number.
-use Rattle.std.proofs.Common.{ℕ, ◌+◌, ◌*◌, ◌<◌, List, ◌≡◌, ◌∙◌, arith, get_or, rules, sym, ◌-◌, ap}
+use Rattle.std.proofs.Common.{ℕ, ◌+◌, ◌*◌, ◌<◌, List, ◌≡◌, ◌∙◌, arith, get_or, rules, ◌-◌, ap}
 use native.Mathlib.Decide.{ℕ_discrete}
 use borrow.Author.Tests.{le-ltb, eq-eqb, ne_eqb}
 use Rattle.words.specs.LittleEndian.{byte_at, number_at}
@@ -59,5 +59,5 @@ returns c =
     pair-bytes (byte_at bs c.args.at) (byte_at bs (c.args.at + 1)) (get_or mark 0 0) (get_or mark 1 0)
     (byte-small here)
     (mark-small here)
-    (sym (read-is here) ∙ c.if-number16_at-from_le_bytes.false ∙ mark-is here) in
+    (omega (arith, read-is here, mark-is here, c.if-number16_at-from_le_bytes.false)) in
     simp (le-ltb _ _ c.if-bytes-at.false, eq-eqb _ _ same.0, eq-eqb _ _ same.1)
