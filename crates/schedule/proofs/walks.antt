@@ -1,2 +1,3 @@
--- Laws of folds over lent slots.
+-- Laws of folds over lent slots, and of the fold of the check.
 pub mod FoldLaws
+pub mod CheckFold

@@ -1,6 +1,10 @@
 // The check of a schedule against its load. The slots are lent as a slice of slot records, the form
-// that the scope asks for by name.
+// that the scope asks for by name: check_at takes a slot apart, and calls a check of plain numbers.
+ghost use Rattle.std.specs.Prelude.{◌≡◌};
+ghost use Rattle.refusals.specs.FirstMet.{first_met};
+ghost use Rattle.refusals.specs.Given.{if_good};
 ghost use Rattle.schedule.specs.Calls.{AtMostPlaces, CheckSchedule, CheckArray};
+ghost use Rattle.schedule.specs.inner.Seen.{slot_tests, with_slot};
 
 use crate::SLOT_PLACES;
 use crate::found::check_slot;
@@ -8,6 +12,18 @@ use crate::seen::Seen;
 use load::{Load, check_load, steps_in};
 use refusals::Refusal;
 use rules::Slot;
+
+// Takes a slot apart: checks it by its row, its step and its start, and keeps it; or refuses with
+// the first of 13 to 17 that is met, and keeps nothing.
+fn check_at(load: &Load, seen: &mut Seen, slot: &Slot) -> Result<(), Refusal>
+    ensures found { result
+        ≡ first_met (slot_tests load.now seen.old slot.now.row slot.now.step slot.now.start) }
+    ensures kept { seen.new
+        ≡ if_good result
+        (with_slot load.now seen.old slot.now.row slot.now.step slot.now.start) seen.old }
+{
+    check_slot(load, seen, slot.row, slot.step, slot.start)
+}
 
 // Checks the slots of a schedule against its load; refuses with the first of the load's own
 // numbers, then 12, then slot by slot 13 to 17 that is met.
@@ -20,8 +36,7 @@ pub fn check_schedule(load: Load, slots: &[Slot]) -> Result<(), Refusal>
     }
     let mut seen = Seen::default();
     for slot in slots {
-        let end = check_slot(&load, &seen, *slot)?;
-        seen.keep(*slot, end);
+        check_at(&load, &mut seen, slot)?;
     }
     Ok(())
 }

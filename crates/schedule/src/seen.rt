@@ -5,7 +5,6 @@ ghost use Rattle.load.specs.Load.{most_rows, most_steps};
 ghost use Rattle.schedule.specs.inner.Seen.{advanced};
 
 use load::{MOST_ROWS, MOST_STEPS};
-use rules::Slot;
 
 // What the slots so far showed of a row: how many they are, and when the slot of each step starts.
 #[derive(Clone, Copy, Default)]
@@ -23,14 +22,14 @@ pub struct Seen {
 
 impl Seen {
     // Keeps a slot that is right, and ends then.
-    pub(crate) fn keep(&mut self, slot: Slot, end: u64)
-        requires row { (1 ≤ slot.row) × (slot.row ≤ most_rows) }
-        requires step { (1 ≤ slot.step) × (slot.step ≤ most_steps) }
-        ensures { self.new ≡ advanced self.old slot end }
+    pub(crate) fn keep(&mut self, row: u8, step: u8, start: u32, end: u64)
+        requires row { (1 ≤ row) × (row ≤ most_rows) }
+        requires step { (1 ≤ step) × (step ≤ most_steps) }
+        ensures { self.new ≡ advanced self.old row step start end }
     {
-        let row = &mut self.rows[slot.row as usize - 1];
-        row.count = slot.step;
-        row.starts[slot.step as usize - 1] = slot.start;
+        let seen = &mut self.rows[row as usize - 1];
+        seen.count = step;
+        seen.starts[step as usize - 1] = start;
         self.end = end;
     }
 }

@@ -11,7 +11,7 @@ use Rattle.counting.proofs.lists.ListLaws.{join_in-append}
 use Rattle.words.proofs.OverwriteLaws.{sets_more}
 use Rattle.rules.specs.declared.Slot.{Slot}
 use Rattle.rules.specs.Slots.{no_slot, slot_at}
-use Rattle.schedule_file.specs.ScheduleFile.{header_size, slot_place}
+use Rattle.schedule_file.specs.ScheduleFile.{header_size, slot_place, slot_of}
 use Rattle.schedule_file.specs.ScheduleFile.{head_bytes, slot_record, schedule_bytes}
 use Rattle.schedule_file.proofs.FileLaws.{join_in-length, head-length, file-is}
 
@@ -22,6 +22,12 @@ records_of slots k = join_in slot_record (take k slots)
 pub records_of-zero : (slots : List Slot) → records_of slots 0 ≡ []
 unfolding join_in
 records_of-zero slots = refl
+
+-- the record of the slot with these numbers, which is the one at a place
+pub record-here : (slots : List Slot) (piece : List ℕ) (k row step start : ℕ)
+    → piece ≡ slot_record (slot_of row step start) → slot_of row step start ≡ slot_at slots k
+    → piece ≡ slot_record (slot_at slots k)
+record-here slots piece k row step start made here = made ∙ ap slot_record here
 
 -- one record more is written behind them
 pub records-next : (slots : List Slot) (out so_far after piece : List ℕ) (k : ℕ) → k < length slots

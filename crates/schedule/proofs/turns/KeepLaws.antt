@@ -39,10 +39,10 @@ module _ (load : Load) (ok : Acceptable (view_of load)) (slots : List Slot) (k :
   i = row_of x
 
   abbrev mine-seen : RowSeen
-  mine-seen = row_advanced (seen_at seen i) x
+  mine-seen = row_advanced (seen_at seen i) x.step x.start
 
   abbrev next : Seen
-  next = advanced seen x (slot_end (view_of load) x)
+  next = advanced seen x.row x.step x.start (slot_end (view_of load) x)
 
   i_lt : i < (view_of load).rows
   i_lt = omega (arith, mine.row_from, mine.row-to)

@@ -11,21 +11,18 @@ use borrow.Author.Tests.{ltb-false, le-ltb, lt-leb, eqb-true, eq-eqb, not-false}
 use Rattle.counting.specs.Lists.{any_in}
 use Rattle.counting.proofs.tests.TestLaws.{and_left, and_right, and_both, any_to-ext}
 use Rattle.counting.proofs.lists.MemberLaws.{First, true-any_in, any_in-true, any_in-any_to}
-use Rattle.refusals.specs.declared.Refusal.TheVariants.{
-  NoSuchSlot,
-  SlotOverlaps,
-  SlotEarly,
-  WindowLate,
-  RowLate,
-}
+use Rattle.refusals.specs.declared.Refusal.TheVariants.{NoSuchSlot, SlotOverlaps, SlotEarly}
+use Rattle.refusals.specs.declared.Refusal.TheVariants.{WindowLate, RowLate}
 use Rattle.std.specs.Prelude.{Ok, Err}
+use Rattle.refusals.specs.Checked.{Checked}
 use Rattle.refusals.specs.FirstMet.{first_met, first_fault_to}
 use Rattle.refusals.proofs.FirstMetLaws.{first_fault_to-good}
 use Rattle.load.specs.declared.Load.{Load}
 use Rattle.load.specs.declared.Window.{Window}
-use Rattle.load.specs.Load.{last_moment, row_at, no_window, shown}
+use Rattle.load.specs.Load.{last_moment, most_rows, most_steps, row_at, no_window, shown}
 use Rattle.load.specs.View.{View, view_of, row_windows}
 use Rattle.load.specs.Acceptable.{Acceptable, window_of}
+use Rattle.load.specs.Faults.{outside}
 use Rattle.rules.specs.declared.Slot.{Slot}
 use Rattle.rules.specs.Ready.{release}
 use Rattle.rules.specs.Slots.{no_slot, slot_at, row_of, step_of, slot_end, is_for, slot_for}
@@ -43,7 +40,7 @@ use Rattle.rules.proofs.slots.NextLaws.{Ranked, count_to-ranked}
 use Rattle.schedule.specs.declared.seen.Seen.{Seen}
 use Rattle.schedule.specs.inner.Seen.{seen_at, started, released_at, end_at, late_window, step_tests, slot_tests}
 use Rattle.schedule.proofs.turns.RightLaws.{Right, tests-right}
-use Rattle.schedule.proofs.turns.SeenLaws.{rest-ext, names-ext, end_before, SeenTo}
+use Rattle.schedule.proofs.turns.SeenLaws.{rest-ext, name-ext, both-tests, end_before, SeenTo}
 
 module _ (load : Load) (ok : Acceptable (view_of load)) (slots : List Slot) (k : ℕ) (seen : Seen)
     (kept : SeenTo (view_of load) slots k seen)
@@ -195,7 +192,7 @@ module _ (load : Load) (ok : Acceptable (view_of load)) (slots : List Slot) (k :
             ap (λ m. eqb x.step w.last && ltb (m + w.limit) (slot_end L x)) start
 
         abbrev mine : Window → Bool
-        mine = late_window (seen_at seen i) x.step (end_at (row_at load i) x)
+        mine = late_window (seen_at seen i) x.step (end_at (row_at load i) x.step x.start)
 
         window_same : any_in mine (row_windows (row_at load i)) ≡ ends_window_late L slots x
         unfolding view_of
@@ -207,13 +204,14 @@ module _ (load : Load) (ok : Acceptable (view_of load)) (slots : List Slot) (k :
             ∙ sym (any_in-any_to late no_window (L.windows i))
 
       -- behind the numbers of the row and the step the tests are the same
-      rest-same : first_met (drop 2 (step_tests (row_at load i) (seen_at seen i) seen.end x))
+      rest-same : first_met (drop 3 (step_tests (row_at load i) (seen_at seen i) seen.end x.step x.start))
           ≡ first_met (drop 1 (rule_tests L slots k x))
       unfolding step_tests rule_tests view_of
       rest-same =
           rest-ext (not (eqb x.step (shown (seen_at seen i).count))) (ltb last_moment x.start)
           (ltb x.start seen.end) (ltb x.start (released_at (row_at load i) (seen_at seen i) x.step))
-          (any_in (late_window (seen_at seen i) x.step (end_at (row_at load i) x)) (row_windows (row_at load i)))
+          (any_in (late_window (seen_at seen i) x.step (end_at (row_at load i) x.step x.start))
+          (row_windows (row_at load i)))
           (not_next slots k x) (overlaps L slots k x) (starts_early L slots x) (ends_window_late L slots x)
           (Err NoSuchSlot) (Err SlotOverlaps) (Err SlotEarly) (Err WindowLate)
           (cond (ends_row_late L x) (Err RowLate) (Ok tt)) next-same overlap-same (λ e. early-same (is-next e))
@@ -223,10 +221,27 @@ module _ (load : Load) (ok : Acceptable (view_of load)) (slots : List Slot) (k :
           is-next e =
               eqb-true x.step (shown n) (not-false (eqb x.step (shown n)) (sym next-same ∙ e))
 
-    pub tests_same : first_met (slot_tests load seen x) ≡ slot_fault L slots k
+    pub tests_same : first_met (slot_tests load seen x.row x.step x.start) ≡ slot_fault L slots k
     unfolding step_tests rule_tests view_of
     tests_same =
-        names-ext (ltb x.row 1) (ltb load.rows x.row) (ltb x.step 1) (ltb (row_at load i).steps x.step) (Err NoSuchSlot)
-        _ _
-        (λ a b e g. rest-same (ltb-false x.row 1 a) (ltb-false load.rows x.row b) (ltb-false x.step 1 e)
-        (ltb-false (row_at load i).steps x.step g))
+        name-ext (ltb x.row 1) (ltb load.rows x.row) (ltb most_rows x.row) (Err NoSuchSlot) _ step-rest
+        (λ a b. le-ltb most_rows x.row (omega (arith, ltb-false load.rows x.row b, ok.rows-most)))
+        (λ a b. of-step (ltb-false x.row 1 a) (ltb-false load.rows x.row b))
+        ∙ both-tests (outside 1 load.rows x.row) (outside 1 last x.step) (Err NoSuchSlot) rest
+      where
+        last : ℕ
+        last = (row_at load i).steps
+
+        rest : Checked
+        rest = first_met (drop 1 (rule_tests L slots k x))
+
+        step-rest : Checked
+        step-rest = cond (outside 1 last x.step) (Err NoSuchSlot) rest
+
+        of-step : 1 ≤ x.row → x.row ≤ load.rows
+            → first_met (step_tests (row_at load i) (seen_at seen i) seen.end x.step x.start) ≡ step-rest
+        of-step from to =
+            name-ext (ltb x.step 1) (ltb last x.step) (ltb most_steps x.step) (Err NoSuchSlot) _ rest
+            (λ e g. le-ltb most_steps x.step
+            (omega (arith, ltb-false last x.step g, ok.steps-most i (omega (arith, from, to)))))
+            (λ e g. rest-same from to (ltb-false x.step 1 e) (ltb-false last x.step g))

@@ -1,10 +1,12 @@
 -- `schedule_file::write_schedule` asks the count and the room, and then writes the head and record behind record.
-use Rattle.std.proofs.Common.{◌≡◌, sym, ◌∙◌, ap, refl, arith, length}
+use Rattle.std.proofs.Common.{◌≡◌, sym, ◌∙◌, ap, refl, rules, arith, length}
+use Rattle.std.proofs.lemmas.List.{get_or-take, get_or-drop}
 use Rattle.std.proofs.lemmas.List.Edits.{sets}
 use Rattle.refusals.proofs.PassedOn.{passed_on}
+use Rattle.rules.specs.declared.Slot.{Slot}
 use Rattle.schedule_file.proofs.FileLaws.{schedule_bytes-length}
 use Rattle.schedule_file.proofs.RoomLaws.{room-few, room-refused, room-written}
-use Rattle.schedule_file.proofs.RecordLaws.{records_of-zero, records-next, records-all}
+use Rattle.schedule_file.proofs.RecordLaws.{records_of-zero, record-here, records-next, records-all}
 use Rattle.schedule_file.proofs.write.write_schedule.Goals as goal
 
 pub returns-in_err-check_room : goal.returns-in_err-check_room
@@ -29,8 +31,10 @@ loop-k-preserved c =
       few = c.loop-k.invariant.few;
       room = c.overwrite-in-loop-k.auto.out ∙ c.loop-k.invariant.room;
       so_far =
-          records-next c.args.slots.now _ _ _ _ c.loop-k.k c.loop-k-test.true c.loop-k.invariant.so_far
-          c.slot_record-record.ensures c.overwrite-in-loop-k.ensures;
+          records-next c.args.slots.now _ _ _ _ c.loop-k.k (omega arith) c.loop-k.invariant.so_far
+          (record-here c.args.slots.now _ c.loop-k.k _ _ _ c.slot_record-record.ensures
+          (search (rules, get_or-take {A = Slot}, get_or-drop {A = Slot})))
+          c.overwrite-in-loop-k.ensures;
     }
 
 pub returns : goal.returns
