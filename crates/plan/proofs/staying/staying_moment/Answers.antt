@@ -13,7 +13,7 @@ use Rattle.counting.specs.Lists.{member_at}
 use Rattle.counting.proofs.tests.TestLaws.{true-false}
 use Rattle.rules.specs.Plan.{Jobs, in_time_by}
 use Rattle.std.proofs.lemmas.List.{take_rest}
-use Rattle.plan.specs.inner.Walks.{others_in}
+use Rattle.plan.specs.inner.Walks.{others_in, walk_in}
 use Rattle.plan.specs.inner.Passing.{never, jobs_of}
 use Rattle.plan.specs.inner.Staying.{moment_before, behind_until}
 use Rattle.plan.proofs.refused.WalkLaws.{in_time_from-none, walked_late, walked_given}
@@ -31,7 +31,10 @@ pub returns-in_default : goal.returns-in_default
 returns-in_default c =
     sym
     (stays_until-late (jobs_of c.args.board.now) c.args.stack.now c.args.i c.args.stay.now _ refl
-    (walked_late _ (sym c.in_default.is ∙ c.rows_before.ensures.value)))
+    (walked_late
+    (walk_in (jobs_of c.args.board.now) c.args.i c.args.stay.now.own c.args.stack.now 0
+    (c.args.stay.now.clock + c.args.stay.now.cost) 0)
+    (sym c.in_default.is ∙ c.rows_before.ensures.value)))
 
 pub returns-then-stay-end : goal.returns-then-stay-end
 returns-then-stay-end c =
