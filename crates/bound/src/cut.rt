@@ -17,9 +17,10 @@ fn kept_of(row: &Row, m: usize) -> usize
 {
     let steps = row.steps as usize;
     let first = m.min(steps);
-    (first..steps)
-        .find(|j| !embedded_at(*row, *j))
-        .unwrap_or(steps)
+    match (first..steps).find(|j| !embedded_at(*row, *j)) {
+        Some(free) => free,
+        None => steps,
+    }
 }
 
 // Adds the costs of a row's first n steps.
