@@ -71,7 +71,7 @@ module _ (c : After-next_start-next) where
       c.next_start-next.result
   up =
       next_up c.in_ok-load.load ok (checked-rows _ ok) _ _ _ c.loop-k.invariant.3 less
-      _ c.fill_board.ensures.classes_of c.next_start-next.result
+      _ (search (c.fill_board.ensures.classes_of)) c.next_start-next.result
       c.next_start-next.ensures
 
 pub offset_bounds-load-i : goal.offset_bounds-load-i
