@@ -40,7 +40,7 @@ loop-row-preserved c =
       next = omega (arith, value.0, inv.next);
       few = omega (arith, value.1, inv.few);
       so_far =
-          sets-joined-next (row load) _ _ _ 0 c.loop-row.at i (omega (arith, inv.next)) inv.so_far
+          sets-joined-next (row load) _ _ _ 0 _ i (omega (arith, inv.next)) inv.so_far
           (rw is at c.write_row-at.ensures.out_after);
     }
 
