@@ -20,7 +20,8 @@ returns-in_err-bound_of c =
     (given-refused _ _ _ _ c.in_err-bound_of.ensures)
 
 pub returns : goal.returns
+unfolding little_endian
 returns c =
     read-given c.args.bytes.now _ (λ at. omega (arith, c.type_inv.bytes at)) c.in_ok-read_load.ensures
     bound_bytes (Ok _)
-    (ap Ok c.bytes32.ensures ∙ given-part (λ n. little_endian 4 n) _ _ _ c.in_ok-bound_of.ensures)
+    (ap Ok (rw c.bytes32.ensures) ∙ given-part (λ n. little_endian 4 n) _ _ _ c.in_ok-bound_of.ensures)
