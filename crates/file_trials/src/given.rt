@@ -7,7 +7,7 @@ use crate::memory::{LOAD_SIZE, load_from};
 use crate::output::write_number;
 use load::Load;
 use load_file::read_load;
-use refusals::Refusal;
+use refusals::{Refusal, number_of};
 use std::io::{self, Read, Write};
 
 // A load, or what its reading refuses.
@@ -32,5 +32,5 @@ pub fn from_memory(input: &mut impl Read) -> Option<Load> {
 
 // Writes `refused` and the number.
 pub fn write_refused(output: &mut impl Write, refusal: Refusal) -> io::Result<()> {
-    write_number(output, b"refused ", u32::from(refusal))
+    write_number(output, b"refused ", number_of(refusal))
 }

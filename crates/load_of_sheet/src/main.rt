@@ -12,7 +12,7 @@ ghost use Rattle.sheet.specs.Inputs.{Places, IsLong};
 ghost use Rattle.load_of_sheet.specs.Program.{Answer};
 
 use load_records::{MOST_FILE_BYTES, version_1_size, write_version_1};
-use refusals::Refusal;
+use refusals::{Refusal, number_of};
 use sheet::read_sheet;
 use std::io;
 use std::process::ExitCode;
@@ -61,7 +61,7 @@ fn main(rt: HostRuntime) -> io::Result<ExitCode> {
     let length = match answer(&input[..size], &mut file) {
         Ok(length) => length,
         Err(refusal) => {
-            eprintln!(rt; "refused {}", u32::from(refusal))?;
+            eprintln!(rt; "refused {}", number_of(refusal))?;
             return Ok(ExitCode::FAILURE);
         }
     };

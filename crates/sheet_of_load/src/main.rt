@@ -12,7 +12,7 @@ ghost use Rattle.sheet.specs.Inputs.{Places, IsLong};
 ghost use Rattle.sheet_of_load.specs.Program.{Answer};
 
 use load_file::read_load;
-use refusals::Refusal;
+use refusals::{Refusal, number_of};
 use sheet::{MOST_SHEET_BYTES, write_sheet};
 use std::io;
 use std::process::ExitCode;
@@ -60,7 +60,7 @@ fn main(rt: HostRuntime) -> io::Result<ExitCode> {
     let length = match answer(&input[..size], &mut sheet) {
         Ok(length) => length,
         Err(refusal) => {
-            eprintln!(rt; "refused {}", u32::from(refusal))?;
+            eprintln!(rt; "refused {}", number_of(refusal))?;
             return Ok(ExitCode::FAILURE);
         }
     };
