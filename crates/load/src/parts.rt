@@ -40,9 +40,10 @@ pub fn row_at(load: Load, i: usize) -> Row
 pub fn steps_in(load: Load) -> u16
     ensures { StepsIn load result }
 {
-    let rows = (load.rows as usize).min(MOST_ROWS);
     let mut steps: u16 = 0;
-    for row in &load.row[..rows] {
+    // Counted, as row_at gives the rows past the last place too, which have no step.
+    for i in 0..load.rows as usize {
+        let row = row_at(load, i);
         steps += row.steps as u16;
     }
     steps

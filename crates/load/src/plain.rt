@@ -23,8 +23,15 @@ fn any_not_plain(load: Load) -> bool
     requires { load.rows ≤ most_rows }
     ensures { result ≡ any_to (λ i. not_plain (row_at load i)) load.rows }
 {
-    let mut rows = load.row.iter().take(load.rows as usize);
-    rows.any(|row| is_not_plain(*row))
+    let rows = load.rows as usize;
+    // Counted, so that the place of the first row is an operand: an edit tries another.
+    for i in 0..rows {
+        let row = load.row[i];
+        if is_not_plain(row) {
+            return true;
+        }
+    }
+    false
 }
 
 // Checks a load that is to be written as version 1 or as a sheet: refuses with the first of its own

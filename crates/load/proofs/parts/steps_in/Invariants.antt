@@ -1,6 +1,8 @@
--- `load::steps_in` adds one row a turn: it holds the steps of the rows so far. A row counts at most 255 steps, so the
--- sum fits.
-use Rattle.std.proofs.Common.{ℕ, ◌*◌, ◌≤◌, ◌≡◌}
+-- `load::steps_in` adds one row a turn: at i it holds the steps of the first i rows. A load counts at most 255 rows and
+-- a row at most 255 steps, so the sum fits; past the 24 places nothing stands in the list, and the row of zeros has no
+-- step.
+use Prim.Native.Nat.{ℕ, ◌-◌, ◌*◌, ◌≤◌}
+use mathlib.Core.Path.{◌≡◌}
 use Rattle.counting.specs.Sums.{sum_to}
 use Rattle.load.specs.declared.Load.{Load}
 use Rattle.load.specs.Load.{row_at}
@@ -9,9 +11,8 @@ use Rattle.load.proofs.parts.steps_in.Given as goal
 abbrev pub steps_of : Load → ℕ → ℕ
 steps_of load i = (row_at load i).steps
 
-abbrev pub invariant-loop-row : goal.invariant-loop-row
-invariant-loop-row l =
-    record {
-      so_far : l.steps ≡ sum_to (steps_of l.fn.load) l.row-index;
-      few : l.steps ≤ 255 * l.row-index;
-    }
+abbrev pub invariant-loop-i : goal.invariant-loop-i
+invariant-loop-i l = (l.i ≤ l.i-end) × (l.steps ≡ sum_to (steps_of l.load) l.i) × (l.steps ≤ 255 * l.i)
+
+abbrev pub decreases-loop-i : goal.decreases-loop-i
+decreases-loop-i l = l.i-end - l.i

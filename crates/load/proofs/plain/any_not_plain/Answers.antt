@@ -1,19 +1,32 @@
--- `any_not_plain` asks the rows that the load counts.
-use Rattle.std.proofs.Common.{rules, tests, arith, ap, ◌≡◌, min, ◌∙◌}
-use Rattle.std.proofs.lemmas.Iterator.{YieldsList-from_slice, YieldsList-from_take}
-use Rattle.std.proofs.lemmas.Iterator.Search.{any_from_yields_List}
+-- `any_not_plain` looks at one row a turn: of the first i rows each is plain, and the first that is not ends the
+-- search.
+use mathlib.Core.Path.{◌≡◌, sym, ◌∙◌, ap}
+use native.Mathlib.Omega.{arith}
+use borrow.Author.Rules.{rules}
 use Rattle.counting.specs.Sums.{any_to}
-use Rattle.counting.proofs.lists.TestedLaws.{list_any-take}
-use Rattle.load.specs.Load.{no_row, row_at}
-use Rattle.load.specs.Plain.{not_plain}
+use Rattle.counting.proofs.tests.TestLaws.{or-neither, any_to-zero, any_to-next, true-any_to}
 use Rattle.load.proofs.plain.any_not_plain.Goals as goal
+use Rattle.load.proofs.plain.any_not_plain.Invariants.{at}
+
+pub loop-i-init : goal.loop-i-init
+loop-i-init c = (search rules, any_to-zero _)
+
+pub returns-then-is_not_plain : goal.returns-then-is_not_plain
+returns-then-is_not_plain c =
+    let load = c.args.load in
+    sym
+    (true-any_to (at load) load.rows c.loop-i.i (omega arith)
+    (sym c.is_not_plain.ensures ∙ c.if-is_not_plain.true))
+
+pub loop-i-preserved : goal.loop-i-preserved
+loop-i-preserved c = (
+  search rules,
+  rw any_to-next
+      (or-neither _ _ c.loop-i.invariant.1 (sym c.is_not_plain.ensures ∙ c.if-is_not_plain.false)),
+)
 
 pub returns : goal.returns
 returns c =
     let load = c.args.load in
-    let few : min load.rows 24 ≡ load.rows = omega arith in
-    any_from_yields_List not_plain _ _ _ c.any.ensures.ran
-    (YieldsList-from_take load.rows (YieldsList-from_slice load.row cc) cc)
-    (λ x b q k. search (rules, tests))
-    ∙ list_any-take not_plain no_row load.rows 24 load.row (search rules)
-    ∙ ap (any_to (λ i. not_plain (row_at load i))) few
+    let e : c.loop-i.i ≡ load.rows = omega arith in
+    sym (ap (any_to (at load)) (sym e) ∙ c.loop-i.invariant.1)
